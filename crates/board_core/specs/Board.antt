@@ -1,0 +1,82 @@
+use Rattle.std.specs.Prelude.{◌≡◌, ◌+◌, ◌-◌, ◌<◌, ◌&&◌, ℕ, List, Option, Some, None, Bool, true, false, not, slice_get, slice_set, slice_index, count_by, nat_lt, nat_le}
+use Rattle.board_core.specs.declared.piece.Kind.{Kind}
+use Rattle.board_core.specs.declared.piece.Kind.TheVariants.{Pawn, King}
+use Rattle.board_core.specs.declared.piece.Side.{Side}
+use Rattle.board_core.specs.declared.piece.Side.TheVariants.{Black, White}
+use Rattle.board_core.specs.declared.piece.Piece.{Piece}
+use Rattle.board_core.specs.Kind.{other, same_side, same_kind, place_of, ranks_needed}
+use Rattle.board_core.specs.Square.{ranks_ahead}
+
+-- What contracts see of a position: 81 cells by the number of the square, the two hands by the order of the kinds, and the side to move.
+pub record Board : Type 0 where
+  pub cells : List (Option Piece)
+  pub black : List ℕ
+  pub white : List ℕ
+  pub side : Side
+
+-- What a cell holds; a cell that isn't there holds nothing.
+abbrev pub filled : Option (Option Piece) → Option Piece
+filled None = None
+filled (Some cell) = cell
+
+-- The piece on a square, where there is one.
+abbrev pub piece_at : List (Option Piece) → ℕ → Option Piece
+piece_at cells square = filled (slice_get cells square)
+
+-- How many pieces of a kind a hand holds.
+abbrev pub held : List ℕ → Kind → ℕ
+held hand kind = slice_index hand (place_of kind)
+
+-- A side's hand.
+abbrev pub hand_of : Board → Side → List ℕ
+hand_of b Black = b.black
+hand_of b White = b.white
+
+-- A hand with one more of a kind.
+abbrev pub with_more : List ℕ → Kind → List ℕ
+with_more hand kind = slice_set hand (place_of kind) (held hand kind + 1)
+
+-- A hand with one less of a kind.
+abbrev pub with_less : List ℕ → Kind → List ℕ
+with_less hand kind = slice_set hand (place_of kind) (held hand kind - 1)
+
+-- Whether a piece of the kind, promoted or not, of either side, stands in the cell.
+abbrev pub is_of_kind : Kind → Option Piece → Bool
+is_of_kind k None = false
+is_of_kind k (Some piece) = same_kind piece.kind k
+
+-- Whether the side's king stands in the cell.
+abbrev pub is_king_of : Side → Option Piece → Bool
+is_king_of side None = false
+is_king_of side (Some piece) = same_kind piece.kind King && same_side piece.side side
+
+-- Whether an unpromoted pawn of the side stands in the cell.
+abbrev pub is_pawn_of : Side → Option Piece → Bool
+is_pawn_of side None = false
+is_pawn_of side (Some piece) = same_kind piece.kind Pawn && (not piece.promoted && same_side piece.side side)
+
+-- Whether a piece could never move again from a square: unpromoted, with too few ranks ahead of it.
+abbrev pub is_dead : ℕ → Option Piece → Bool
+is_dead square None = false
+is_dead square (Some piece) = not piece.promoted && nat_lt (ranks_ahead piece.side square) (ranks_needed piece.kind)
+
+-- How many pieces of a kind there are: on the board, promoted or not, of both sides, and in both hands.
+abbrev pub count_of : Board → Kind → ℕ
+count_of b kind = count_by (is_of_kind kind) b.cells + held b.black kind + held b.white kind
+
+-- How many kings of a side stand on the board.
+abbrev pub kings_of : Board → Side → ℕ
+kings_of b side = count_by (is_king_of side) b.cells
+
+-- The board with this in a cell.
+abbrev pub with_cell : Board → ℕ → Option Piece → Board
+with_cell b square cell = record b { cells = slice_set b.cells square cell }
+
+-- The board with this hand of a side.
+abbrev pub with_hand : Board → Side → List ℕ → Board
+with_hand b Black hand = record b { black = hand }
+with_hand b White hand = record b { white = hand }
+
+-- The board with the other side to move.
+abbrev pub passed : Board → Board
+passed b = record b { side = other b.side }

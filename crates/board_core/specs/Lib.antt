@@ -1,0 +1,6 @@
+pub mod Square
+pub mod Kind
+pub mod Board
+pub mod Kept
+pub mod Build
+pub mod Order

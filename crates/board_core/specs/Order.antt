@@ -1,0 +1,15 @@
+use Rattle.std.specs.Prelude.{◌+◌, ◌*◌, ◌<◌, ℕ, Bool, true, false, if◌then◌else◌}
+use Rattle.board_core.specs.declared.moves.Move.{Move}
+use Rattle.board_core.specs.declared.moves.Move.TheVariants as moves
+use Rattle.board_core.specs.Kind.{place_of}
+
+-- 1 for yes, 0 for no.
+abbrev pub bit_of : Bool → ℕ
+bit_of true = 1
+bit_of false = 0
+
+-- A move's place in the order of moves: first the board moves by origin, then destination, the unpromoted one first;
+-- then the drops, by kind in the order of the kinds, then by square.
+abbrev pub order_of : Move → ℕ
+order_of (moves.Board from to promote) = 162 * from.number + 2 * to.number + bit_of promote
+order_of (moves.Drop kind to) = 13122 + 81 * place_of kind + to.number

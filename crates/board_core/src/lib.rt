@@ -1,0 +1,20 @@
+//! The board of shogi: sides, kinds, pieces, squares, hands, moves and positions, as plain values.
+//!
+//! A [`Position`] is small, of fixed size and copied as its bytes. It keeps that no kind has more pieces than a set of
+//! shogi, that a side has at most one king, that no piece stands where it could never move again, and that no side has
+//! two unpromoted pawns on a file. Nothing here takes memory, and nothing here knows how pieces move.
+#![tactic(auto)]
+
+mod build;
+mod hand;
+mod moves;
+mod piece;
+mod position;
+mod square;
+
+pub use build::BadPosition;
+pub use hand::Hand;
+pub use moves::{MateEntry, Move};
+pub use piece::{Kind, Piece, Side};
+pub use position::Position;
+pub use square::Square;

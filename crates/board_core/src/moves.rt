@@ -1,0 +1,39 @@
+// Moves and their order.
+use crate::{Kind, Position, Square};
+
+/// A move: of a piece on the board, perhaps promoting it, or of a piece from the hand (a drop). Whether it may be made
+/// is a question to the rules.
+///
+/// Moves are ordered: board moves first, by origin, then destination, the unpromoted one first; then the drops, by kind
+/// in the order P L N S G B R, each by square.
+#[derive(Clone, Copy, PartialEq, Eq, PartialOrd, Ord, Debug)]
+pub enum Move {
+    /// A piece goes from a square to a square.
+    Board {
+        /// Where it stands.
+        from: Square,
+        /// Where it goes.
+        to: Square,
+        /// Whether it is promoted.
+        promote: bool,
+    },
+    /// A piece in hand is put on a square, unpromoted.
+    Drop {
+        /// Its kind.
+        kind: Kind,
+        /// Where it is put.
+        to: Square,
+    },
+}
+
+/// One line of a mate's certificate: at this position of the attacker the move is a check after which each answer leads
+/// to a position of lower rank.
+#[derive(Clone, Copy)]
+pub struct MateEntry {
+    /// The rank, from 1: an upper bound for the number of the attacker's moves up to the mate.
+    pub rank: u32,
+    /// The attacker's move.
+    pub by: Move,
+    /// The position, with the attacker to move.
+    pub at: Position,
+}
