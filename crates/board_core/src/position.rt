@@ -1,7 +1,8 @@
 // Positions: what can be asked of them, and the changes that moves are made of.
-ghost use Rattle.std.specs.Prelude.{◌≡◌, ◌≢◌, ◌<◌};
+ghost use Rattle.std.specs.Prelude.{◌≡◌, ◌≢◌, ◌<◌, ℕ, None, Some, false, true};
+ghost use Rattle.board_core.specs.Square.{file_of};
 ghost use Rattle.board_core.specs.Kind.{total_of};
-ghost use Rattle.board_core.specs.Board.{piece_at, held, hand_of, with_more, with_less, count_of, with_hand, passed};
+ghost use Rattle.board_core.specs.Board.{piece_at, held, hand_of, with_more, with_less, is_pawn_of, is_dead, count_of, kings_of, with_cell, with_hand, passed};
 ghost use Rattle.board_core.specs.Kept.{IsKept};
 ghost use Rattle.board_core.specs.declared.piece.Kind.TheVariants.{King};
 
@@ -67,6 +68,26 @@ impl Position {
             Side::Black => self.black,
             Side::White => self.white,
         }
+    }
+
+    /// Takes the piece from a square, where there is one, off the board; the rest stays.
+    pub fn take(&mut self, square: Square)
+        ensures { self.new ≡ with_cell self.old square.number None }
+    {
+        self.cells[square.number as usize] = None;
+    }
+
+    /// Puts a piece on an empty square. The piece must be able to move from there, be no second unpromoted pawn of its
+    /// side on the file, and be left over: the set has one more of its kind, or, of a king, the side has none.
+    pub fn put(&mut self, square: Square, piece: Piece)
+        requires empty { piece_at self.old.cells square.number ≡ None }
+        requires left_over { piece.kind ≢ King → count_of self.old piece.kind < total_of piece.kind }
+        requires king { piece.kind ≡ King → kings_of self.old piece.side ≡ 0 }
+        requires alive { is_dead square.number (Some piece) ≡ false }
+        requires pawn { is_pawn_of piece.side (Some piece) ≡ true → (s : ℕ) → s < 81 → file_of s ≡ file_of square.number → is_pawn_of piece.side (piece_at self.old.cells s) ≡ false }
+        ensures { self.new ≡ with_cell self.old square.number (Some piece) }
+    {
+        self.cells[square.number as usize] = Some(piece);
     }
 
     /// Gives a side one more of a kind in hand, of which the set has one left over. No king goes into a hand.
