@@ -27,10 +27,14 @@ piece_at cells square = filled (slice_get cells square)
 abbrev pub held : List ℕ → Kind → ℕ
 held hand kind = slice_index hand (place_of kind)
 
+-- The first for Black, the second for White.
+abbrev pub by_side : {T : Type 0} → Side → T → T → T
+by_side Black x y = x
+by_side White x y = y
+
 -- A side's hand.
 abbrev pub hand_of : Board → Side → List ℕ
-hand_of b Black = b.black
-hand_of b White = b.white
+hand_of b side = by_side side b.black b.white
 
 -- A hand with one more of a kind.
 abbrev pub with_more : List ℕ → Kind → List ℕ
@@ -74,8 +78,7 @@ with_cell b square cell = record b { cells = slice_set b.cells square cell }
 
 -- The board with this hand of a side.
 abbrev pub with_hand : Board → Side → List ℕ → Board
-with_hand b Black hand = record b { black = hand }
-with_hand b White hand = record b { white = hand }
+with_hand b side hand = record b { black = by_side side hand b.black; white = by_side side b.white hand }
 
 -- The board with the other side to move.
 abbrev pub passed : Board → Board

@@ -1,4 +1,4 @@
-use Rattle.std.specs.Prelude.{◌+◌, ◌*◌, ◌<◌, ℕ, Bool, true, false, if◌then◌else◌}
+use Rattle.std.specs.Prelude.{◌+◌, ◌*◌, ◌<◌, ◌≤◌, ℕ, List, [], ◌∷◌, Bool, true, false, Contains}
 use Rattle.board_core.specs.declared.moves.Move.{Move}
 use Rattle.board_core.specs.declared.moves.Move.TheVariants as moves
 use Rattle.board_core.specs.Kind.{place_of}
@@ -13,3 +13,14 @@ bit_of false = 0
 abbrev pub order_of : Move → ℕ
 order_of (moves.Board from to promote) = 162 * from.number + 2 * to.number + bit_of promote
 order_of (moves.Drop kind to) = 13122 + 81 * place_of kind + to.number
+
+-- Each move of the list comes after the one before it in the order of moves, and none before a place in that order.
+abbrev pub RisesFrom : ℕ → List Move → Type 0
+RisesFrom low [] = Unit {0}
+RisesFrom low (move ∷ rest) = (low ≤ order_of move) × RisesFrom (order_of move + 1) rest
+
+-- The list holds exactly the moves with the property, each once, in the order of moves.
+pub record Lists (P : Move → Type 0) (moves : List Move) : Type 0 where
+  pub sound : (move : Move) → Contains moves move → P move
+  pub complete : (move : Move) → P move → Contains moves move
+  pub rises : RisesFrom 0 moves
