@@ -9,9 +9,9 @@ use Rattle.board_core.specs.declared.piece.Side.{Side}
 use Rattle.board_core.specs.declared.piece.Side.TheVariants.{Black, White}
 use Rattle.board_core.specs.Square.{file_of}
 use Rattle.board_core.specs.Kind.{same_kind, same_side, place_of, total_of}
-use Rattle.board_core.specs.Board.{Board, piece_at, is_of_kind, is_king_of, is_pawn_of, is_dead, count_of, kings_of, with_cell}
+use Rattle.board_core.specs.Board.{Board, piece_at, is_of_kind, is_king_of, is_pawn_of, is_dead, count_of, kings_of, with_cell, one_if}
 use Rattle.board_core.specs.Kept.{IsKept, TwoPawnsOn}
-use Rattle.board_core.proofs.Cells.{piece_at-set_same, piece_at-set_other, count_by-set, one_if, length-set}
+use Rattle.board_core.proofs.Cells.{piece_at-set_same, piece_at-set_other, count_by-set, length-set}
 
 -- the kind at a place
 kind_at : ℕ → Kind

@@ -1,4 +1,4 @@
-use Rattle.std.specs.Prelude.{◌≡◌, ◌+◌, ◌-◌, ◌<◌, ◌&&◌, ℕ, List, Option, Some, None, Bool, true, false, not, slice_get, slice_set, slice_index, count_by, nat_lt, nat_le}
+use Rattle.std.specs.Prelude.{◌≡◌, ◌≢◌, ◌+◌, ◌-◌, ◌<◌, ◌&&◌, ℕ, List, Option, Some, None, Bool, true, false, not, slice_get, slice_set, slice_index, count_by, nat_lt, nat_le}
 use Rattle.board_core.specs.declared.piece.Kind.{Kind}
 use Rattle.board_core.specs.declared.piece.Kind.TheVariants.{Pawn, King}
 use Rattle.board_core.specs.declared.piece.Side.{Side}
@@ -83,3 +83,15 @@ with_hand b side hand = record b { black = by_side side hand b.black; white = by
 -- The board with the other side to move.
 abbrev pub passed : Board → Board
 passed b = record b { side = other b.side }
+
+-- 1 where the test holds, else 0.
+abbrev pub one_if : Bool → ℕ
+one_if true = 1
+one_if false = 0
+
+-- What changes when one cell of a board is written: that cell, and the counts of pieces and kings by what it held and holds.
+pub record ChangesCell (old new : Board) (square : ℕ) (cell : Option Piece) : Type 0 where
+  pub there : piece_at new.cells square ≡ cell
+  pub elsewhere : (s : ℕ) → s ≢ square → piece_at new.cells s ≡ piece_at old.cells s
+  pub counts : (kind : Kind) → count_of new kind + one_if (is_of_kind kind (piece_at old.cells square)) ≡ count_of old kind + one_if (is_of_kind kind cell)
+  pub kings : (side : Side) → kings_of new side + one_if (is_king_of side (piece_at old.cells square)) ≡ kings_of old side + one_if (is_king_of side cell)

@@ -7,6 +7,7 @@
 
 mod build;
 mod hand;
+mod memory;
 mod moves;
 mod piece;
 mod position;
@@ -14,6 +15,7 @@ mod square;
 
 pub use build::BadPosition;
 pub use hand::Hand;
+pub use memory::NoMemory;
 pub use moves::{MateEntry, Move};
 pub use piece::{Kind, Piece, Side};
 pub use position::Position;

@@ -2,7 +2,7 @@
 ghost use Rattle.std.specs.Prelude.{◌≡◌, ◌≢◌, ◌<◌, ℕ, None, Some, false, true};
 ghost use Rattle.board_core.specs.Square.{file_of};
 ghost use Rattle.board_core.specs.Kind.{total_of};
-ghost use Rattle.board_core.specs.Board.{piece_at, held, hand_of, with_more, with_less, is_pawn_of, is_dead, count_of, kings_of, with_cell, with_hand, passed};
+ghost use Rattle.board_core.specs.Board.{piece_at, held, hand_of, with_more, with_less, is_pawn_of, is_dead, count_of, kings_of, with_cell, with_hand, passed, ChangesCell};
 ghost use Rattle.board_core.specs.Kept.{IsKept};
 ghost use Rattle.board_core.specs.declared.piece.Kind.TheVariants.{King};
 
@@ -72,7 +72,8 @@ impl Position {
 
     /// Takes the piece from a square, where there is one, off the board; the rest stays.
     pub fn take(&mut self, square: Square)
-        ensures { self.new ≡ with_cell self.old square.number None }
+        ensures position { self.new ≡ with_cell self.old square.number None }
+        ensures changes { ChangesCell self.old self.new square.number None }
     {
         self.cells[square.number as usize] = None;
     }
@@ -85,7 +86,8 @@ impl Position {
         requires king { piece.kind ≡ King → kings_of self.old piece.side ≡ 0 }
         requires alive { is_dead square.number (Some piece) ≡ false }
         requires pawn { is_pawn_of piece.side (Some piece) ≡ true → (s : ℕ) → s < 81 → file_of s ≡ file_of square.number → is_pawn_of piece.side (piece_at self.old.cells s) ≡ false }
-        ensures { self.new ≡ with_cell self.old square.number (Some piece) }
+        ensures position { self.new ≡ with_cell self.old square.number (Some piece) }
+        ensures changes { ChangesCell self.old self.new square.number (Some piece) }
     {
         self.cells[square.number as usize] = Some(piece);
     }

@@ -1,5 +1,6 @@
-use Rattle.std.proofs.Common.{sym, subst}
-use Rattle.board_core.specs.Board.{Board}
+use Rattle.std.proofs.Common.{Some, arith, sym, subst}
+use Rattle.board_core.specs.Board.{Board, with_cell, ChangesCell}
+use Rattle.board_core.proofs.Cells.{changes_cell}
 use Rattle.board_core.proofs.Keeps.{MayStand, put_kept}
 use Rattle.board_core.proofs.position.Position.put.Goals as goal
 
@@ -13,3 +14,9 @@ invariant_of-self c = put_kept _ c.args.square.number c.args.piece c.self.invari
       alive = c.requires.alive;
       pawn = c.requires.pawn;
     }))
+
+pub returns-clause-changes : goal.returns-clause-changes
+returns-clause-changes c =
+    let before : Board = record { cells = c.self.inside.cells; black = c.self.inside.black; white = c.self.inside.white; side = c.self.inside.side } in
+    subst (λ (b : Board). ChangesCell b (with_cell before c.args.square.number (Some c.args.piece)) c.args.square.number (Some c.args.piece)) c.self.view_is
+    (changes_cell before c.args.square.number (Some c.args.piece) (omega (arith, c.self.invariant.cells, c.args.square.on_board)))
