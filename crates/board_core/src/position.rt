@@ -1,9 +1,10 @@
 // Positions: what can be asked of them, and the changes that moves are made of.
-ghost use Rattle.std.specs.Prelude.{◌≡◌, ◌≢◌, ◌<◌, ℕ, None, Some, false, true};
+ghost use Rattle.std.specs.Prelude.{◌≡◌, ◌≢◌, ◌<◌, ◌+◌, ℕ, None, Some, false, true};
 ghost use Rattle.board_core.specs.Square.{file_of};
-ghost use Rattle.board_core.specs.Kind.{total_of};
-ghost use Rattle.board_core.specs.Board.{piece_at, held, hand_of, with_more, with_less, is_pawn_of, is_dead, count_of, kings_of, with_cell, with_hand, passed, ChangesCell};
+ghost use Rattle.board_core.specs.Kind.{total_of, same_kind};
+ghost use Rattle.board_core.specs.Board.{piece_at, held, hand_of, with_more, with_less, is_pawn_of, is_dead, count_of, kings_of, with_cell, with_hand, passed, one_if, ChangesCell};
 ghost use Rattle.board_core.specs.Kept.{IsKept};
+ghost use Rattle.board_core.specs.declared.piece.Kind.{Kind};
 ghost use Rattle.board_core.specs.declared.piece.Kind.TheVariants.{King};
 
 use crate::{Hand, Kind, Piece, Side, Square};
@@ -96,7 +97,8 @@ impl Position {
     pub fn gain(&mut self, side: Side, kind: Kind)
         requires king { kind ≢ King }
         requires left_over { count_of self.old kind < total_of kind }
-        ensures { self.new ≡ with_hand self.old side (with_more (hand_of self.old side) kind) }
+        ensures position { self.new ≡ with_hand self.old side (with_more (hand_of self.old side) kind) }
+        ensures counts { (k : Kind) → count_of self.new k ≡ count_of self.old k + one_if (same_kind kind k) }
     {
         match side {
             Side::Black => self.black = self.black.plus(kind),
@@ -108,7 +110,8 @@ impl Position {
     pub fn spend(&mut self, side: Side, kind: Kind)
         requires king { kind ≢ King }
         requires some { 0 < held (hand_of self.old side) kind }
-        ensures { self.new ≡ with_hand self.old side (with_less (hand_of self.old side) kind) }
+        ensures position { self.new ≡ with_hand self.old side (with_less (hand_of self.old side) kind) }
+        ensures counts { (k : Kind) → count_of self.new k + one_if (same_kind kind k) ≡ count_of self.old k }
     {
         match side {
             Side::Black => self.black = self.black.minus(kind),

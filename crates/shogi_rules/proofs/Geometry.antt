@@ -1,0 +1,118 @@
+use Rattle.std.proofs.Common.{◌≡◌, ◌≢◌, ◌<◌, ◌≤◌, ◌+◌, ◌-◌, ◌*◌, ◌/◌, ◌%◌, ◌↔◌, ◌⊎◌, inl, inr, ℕ, List, Option, Some, None, slice_get, arith, ap, sym, subst}
+use Rattle.board_core.specs.declared.piece.Piece.{Piece}
+use Rattle.board_core.specs.Board.{piece_at}
+use Rattle.shogi_rules.specs.Rules.{distance, IsInside, IsOnFile, IsOnRank, IsOnDiagonal, IsBetween, IsClear}
+
+use Rattle.shogi_rules.specs.Scan.{IsEmptyAlong}
+
+-- m is some number of steps above low, below count
+pub record StepOf (low step count m : ℕ) : Type 0 where
+  pub steps : ℕ
+  pub below : steps < count
+  pub above : 0 < steps
+  pub is : m ≡ low + steps * step
+
+-- the squares between are those that steps from the lower one come to
+pub record Passes (low high step count : ℕ) : Type 0 where
+  pub step_of : (m : ℕ) → IsBetween low m high → StepOf low step count m
+  pub between : (j : ℕ) → j < count → 0 < j → IsBetween low (low + j * step) high
+
+pub clear_by : (cells : List (Option Piece)) (low high step count : ℕ) → Passes low high step count
+    → IsEmptyAlong cells low step count ↔ IsClear cells low high
+clear_by cells low high step count p = (
+  (λ empty m b. let s = p.step_of m b in
+      let P : ℕ → Type 0 = λ n. piece_at cells n ≡ None in
+      subst P (sym s.is) (empty s.steps s.below s.above)),
+  (λ clear j below above. clear (low + j * step) (p.between j below above)),
+)
+
+-- where the ends are in order, so is what is inside
+pub record Ordered (x y z : ℕ) : Type 0 where
+  pub low : x < y
+  pub high : y < z
+
+ordered : (x y z : ℕ) → x ≤ z → IsInside x y z → Ordered x y z
+ordered x y z up (inl i) = record { low = i.0; high = i.1 }
+ordered x y z up (inr i) = absurd (omega arith)
+
+falling : (x y z : ℕ) → z ≤ x → IsInside x y z → Ordered z y x
+falling x y z down (inl i) = absurd (omega arith)
+falling x y z down (inr i) = record { low = i.0; high = i.1 }
+
+file_step : (low m high : ℕ) → low / 9 ≡ high / 9 → low ≤ high → IsBetween low m high
+    → StepOf low 1 (high % 9 - low % 9) m
+file_step low m high same up (inl f) =
+    let i = ordered _ _ _ (omega arith) f.inside in
+    record { steps = m % 9 - low % 9; below = omega arith; above = omega arith; is = omega arith }
+file_step low m high same up (inr (inl r)) = let i = ordered _ _ _ (omega arith) r.inside in absurd (omega arith)
+file_step low m high same up (inr (inr d)) = let i = ordered _ _ _ (omega arith) d.files in absurd (omega arith)
+
+pub on_file : (low high : ℕ) → low / 9 ≡ high / 9 → low ≤ high → Passes low high 1 (high % 9 - low % 9)
+on_file low high same up = record {
+  step_of = λ m b. file_step low m high same up b;
+  between = λ j below above. inl (record { here = omega arith; there = omega arith; inside = inl (omega arith, omega arith) });
+}
+
+rank_step : (low m high : ℕ) → low % 9 ≡ high % 9 → low ≤ high → IsBetween low m high
+    → StepOf low 9 (high / 9 - low / 9) m
+rank_step low m high same up (inl f) = let i = ordered _ _ _ (omega arith) f.inside in absurd (omega arith)
+rank_step low m high same up (inr (inl r)) =
+    let i = ordered _ _ _ (omega arith) r.inside in
+    record { steps = m / 9 - low / 9; below = omega arith; above = omega arith; is = omega arith }
+rank_step low m high same up (inr (inr d)) = let i = ordered _ _ _ (omega arith) d.ranks in absurd (omega arith)
+
+pub on_rank : (low high : ℕ) → low % 9 ≡ high % 9 → low ≤ high → Passes low high 9 (high / 9 - low / 9)
+on_rank low high same up = record {
+  step_of = λ m b. rank_step low m high same up b;
+  between = λ j below above. inr (inl (record { here = omega arith; there = omega arith; inside = inl (omega arith, omega arith) }));
+}
+
+rise_step : (low m high : ℕ) → 0 < high / 9 - low / 9 → low % 9 + (high / 9 - low / 9) ≡ high % 9 → IsBetween low m high
+    → StepOf low 10 (high / 9 - low / 9) m
+rise_step low m high some same (inl f) = absurd (omega arith)
+rise_step low m high some same (inr (inl r)) = absurd (omega arith)
+rise_step low m high some same (inr (inr d)) =
+    let i = ordered _ _ _ (omega arith) d.files in
+    let k = ordered _ _ _ (omega arith) d.ranks in
+    record { steps = m / 9 - low / 9; below = omega arith; above = omega arith; is = omega arith }
+
+pub on_rise : (low high : ℕ) → 0 < high / 9 - low / 9 → low % 9 + (high / 9 - low / 9) ≡ high % 9 → Passes low high 10 (high / 9 - low / 9)
+on_rise low high some same = record {
+  step_of = λ m b. rise_step low m high some same b;
+  between = λ j below above. inr (inr (record {
+    here = omega arith;
+    there = omega arith;
+    files = inl (omega arith, omega arith);
+    ranks = inl (omega arith, omega arith);
+  }));
+}
+
+fall_step : (low m high : ℕ) → 0 < high / 9 - low / 9 → high % 9 + (high / 9 - low / 9) ≡ low % 9 → IsBetween low m high
+    → StepOf low 8 (high / 9 - low / 9) m
+fall_step low m high some same (inl f) = absurd (omega arith)
+fall_step low m high some same (inr (inl r)) = absurd (omega arith)
+fall_step low m high some same (inr (inr d)) =
+    let i = ordered _ _ _ (omega arith) d.files in
+    let k = falling _ _ _ (omega arith) d.ranks in
+    record { steps = m / 9 - low / 9; below = omega arith; above = omega arith; is = omega arith }
+
+pub on_fall : (low high : ℕ) → 0 < high / 9 - low / 9 → high % 9 + (high / 9 - low / 9) ≡ low % 9 → Passes low high 8 (high / 9 - low / 9)
+on_fall low high some same = record {
+  step_of = λ m b. fall_step low m high some same b;
+  between = λ j below above. inr (inr (record {
+    here = omega arith;
+    there = omega arith;
+    files = inl (omega arith, omega arith);
+    ranks = inr (omega arith, omega arith);
+  }));
+}
+
+-- no square lies between squares that are on no line
+pub off_line : (cells : List (Option Piece)) (low high : ℕ) → low / 9 ≢ high / 9 → low % 9 ≢ high % 9
+    → distance (low / 9) (high / 9) ≢ distance (low % 9) (high % 9) → IsClear cells low high
+off_line cells low high files ranks diagonal m (inl f) = absurd (files (omega arith))
+off_line cells low high files ranks diagonal m (inr (inl r)) = absurd (ranks (omega arith))
+off_line cells low high files ranks diagonal m (inr (inr d)) = absurd (diagonal d.there)
+
+pub through : {P Q R : Type 0} → P ↔ Q → Q ↔ R → P ↔ R
+through a b = ((λ p. b.0 (a.0 p)), (λ r. a.1 (b.1 r)))

@@ -1,0 +1,75 @@
+// Attack and check.
+ghost use Rattle.std.specs.Prelude.{◌≡◌, ◌<◌, ◌↔◌, IsTrue, true};
+ghost use Rattle.board_core.specs.Kind.{other};
+ghost use Rattle.board_core.specs.Board.{piece_at, is_king_of};
+ghost use Rattle.shogi_rules.specs.Rules.{AttacksFrom, Attacks, IsKingAttacked, IsInCheck};
+
+use crate::movement::{Cells, at, reaches};
+use board_core::{Kind, Position, Side, Square};
+
+fn attacks_from(cells: &Cells, side: Side, from: u8, to: u8) -> bool
+    requires from { from < 81 }
+    requires to { to < 81 }
+    ensures { IsTrue result ↔ AttacksFrom cells.now side from to }
+{
+    match at(cells, from) {
+        Some(piece) => piece.side == side && reaches(cells, piece, from, to),
+        None => false,
+    }
+}
+
+fn attacks(cells: &Cells, side: Side, to: u8) -> bool
+    requires { to < 81 }
+    ensures { IsTrue result ↔ Attacks cells.now side to }
+{
+    for from in 0..81 {
+        if attacks_from(cells, side, from, to) {
+            return true;
+        }
+    }
+    false
+}
+
+fn is_king_of(cells: &Cells, side: Side, square: u8) -> bool
+    requires { square < 81 }
+    ensures { result ≡ is_king_of side (piece_at cells.now square) }
+{
+    match at(cells, square) {
+        Some(piece) => piece.kind == Kind::King && piece.side == side,
+        None => false,
+    }
+}
+
+fn is_king_attacked(cells: &Cells, side: Side, square: u8) -> bool
+    requires { square < 81 }
+    ensures { IsTrue result ↔ IsKingAttacked cells.now side square }
+{
+    is_king_of(cells, side, square) && attacks(cells, side.other(), square)
+}
+
+fn is_in_check(cells: &Cells, side: Side) -> bool
+    ensures { IsTrue result ↔ IsInCheck cells.now side }
+{
+    for square in 0..81 {
+        if is_king_attacked(cells, side, square) {
+            return true;
+        }
+    }
+    false
+}
+
+/// Whether a piece of `by` attacks the square: it would reach it by one step or slide, whatever stands there. Takes no
+/// memory. (Rules of shogi: movement of the pieces.)
+pub fn attacked(position: &Position, square: Square, by: Side) -> bool
+    ensures { IsTrue result ↔ Attacks position.now.cells by square.number }
+{
+    attacks(position.cells(), by, square.number)
+}
+
+/// Whether the side is in check: its king is attacked by the other side. A side without a king never is. Takes no memory.
+/// (Rules of shogi: check.)
+pub fn in_check(position: &Position, side: Side) -> bool
+    ensures { IsTrue result ↔ IsInCheck position.now.cells side }
+{
+    is_in_check(position.cells(), side)
+}

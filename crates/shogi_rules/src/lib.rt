@@ -1,0 +1,20 @@
+//! The rules of shogi, proved: how pieces move, check, legal moves, and what a move does.
+//!
+//! The rules themselves are definitions, in `specs/Rules.antt`, to be read from top to bottom; `specs/Tsume.antt` says what
+//! a check and an answer of a tsume problem are. Each call here says in its contract that it is exactly a definition.
+//! Only [`trial`] takes memory: it tries every move, and is what faster lists of moves are compared with.
+#![tactic(auto)]
+
+mod checking;
+mod illegal;
+//mod legality;
+mod movement;
+//mod moving;
+//mod problem;
+//pub mod trial;
+
+pub use checking::{attacked, in_check};
+pub use illegal::Illegal;
+//pub use legality::legal;
+//pub use moving::apply;
+//pub use problem::{DefenderInCheck, Problem, accept_problem};
