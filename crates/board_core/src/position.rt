@@ -106,12 +106,13 @@ impl Position {
         }
     }
 
-    /// Takes one of a kind, of which there is one, out of a side's hand.
+    /// Takes one of a kind, of which there is one, out of a side's hand; the set has one left over then.
     pub fn spend(&mut self, side: Side, kind: Kind)
         requires king { kind ≢ King }
         requires some { 0 < held (hand_of self.old side) kind }
         ensures position { self.new ≡ with_hand self.old side (with_less (hand_of self.old side) kind) }
         ensures counts { (k : Kind) → count_of self.new k + one_if (same_kind kind k) ≡ count_of self.old k }
+        ensures left_over { count_of self.new kind < total_of kind }
     {
         match side {
             Side::Black => self.black = self.black.minus(kind),

@@ -2,7 +2,6 @@ use Rattle.std.proofs.Common.{◌≡◌, ◌≢◌, ◌<◌, ◌≤◌, ◌+◌,
 use Rattle.board_core.specs.declared.piece.Piece.{Piece}
 use Rattle.board_core.specs.Board.{piece_at}
 use Rattle.shogi_rules.specs.Rules.{distance, IsInside, IsOnFile, IsOnRank, IsOnDiagonal, IsBetween, IsClear}
-
 use Rattle.shogi_rules.specs.Scan.{IsEmptyAlong}
 
 -- m is some number of steps above low, below count

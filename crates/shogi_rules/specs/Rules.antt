@@ -138,9 +138,9 @@ gained (Some piece) hand = with_more hand piece.kind
 abbrev pub after_board : Board → ℕ → ℕ → Bool → Board
 after_board b from to promote =
     passed (with_hand
-      (with_cell (with_cell b from None) to (option_map (landed promote) (piece_at b.cells from)))
-      b.side
-      (gained (piece_at b.cells to) (hand_of b b.side)))
+    (with_cell (with_cell b from None) to (option_map (landed promote) (piece_at b.cells from)))
+    b.side
+    (gained (piece_at b.cells to) (hand_of b b.side)))
 
 -- After a drop the piece stands on the square, the mover's hand has one less of it, and the other side is to move.
 abbrev pub after_drop : Board → Kind → ℕ → Board

@@ -9,7 +9,7 @@ mod checking;
 mod illegal;
 //mod legality;
 mod movement;
-//mod moving;
+mod moving;
 //mod problem;
 //pub mod trial;
 

@@ -1,0 +1,40 @@
+use Rattle.std.proofs.Common.{◌≡◌, ◌<◌, ◌∙◌, ℕ, Option, Some, true, false, IsTrue, sym, ap, subst}
+use Rattle.board_core.specs.declared.piece.Piece.{Piece}
+use Rattle.board_core.specs.Board.{Board, piece_at, kings_of, is_pawn_of, with_cell, with_hand, passed, hand_of}
+use Rattle.board_core.specs.Square.{file_of}
+use Rattle.shogi_rules.specs.Rules.{landed, fits, gained, IsOwn, IsClear}
+use Rattle.shogi_rules.proofs.Moves.{king_gone, pawn_alone, no_king_taken, taken_left, moved_is}
+use Rattle.shogi_rules.proofs.moving.move_piece.Goals as goal
+
+pub put-requires-clause-king : goal.put-requires-clause-king
+put-requires-clause-king c =
+    let there : piece_at c.args.position.now.cells c.args.from.number ≡ Some c.in-Some.piece = cc in
+    rw c.landed.ensures (λ kind. king_gone c.args.position.now c.take.new.self c.take-in-Some.new.self c.args.from.number c.args.to.number c.in-Some.piece
+    kind (c.cells.ensures.kept.kings c.in-Some.piece.side) there c.take.ensures.changes c.take-in-Some.ensures.changes)
+
+pub put-requires-clause-pawn : goal.put-requires-clause-pawn
+put-requires-clause-pawn c =
+    let there : piece_at c.args.position.now.cells c.args.from.number ≡ Some c.in-Some.piece = cc in
+    let fit : IsTrue (fits c.in-Some.piece c.args.from.number c.args.to.number) = rw there at c.requires.fits in
+    rw c.landed.ensures (λ pawn. pawn_alone c.args.position.now c.take.new.self c.take-in-Some.new.self c.args.from.number c.args.to.number c.args.promote c.in-Some.piece
+    c.cells.ensures.kept c.args.from.on_board there fit c.take.ensures.changes c.take-in-Some.ensures.changes pawn)
+
+pub capture-requires : goal.capture-requires
+capture-requires c = λ taken is.
+    let there : piece_at c.args.position.now.cells c.args.from.number ≡ Some c.in-Some.piece = cc in
+    let at : piece_at c.args.position.now.cells c.args.to.number ≡ Some taken = sym c.piece_at.ensures ∙ is in
+    let fit : IsTrue (fits c.in-Some.piece c.args.from.number c.args.to.number) = rw there at c.requires.fits in
+    let owner : c.in-Some.piece.side ≡ c.args.position.now.side = rw there at c.requires.own in
+    let king = no_king_taken c.args.position.now c.args.from.number c.args.to.number c.in-Some.piece taken
+    c.requires.quiet c.args.from.on_board c.args.to.on_board there owner c.requires.free fit c.requires.clear at in (
+      king,
+      taken_left c.args.position.now c.take.new.self c.take-in-Some.new.self c.put.new.self c.args.from.number c.args.to.number c.args.promote c.in-Some.piece taken
+          c.cells.ensures.kept (λ same. c.requires.free (subst (λ (s : ℕ). IsOwn c.args.position.now s) same c.requires.own)) king there at
+          c.take.ensures.changes c.take-in-Some.ensures.changes (rw c.landed.ensures at c.put.ensures.changes),
+    )
+
+pub returns : goal.returns
+returns c =
+    let there : piece_at c.args.position.now.cells c.args.from.number ≡ Some c.in-Some.piece = cc in
+    rw (c.pass.ensures, c.capture.ensures, c.put.ensures.position, c.take-in-Some.ensures.position, c.take.ensures.position, c.landed.ensures, c.side-side.ensures, c.piece_at.ensures)
+    (moved_is c.args.position.now c.args.from.number c.args.to.number c.args.promote c.in-Some.piece there)
