@@ -26,11 +26,11 @@ pub enum Move {
     },
 }
 
-/// One line of a mate's certificate: at this position of the attacker the move is a check after which each answer leads
-/// to a position of lower rank.
+/// One line of a mate's certificate. What it says, and what an accepted certificate bears out: at this position of the
+/// attacker the move is a check after which each answer leads to a position of lower rank.
 #[derive(Clone, Copy)]
 pub struct MateEntry {
-    /// The rank, from 1: an upper bound for the number of the attacker's moves up to the mate.
+    /// The rank: an upper bound for the number of the attacker's moves up to the mate; at least 1 in a certificate.
     pub rank: u32,
     /// The attacker's move.
     pub by: Move,

@@ -38,6 +38,16 @@ impl Model for Position {
     ghost inverse = { λ b. record { cells = b.cells; black = b.black; white = b.white; side = b.side } };
 }
 
+impl Piece {
+    /// Whether it could never move again from the square: an unpromoted pawn or lance on its last rank, an unpromoted
+    /// knight on its last two (rules of shogi: forced promotion, and drops without a move).
+    pub fn is_dead_on(self, square: Square) -> bool
+        ensures { result ≡ is_dead square.number (Some self) }
+    {
+        !self.promoted && square.ranks_ahead(self.side) < self.kind.ranks_needed()
+    }
+}
+
 impl Position {
     /// The piece on a square, where there is one.
     pub fn piece_at(&self, square: Square) -> Option<Piece>
@@ -108,8 +118,7 @@ impl Position {
 
     /// Takes one of a kind, of which there is one, out of a side's hand; the set has one left over then.
     pub fn spend(&mut self, side: Side, kind: Kind)
-        requires king { kind ≢ King }
-        requires some { 0 < held (hand_of self.old side) kind }
+        requires { 0 < held (hand_of self.old side) kind }
         ensures position { self.new ≡ with_hand self.old side (with_less (hand_of self.old side) kind) }
         ensures counts { (k : Kind) → count_of self.new k + one_if (same_kind kind k) ≡ count_of self.old k }
         ensures left_over { count_of self.new kind < total_of kind }

@@ -1,0 +1,72 @@
+use Rattle.std.proofs.Common.{◌≡◌, ◌≢◌, ◌<◌, ◌≤◌, ◌+◌, ◌-◌, ◌==◌, ℕ, List, Bool, true, false, length, arith, subst, get_or-set_same, get_or-set_other}
+use Rattle.std.proofs.lemmas.Grind.{common_steps}
+use Rattle.std.proofs.lemmas.Bool.Decides.{eqb_tells}
+use Rattle.board_core.specs.declared.piece.Kind.{Kind}
+use Rattle.board_core.specs.declared.piece.Kind.TheVariants.{Pawn, Lance, Knight, Silver, Gold, Bishop, Rook, King}
+use Rattle.board_core.specs.declared.piece.Side.{Side}
+use Rattle.board_core.specs.declared.piece.Side.TheVariants.{Black, White}
+use Rattle.board_core.specs.Kind.{place_of, same_kind}
+use Rattle.board_core.specs.Board.{Board, held, with_more, with_less, hand_of, with_hand, count_of, one_if}
+use Rattle.board_core.specs.Kept.{IsKept}
+
+pub place_below : (k : Kind) → k ≢ King → place_of k < 7
+place_below Pawn h = omega arith
+place_below Lance h = omega arith
+place_below Knight h = omega arith
+place_below Silver h = omega arith
+place_below Gold h = omega arith
+place_below Bishop h = omega arith
+place_below Rook h = omega arith
+place_below King h = absurd (h refl_king)
+  where
+    refl_king : King ≡ King
+    refl_king = cc
+
+one_if_same : (q k : Kind) → same_kind q k ≡ true → one_if (same_kind q k) ≡ 1
+one_if_same q k h = rw h (cc)
+
+one_if_other : (q k : Kind) → same_kind q k ≡ false → one_if (same_kind q k) ≡ 0
+one_if_other q k h = rw h (cc)
+
+-- a hand with one more of a kind counts one more of it, and as many of the others
+held-with_more : (hand : List ℕ) (q k : Kind) → length hand ≡ 7 → q ≢ King
+    → held (with_more hand q) k ≡ held hand k + one_if (same_kind q k)
+held-with_more hand q k long king = grind (
+  arith,
+  place_below q king,
+  one_if_same q k,
+  one_if_other q k,
+  eqb_tells (place_of q) (place_of k),
+  get_or-set_same hand (place_of q) (held hand q + 1) 0,
+  get_or-set_other hand (place_of q) (place_of k) (held hand q + 1) 0,
+)
+
+held-with_less : (hand : List ℕ) (q k : Kind) → length hand ≡ 7 → q ≢ King → 0 < held hand q
+    → held (with_less hand q) k + one_if (same_kind q k) ≡ held hand k
+held-with_less hand q k long king some = grind (
+  arith,
+  place_below q king,
+  one_if_same q k,
+  one_if_other q k,
+  eqb_tells (place_of q) (place_of k),
+  get_or-set_same hand (place_of q) (held hand q - 1) 0,
+  get_or-set_other hand (place_of q) (place_of k) (held hand q - 1) 0,
+)
+
+-- what a side's hand with one more changes in the counts
+pub count_of-more : (b : Board) (side : Side) (q k : Kind) → IsKept b → q ≢ King
+    → count_of (with_hand b side (with_more (hand_of b side) q)) k ≡ count_of b k + one_if (same_kind q k)
+count_of-more b Black q k kept king = let e = held-with_more b.black q k kept.black king in omega arith
+count_of-more b White q k kept king = let e = held-with_more b.white q k kept.white king in omega arith
+
+-- what a side's hand with one less changes in the counts
+pub count_of-less : (b : Board) (side : Side) (q k : Kind) → IsKept b → q ≢ King → 0 < held (hand_of b side) q
+    → count_of (with_hand b side (with_less (hand_of b side) q)) k + one_if (same_kind q k) ≡ count_of b k
+count_of-less b Black q k kept king some = let e = held-with_less b.black q k kept.black king some in omega arith
+count_of-less b White q k kept king some = let e = held-with_less b.white q k kept.white king some in omega arith
+
+-- no hand holds a king
+pub no_king_held : (hand : List ℕ) (k : Kind) → length hand ≡ 7 → 0 < held hand k → k ≢ King
+no_king_held hand k long some is =
+    let past : 0 < held hand King = subst (λ (q : Kind). 0 < held hand q) is some in
+    grind (arith, common_steps)
