@@ -116,12 +116,14 @@ impl Position {
         }
     }
 
-    /// Takes one of a kind, of which there is one, out of a side's hand; the set has one left over then.
+    /// Takes one of a kind, of which there is one, out of a side's hand; the set has one left over then. It
+    /// is no king, since no hand holds one.
     pub fn spend(&mut self, side: Side, kind: Kind)
         requires { 0 < held (hand_of self.old side) kind }
         ensures position { self.new ≡ with_hand self.old side (with_less (hand_of self.old side) kind) }
         ensures counts { (k : Kind) → count_of self.new k + one_if (same_kind kind k) ≡ count_of self.old k }
         ensures left_over { count_of self.new kind < total_of kind }
+        ensures king { kind ≢ King }
     {
         match side {
             Side::Black => self.black = self.black.minus(kind),

@@ -279,11 +279,15 @@ refusal_order TwoPawns = 8
 refusal_order KingLeft = 9
 refusal_order PawnMate = 10
 
+-- Of reasons that hold or don't: the answer is that none holds, or the first that does.
+abbrev pub IsFirst : (Illegal → Type 0) → Result (Unit {0}) Illegal → Type 0
+IsFirst Holds (Ok done) = (why : Illegal) → ¬ Holds why
+IsFirst Holds (Err why) = Holds why × ((sooner : Illegal) → refusal_order sooner < refusal_order why → ¬ Holds sooner)
+
 -- A move is legal: none of the eleven reasons speaks against it.
 abbrev pub IsLegal : Board → Move → Type 0
 IsLegal b move = (why : Illegal) → ¬ Refuses b move why
 
 -- The answer to a move: that it is legal, or the first reason that speaks against it.
 abbrev pub IsAnswered : Board → Move → Result (Unit {0}) Illegal → Type 0
-IsAnswered b move (Ok done) = IsLegal b move
-IsAnswered b move (Err why) = Refuses b move why × ((sooner : Illegal) → refusal_order sooner < refusal_order why → ¬ Refuses b move sooner)
+IsAnswered b move answer = IsFirst (Refuses b move) answer

@@ -1,7 +1,29 @@
-use Rattle.std.specs.Prelude.{◌≡◌, ◌<◌, ◌+◌, ◌*◌, ℕ, List, Option, None}
+-- What the loops look for, a square at a time.
+use Rattle.std.specs.Prelude.{◌≡◌, ◌<◌, ◌+◌, ◌*◌, ◌/◌, ◌⊎◌, ℕ, List, Option, None, Bool, true, false, Ok}
 use Rattle.board_core.specs.declared.piece.Piece.{Piece}
-use Rattle.board_core.specs.Board.{piece_at}
+use Rattle.board_core.specs.declared.piece.Side.{Side}
+use Rattle.board_core.specs.Board.{Board, piece_at, is_pawn_of}
+use Rattle.board_core.specs.declared.piece.Kind.{Kind}
+use Rattle.board_core.specs.declared.piece.Kind.TheVariants.{Pawn}
+use Rattle.shogi_rules.specs.Rules.{RefusesBoard, BoardMove, IsInCheck}
+use Rattle.shogi_rules.specs.declared.illegal.Illegal.{Illegal}
 
 -- From a square on, each square some number of equal strides further is empty, up to the one before `count` strides.
 abbrev pub IsEmptyAlong : List (Option Piece) → ℕ → ℕ → ℕ → Type 0
 IsEmptyAlong cells low stride count = (j : ℕ) → j < count → 0 < j → piece_at cells (low + j * stride) ≡ None
+
+-- Nothing speaks against the move from the one square to the other, promoting or not.
+pub record GoesTo (b : Board) (from to : ℕ) : Type 0 where
+  pub either : ((why : Illegal) → ¬ RefusesBoard b from to false why) ⊎ ((why : Illegal) → ¬ RefusesBoard b from to true why)
+
+-- Nothing speaks against some move on the board from the square.
+pub record GoesFrom (b : Board) (from : ℕ) : Type 0 where
+  pub to : ℕ
+  pub on_board : to < 81
+  pub goes : GoesTo b from to
+
+-- The side to move is in check after a pawn's drop, and has no move on the board that leaves its king safe.
+pub record IsStuck (b : Board) (kind : Kind) : Type 0 where
+  pub pawn : kind ≡ Pawn
+  pub check : IsInCheck b.cells b.side
+  pub no_move : ¬ BoardMove b

@@ -7,7 +7,7 @@
 
 mod checking;
 mod illegal;
-//mod legality;
+mod legality;
 mod movement;
 mod moving;
 //mod problem;

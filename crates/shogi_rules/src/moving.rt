@@ -20,7 +20,7 @@ fn landed(piece: Piece, promote: bool) -> Piece
     }
 }
 
-fn dropped(kind: Kind, side: Side) -> Piece
+pub(crate) fn dropped(kind: Kind, side: Side) -> Piece
     ensures { result ≡ dropped kind side }
 {
     Piece {
@@ -67,7 +67,6 @@ pub(crate) fn move_piece(position: &Position, from: Square, to: Square, promote:
 
 /// The position after a drop against which nothing speaks but perhaps the kings.
 pub(crate) fn drop_piece(position: &Position, kind: Kind, to: Square) -> Position
-    requires king { kind ≢ King }
     requires empty { ¬ RefusesDrop position.now kind to.number Occupied }
     requires held { ¬ RefusesDrop position.now kind to.number NotInHand }
     requires alive { ¬ RefusesDrop position.now kind to.number DeadDrop }

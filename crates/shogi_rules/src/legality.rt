@@ -1,0 +1,205 @@
+// Which moves are legal, and why the others aren't.
+ghost use Rattle.std.specs.Prelude.{◌≡◌, ◌≢◌, ◌<◌, ◌↔◌, IsTrue, OnOk, true};
+ghost use Rattle.board_core.specs.declared.piece.Kind.TheVariants.{Pawn, King};
+ghost use Rattle.board_core.specs.Kind.{other};
+ghost use Rattle.board_core.specs.Board.{piece_at, held, hand_of, is_pawn_of};
+ghost use Rattle.board_core.specs.Order.{order_of};
+ghost use Rattle.shogi_rules.specs.Rules.{is_in_zone, promotion_fits, IsOwn, Fits, PromotionFits, HasPawnOnFile, BoardMove, IsPawnMate, IsFirst, RefusesBoard, RefusesDrop, IsAnswered, IsLegal, IsQuiet, after};
+ghost use Rattle.shogi_rules.specs.declared.illegal.Illegal.TheVariants.{TwoPawns};
+ghost use Rattle.shogi_rules.specs.Scan.{GoesTo, GoesFrom, IsStuck};
+
+use crate::checking::in_check;
+use crate::illegal::Illegal;
+use crate::movement::{Cells, at, fits, is_clear};
+use crate::moving::{drop_piece, dropped, move_piece};
+use board_core::{Kind, Move, Piece, Position, Side, Square};
+
+fn owns(position: &Position, square: Square) -> bool
+    ensures { IsTrue result ↔ IsOwn position.now square.number }
+{
+    match position.piece_at(square) {
+        Some(piece) => piece.side == position.side(),
+        None => false,
+    }
+}
+
+fn fits_there(position: &Position, from: Square, to: Square) -> bool
+    ensures { IsTrue result ↔ Fits position.now from.number to.number }
+{
+    match position.piece_at(from) {
+        Some(piece) => fits(piece, from.number, to.number),
+        None => false,
+    }
+}
+
+fn is_in_zone(side: Side, square: Square) -> bool
+    ensures { result ≡ is_in_zone side square.number }
+{
+    square.ranks_ahead(side) < 3
+}
+
+fn promotion_fits(piece: Piece, from: Square, to: Square, promote: bool) -> bool
+    ensures { result ≡ promotion_fits piece from.number to.number promote }
+{
+    if promote {
+        !piece.promoted
+            && piece.kind.can_promote()
+            && (is_in_zone(piece.side, from) || is_in_zone(piece.side, to))
+    } else {
+        !piece.is_dead_on(to)
+    }
+}
+
+fn may_promote(position: &Position, from: Square, to: Square, promote: bool) -> bool
+    ensures { IsTrue result ↔ PromotionFits position.now from.number to.number promote }
+{
+    match position.piece_at(from) {
+        Some(piece) => promotion_fits(piece, from, to, promote),
+        None => false,
+    }
+}
+
+fn legal_board(position: &Position, from: Square, to: Square, promote: bool) -> Result<(), Illegal>
+    requires quiet { IsQuiet position.now }
+    ensures { IsFirst (RefusesBoard position.now from.number to.number promote) result }
+{
+    if !owns(position, from) {
+        return Err(Illegal::NotThere);
+    }
+    if owns(position, to) {
+        return Err(Illegal::OwnPiece);
+    }
+    if !fits_there(position, from, to) {
+        return Err(Illegal::NoStep);
+    }
+    if !is_clear(position.cells(), from.number, to.number) {
+        return Err(Illegal::Blocked);
+    }
+    if !may_promote(position, from, to, promote) {
+        return Err(Illegal::BadPromotion);
+    }
+    let next = move_piece(position, from, to, promote);
+    if in_check(&next, position.side()) {
+        return Err(Illegal::KingLeft);
+    }
+    Ok(())
+}
+
+fn goes_to(position: &Position, from: Square, to: Square) -> bool
+    requires { IsQuiet position.now }
+    ensures { IsTrue result ↔ GoesTo position.now from.number to.number }
+{
+    legal_board(position, from, to, false).is_ok() || legal_board(position, from, to, true).is_ok()
+}
+
+#[tactic(auto, using(std::proofs::Common::below_more))]
+fn goes_from(position: &Position, from: Square) -> bool
+    requires { IsQuiet position.now }
+    ensures { IsTrue result ↔ GoesFrom position.now from.number }
+{
+    if !owns(position, from) {
+        return false;
+    }
+    for number in 0..81 {
+        if goes_to(position, from, Square { number }) {
+            return true;
+        }
+    }
+    false
+}
+
+#[tactic(auto, using(std::proofs::Common::below_more))]
+fn has_board_move(position: &Position) -> bool
+    requires { IsQuiet position.now }
+    ensures { IsTrue result ↔ BoardMove position.now }
+{
+    for number in 0..81 {
+        if goes_from(position, Square { number }) {
+            return true;
+        }
+    }
+    false
+}
+
+fn is_pawn_of(cells: &Cells, side: Side, square: u8) -> bool
+    requires { square < 81 }
+    ensures { result ≡ is_pawn_of side (piece_at cells.now square) }
+{
+    match at(cells, square) {
+        Some(piece) => piece.kind == Kind::Pawn && !piece.promoted && piece.side == side,
+        None => false,
+    }
+}
+
+fn has_pawn_on_file(cells: &Cells, side: Side, to: u8) -> bool
+    requires { to < 81 }
+    ensures { IsTrue result ↔ HasPawnOnFile cells.now side to }
+{
+    let first = to / 9 * 9;
+    for rank in 0..9 {
+        if is_pawn_of(cells, side, first + rank) {
+            return true;
+        }
+    }
+    false
+}
+
+fn is_second_pawn(position: &Position, kind: Kind, to: Square) -> bool
+    ensures { IsTrue result ↔ RefusesDrop position.now kind to.number TwoPawns }
+{
+    if kind != Kind::Pawn {
+        return false;
+    }
+    has_pawn_on_file(position.cells(), position.side(), to.number)
+}
+
+fn has_in_hand(position: &Position, kind: Kind) -> bool
+    ensures some { IsTrue result ↔ (0 < held (hand_of position.now position.now.side) kind) }
+    ensures king { IsTrue result → kind ≢ King }
+{
+    if kind == Kind::King {
+        let _counts = position.hand(position.side()).counts();
+        return false;
+    }
+    position.hand(position.side()).count(kind) > 0
+}
+
+fn is_stuck(position: &Position, kind: Kind) -> bool
+    requires { IsQuiet position.now }
+    ensures { IsTrue result ↔ IsStuck position.now kind }
+{
+    if kind != Kind::Pawn {
+        return false;
+    }
+    if !in_check(position, position.side()) {
+        return false;
+    }
+    !has_board_move(position)
+}
+
+fn legal_drop(position: &Position, kind: Kind, to: Square) -> Result<(), Illegal>
+    requires { IsQuiet position.now }
+    ensures first { IsFirst (RefusesDrop position.now kind to.number) result }
+    ensures listed { OnOk result (kind ≢ King) }
+{
+    if let Some(_) = position.piece_at(to) {
+        return Err(Illegal::Occupied);
+    }
+    if !has_in_hand(position, kind) {
+        return Err(Illegal::NotInHand);
+    }
+    if dropped(kind, position.side()).is_dead_on(to) {
+        return Err(Illegal::DeadDrop);
+    }
+    if is_second_pawn(position, kind, to) {
+        return Err(Illegal::TwoPawns);
+    }
+    let next = drop_piece(position, kind, to);
+    if in_check(&next, position.side()) {
+        return Err(Illegal::KingLeft);
+    }
+    if is_stuck(&next, kind) {
+        return Err(Illegal::PawnMate);
+    }
+    Ok(())
+}
