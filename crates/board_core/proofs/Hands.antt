@@ -1,4 +1,4 @@
-use Rattle.std.proofs.Common.{◌≡◌, ◌≢◌, ◌<◌, ◌≤◌, ◌+◌, ◌-◌, ◌==◌, ℕ, List, Bool, true, false, length, arith, subst, get_or-set_same, get_or-set_other}
+use Rattle.std.proofs.Common.{◌≡◌, ◌≢◌, ◌<◌, ◌≤◌, ◌+◌, ◌-◌, ◌==◌, ℕ, List, Bool, true, false, length, arith, subst, refl, sym, inl, inr, get_or-set_same, get_or-set_other}
 use Rattle.std.proofs.lemmas.Grind.{common_steps}
 use Rattle.std.proofs.lemmas.Bool.Decides.{eqb_tells}
 use Rattle.board_core.specs.declared.piece.Kind.{Kind}
@@ -8,6 +8,7 @@ use Rattle.board_core.specs.declared.piece.Side.TheVariants.{Black, White}
 use Rattle.board_core.specs.Kind.{place_of, same_kind}
 use Rattle.board_core.specs.Board.{Board, held, with_more, with_less, hand_of, with_hand, count_of, one_if}
 use Rattle.board_core.specs.Kept.{IsKept}
+use Rattle.board_core.proofs.Keeps.{same_kind_is, true_or_false}
 
 pub place_below : (k : Kind) → k ≢ King → place_of k < 7
 place_below Pawn h = omega arith
@@ -53,6 +54,19 @@ held-with_less hand q k long king some = grind (
   get_or-set_other hand (place_of q) (place_of k) (held hand q - 1) 0,
 )
 
+same_kind_refl : (k : Kind) → same_kind k k ≡ true
+same_kind_refl Pawn = refl
+same_kind_refl Lance = refl
+same_kind_refl Knight = refl
+same_kind_refl Silver = refl
+same_kind_refl Gold = refl
+same_kind_refl Bishop = refl
+same_kind_refl Rook = refl
+same_kind_refl King = refl
+
+other_kind : (q k : Kind) → k ≢ q → same_kind q k ≡ false
+other_kind q k n = elim (true_or_false (same_kind q k)) [ inl same ↦ absurd (n (sym (same_kind_is q k same))) | inr differ ↦ differ ]
+
 -- what a side's hand with one more changes in the counts
 pub count_of-more : (b : Board) (side : Side) (q k : Kind) → IsKept b → q ≢ King
     → count_of (with_hand b side (with_more (hand_of b side) q)) k ≡ count_of b k + one_if (same_kind q k)
@@ -70,3 +84,9 @@ pub no_king_held : (hand : List ℕ) (k : Kind) → length hand ≡ 7 → 0 < he
 no_king_held hand k long some is =
     let past : 0 < held hand King = subst (λ (q : Kind). 0 < held hand q) is some in
     grind (arith, common_steps)
+
+-- the counts of the side's own hand with one less
+pub held_less : (b : Board) (side : Side) (q : Kind) → IsKept b → q ≢ King → 0 < held (hand_of b side) q
+    → held (hand_of (with_hand b side (with_less (hand_of b side) q)) side) q + 1 ≡ held (hand_of b side) q
+held_less b Black q kept king some = let e = held-with_less b.black q q kept.black king some in let s = one_if_same q q (same_kind_refl q) in omega arith
+held_less b White q kept king some = let e = held-with_less b.white q q kept.white king some in let s = one_if_same q q (same_kind_refl q) in omega arith

@@ -124,6 +124,8 @@ impl Position {
         ensures counts { (k : Kind) → count_of self.new k + one_if (same_kind kind k) ≡ count_of self.old k }
         ensures left_over { count_of self.new kind < total_of kind }
         ensures king { kind ≢ King }
+        ensures one_less { held (hand_of self.new side) kind + 1 ≡ held (hand_of self.old side) kind }
+        ensures other_counts { (k : Kind) → k ≢ kind → held (hand_of self.new side) k ≡ held (hand_of self.old side) k }
     {
         match side {
             Side::Black => self.black = self.black.minus(kind),

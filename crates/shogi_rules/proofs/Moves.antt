@@ -167,3 +167,13 @@ pub moved_is : (b : Board) (from to : ℕ) (promote : Bool) (man : Piece) → pi
     → passed (with_hand (with_cell (with_cell (with_cell b from None) to None) to (Some (landed promote man))) b.side (gained (piece_at b.cells to) (hand_of b b.side)))
     ≡ after_board b from to promote
 moved_is b from to promote man there = rw (there, set_set (slice_set b.cells from None) to None (Some (landed promote man))) refl
+
+-- a move on the board keeps the count of each kind
+pub conserves : (b t u v w : Board) (from to : ℕ) (promote : Bool) (man : Piece) (k : Kind) → from ≢ to → piece_at b.cells from ≡ Some man
+    → ChangesCell b t from None → ChangesCell t u to None → ChangesCell u v to (Some (landed promote man))
+    → count_of w k ≡ count_of v k + one_if (is_of_kind k (piece_at b.cells to)) → count_of w k ≡ count_of b k
+conserves b t u v w from to promote man k apart there first second third last =
+    let one = rw there at (first.counts k) in
+    let two = rw (first.elsewhere to (λ e. apart (sym e))) at (second.counts k) in
+    let three = rw second.there at (third.counts k) in
+    omega arith

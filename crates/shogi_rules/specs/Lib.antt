@@ -1,3 +1,4 @@
 pub mod Rules
 pub mod Tsume
 pub mod Scan
+pub mod Trial

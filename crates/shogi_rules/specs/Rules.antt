@@ -147,6 +147,16 @@ abbrev pub after_drop : Board → Kind → ℕ → Board
 after_drop b kind to =
     passed (with_hand (with_cell b to (Some (dropped kind b.side))) b.side (with_less (hand_of b b.side) kind))
 
+-- One cell and one count changed: the piece stands where nothing stood, the mover has one less of its kind, and every other
+-- cell, every other count of his hand and the other hand are as they were.
+pub record IsDropped (old new : Board) (kind : Kind) (to : ℕ) : Type 0 where
+  pub was_empty : piece_at old.cells to ≡ None
+  pub stands : piece_at new.cells to ≡ Some (dropped kind old.side)
+  pub other_cells : (square : ℕ) → square ≢ to → piece_at new.cells square ≡ piece_at old.cells square
+  pub one_less : held (hand_of new old.side) kind + 1 ≡ held (hand_of old old.side) kind
+  pub other_counts : (k : Kind) → k ≢ kind → held (hand_of new old.side) k ≡ held (hand_of old old.side) k
+  pub other_hand : hand_of new (other old.side) ≡ hand_of old (other old.side)
+
 -- The position after a move.
 abbrev pub after : Board → Move → Board
 after b (moves.Board from to promote) = after_board b from.number to.number promote

@@ -14,7 +14,7 @@ use crate::movement::{Cells, at, fits, is_clear};
 use crate::moving::{drop_piece, dropped, move_piece};
 use board_core::{Kind, Move, Piece, Position, Side, Square};
 
-fn owns(position: &Position, square: Square) -> bool
+pub(crate) fn owns(position: &Position, square: Square) -> bool
     ensures { IsTrue result ↔ IsOwn position.now square.number }
 {
     match position.piece_at(square) {
@@ -153,7 +153,7 @@ fn is_second_pawn(position: &Position, kind: Kind, to: Square) -> bool
     has_pawn_on_file(position.cells(), position.side(), to.number)
 }
 
-fn has_in_hand(position: &Position, kind: Kind) -> bool
+pub(crate) fn has_in_hand(position: &Position, kind: Kind) -> bool
     ensures some { IsTrue result ↔ (0 < held (hand_of position.now position.now.side) kind) }
     ensures king { IsTrue result → kind ≢ King }
 {
@@ -202,4 +202,21 @@ fn legal_drop(position: &Position, kind: Kind, to: Square) -> Result<(), Illegal
         return Err(Illegal::PawnMate);
     }
     Ok(())
+}
+
+/// Whether the move is legal; else the first reason against it, in the order of [`Illegal`]. Takes no memory.
+///
+/// The side not to move must not be in check, as it never is after legal moves. A king's drop is `Occupied` or `NotInHand`.
+/// (Rules of shogi: movement, promotion, drops, two pawns, mate by a dropped pawn.)
+pub fn legal(position: &Position, by: Move) -> Result<(), Illegal>
+    requires { IsQuiet position.now }
+    ensures answer { IsAnswered position.now by result }
+
+    // Each legal move is one of the list of all moves: 81 x 81 x 2 on the board, and 7 x 81 drops.
+    ensures listed { OnOk result (order_of by < 13689) }
+{
+    match by {
+        Move::Board { from, to, promote } => legal_board(position, from, to, promote),
+        Move::Drop { kind, to } => legal_drop(position, kind, to),
+    }
 }

@@ -10,11 +10,11 @@ mod illegal;
 mod legality;
 mod movement;
 mod moving;
-//mod problem;
-//pub mod trial;
+mod problem;
+pub mod trial;
 
 pub use checking::{attacked, in_check};
 pub use illegal::Illegal;
-//pub use legality::legal;
-//pub use moving::apply;
-//pub use problem::{DefenderInCheck, Problem, accept_problem};
+pub use legality::legal;
+pub use moving::apply;
+pub use problem::{DefenderInCheck, Problem, accept_problem};

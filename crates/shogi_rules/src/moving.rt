@@ -1,14 +1,17 @@
 // What moves do.
-ghost use Rattle.std.specs.Prelude.{◌≡◌, ◌≢◌, ◌<◌, Some};
+ghost use Rattle.std.specs.Prelude.{◌≡◌, ◌≢◌, ◌<◌, ◌+◌, Some};
 ghost use Rattle.board_core.specs.declared.piece.Piece.{Piece};
+ghost use Rattle.board_core.specs.declared.piece.Kind.{Kind};
 ghost use Rattle.board_core.specs.declared.piece.Kind.TheVariants.{King};
-ghost use Rattle.board_core.specs.Kind.{total_of};
-ghost use Rattle.board_core.specs.Board.{hand_of, with_hand, count_of};
-ghost use Rattle.shogi_rules.specs.Rules.{landed, dropped, gained, after_board, after_drop, IsQuiet, IsOwn, Fits, IsClear, PromotionFits, RefusesDrop};
+ghost use Rattle.board_core.specs.Kind.{total_of, other};
+ghost use Rattle.board_core.specs.Board.{hand_of, with_hand, is_of_kind, count_of, one_if};
+ghost use Rattle.shogi_rules.specs.Rules.{landed, dropped, gained, after_board, after_drop, IsQuiet, IsOwn, Fits, IsClear, PromotionFits, RefusesDrop, IsLegal, IsDropped, after};
+ghost use Rattle.board_core.specs.declared.square.Square.{Square};
+ghost use Rattle.board_core.specs.declared.moves.Move.TheVariants.{Drop};
 ghost use Rattle.shogi_rules.specs.declared.illegal.Illegal.TheVariants.{Occupied, NotInHand, DeadDrop, TwoPawns};
 
 use crate::movement::at;
-use board_core::{Kind, Piece, Position, Side, Square};
+use board_core::{Kind, Move, Piece, Position, Side, Square};
 
 fn landed(piece: Piece, promote: bool) -> Piece
     ensures { result ≡ landed promote piece }
@@ -33,7 +36,8 @@ pub(crate) fn dropped(kind: Kind, side: Side) -> Piece
 // A captured piece, where there is one, goes into the side's hand.
 fn capture(position: &mut Position, side: Side, captured: Option<Piece>)
     requires { (piece : Piece) → captured ≡ Some piece → (piece.kind ≢ King) × (count_of position.old piece.kind < total_of piece.kind) }
-    ensures { position.new ≡ with_hand position.old side (gained captured (hand_of position.old side)) }
+    ensures position { position.new ≡ with_hand position.old side (gained captured (hand_of position.old side)) }
+    ensures counts { (kind : Kind) → count_of position.new kind ≡ count_of position.old kind + one_if (is_of_kind kind captured) }
 {
     if let Some(piece) = captured {
         position.gain(side, piece.kind);
@@ -48,7 +52,8 @@ pub(crate) fn move_piece(position: &Position, from: Square, to: Square, promote:
     requires fits { Fits position.now from.number to.number }
     requires clear { IsClear position.now.cells from.number to.number }
     requires promotion { PromotionFits position.now from.number to.number promote }
-    ensures { result ≡ after_board position.now from.number to.number promote }
+    ensures position { result ≡ after_board position.now from.number to.number promote }
+    ensures conserved { (kind : Kind) → count_of result kind ≡ count_of position.now kind }
 {
     match at(position.cells(), from.number) {
         Some(piece) => {
@@ -71,7 +76,9 @@ pub(crate) fn drop_piece(position: &Position, kind: Kind, to: Square) -> Positio
     requires held { ¬ RefusesDrop position.now kind to.number NotInHand }
     requires alive { ¬ RefusesDrop position.now kind to.number DeadDrop }
     requires pawn { ¬ RefusesDrop position.now kind to.number TwoPawns }
-    ensures { result ≡ after_drop position.now kind to.number }
+    ensures position { result ≡ after_drop position.now kind to.number }
+    ensures conserved { (k : Kind) → count_of result k ≡ count_of position.now k }
+    ensures changes { IsDropped position.now result kind to.number }
 {
     let side = position.side();
     let mut next = *position;
@@ -79,4 +86,27 @@ pub(crate) fn drop_piece(position: &Position, kind: Kind, to: Square) -> Positio
     next.put(to, dropped(kind, side));
     next.pass();
     next
+}
+
+/// The position after a legal move. Takes no memory.
+///
+/// The side not to move must not be in check; after the move it isn't either. (Rules of shogi: a captured piece goes
+/// unpromoted into the captor's hand; a dropped piece stands unpromoted.)
+pub fn apply(position: &Position, by: Move) -> Position
+    requires quiet { IsQuiet position.now }
+    requires legal { IsLegal position.now by }
+    ensures position { result ≡ after position.now by }
+    ensures turn { result.side ≡ other position.now.side }
+    ensures quiet { IsQuiet result }
+
+    // No piece is lost or made: of each kind there are as many as before, on the board and in the hands.
+    ensures conserved { (kind : Kind) → count_of result kind ≡ count_of position.now kind }
+
+    // A drop changes one cell and one count of one hand.
+    ensures drop { (kind : Kind) (to : Square) → by ≡ Drop kind to → IsDropped position.now result kind to.number }
+{
+    match by {
+        Move::Board { from, to, promote } => move_piece(position, from, to, promote),
+        Move::Drop { kind, to } => drop_piece(position, kind, to),
+    }
 }

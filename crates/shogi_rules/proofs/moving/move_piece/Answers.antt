@@ -1,9 +1,9 @@
-use Rattle.std.proofs.Common.{◌≡◌, ◌<◌, ◌∙◌, ℕ, Option, Some, true, false, IsTrue, sym, ap, subst}
+use Rattle.std.proofs.Common.{◌≡◌, ◌<◌, ◌+◌, ◌∙◌, ℕ, Option, Some, true, false, IsTrue, sym, ap, subst}
 use Rattle.board_core.specs.declared.piece.Piece.{Piece}
-use Rattle.board_core.specs.Board.{Board, piece_at, kings_of, is_pawn_of, with_cell, with_hand, passed, hand_of}
+use Rattle.board_core.specs.Board.{Board, piece_at, kings_of, is_pawn_of, is_of_kind, count_of, one_if, with_cell, with_hand, passed, hand_of}
 use Rattle.board_core.specs.Square.{file_of}
 use Rattle.shogi_rules.specs.Rules.{landed, fits, gained, IsOwn, IsClear}
-use Rattle.shogi_rules.proofs.Moves.{king_gone, pawn_alone, no_king_taken, taken_left, moved_is}
+use Rattle.shogi_rules.proofs.Moves.{king_gone, pawn_alone, no_king_taken, taken_left, moved_is, conserves}
 use Rattle.shogi_rules.proofs.moving.move_piece.Goals as goal
 
 pub put-requires-clause-king : goal.put-requires-clause-king
@@ -33,8 +33,19 @@ capture-requires c = λ taken is.
           c.take.ensures.changes c.take-in-Some.ensures.changes (rw c.landed.ensures at c.put.ensures.changes),
     )
 
-pub returns : goal.returns
-returns c =
+pub returns-clause-position : goal.returns-clause-position
+returns-clause-position c =
     let there : piece_at c.args.position.now.cells c.args.from.number ≡ Some c.in-Some.piece = cc in
-    rw (c.pass.ensures, c.capture.ensures, c.put.ensures.position, c.take-in-Some.ensures.position, c.take.ensures.position, c.landed.ensures, c.side-side.ensures, c.piece_at.ensures)
+    rw (c.pass.ensures, c.capture.ensures.position, c.put.ensures.position, c.take-in-Some.ensures.position, c.take.ensures.position, c.landed.ensures, c.side-side.ensures, c.piece_at.ensures)
     (moved_is c.args.position.now c.args.from.number c.args.to.number c.args.promote c.in-Some.piece there)
+
+pub returns-clause-conserved : goal.returns-clause-conserved
+returns-clause-conserved c = λ kind.
+    let there : piece_at c.args.position.now.cells c.args.from.number ≡ Some c.in-Some.piece = cc in
+    let caught : count_of c.capture.new.position kind ≡ count_of c.put.new.self kind + one_if (is_of_kind kind (piece_at c.args.position.now.cells c.args.to.number)) =
+    rw c.piece_at.ensures at (c.capture.ensures.counts kind) in
+    let last : count_of c.pass.new.self kind ≡ count_of c.put.new.self kind + one_if (is_of_kind kind (piece_at c.args.position.now.cells c.args.to.number)) =
+    rw c.pass.ensures caught in
+    conserves c.args.position.now c.take.new.self c.take-in-Some.new.self c.put.new.self c.pass.new.self c.args.from.number c.args.to.number c.args.promote c.in-Some.piece kind
+    (λ same. c.requires.free (subst (λ (s : ℕ). IsOwn c.args.position.now s) same c.requires.own)) there
+    c.take.ensures.changes c.take-in-Some.ensures.changes (rw c.landed.ensures at c.put.ensures.changes) last
