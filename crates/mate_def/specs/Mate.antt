@@ -1,0 +1,57 @@
+-- What a mate and an escape are. The attacker only gives check, the defender makes any legal move, and play without end is
+-- no mate.
+use Rattle.std.specs.Prelude.{◌≡◌, ◌⊎◌, ◌+◌, ◌≤◌, ℕ, zero, suc, List, [], Contains}
+use Rattle.board_core.specs.declared.piece.Side.{Side}
+use Rattle.board_core.specs.declared.moves.Move.{Move}
+use Rattle.board_core.specs.Board.{Board}
+use Rattle.shogi_rules.specs.Rules.{after}
+use Rattle.shogi_rules.specs.Tsume.{IsCheck, IsAnswer}
+
+-- The position after a check and an answer to it.
+abbrev pub after_both : Board → Move → Move → Board
+after_both b check answer = after (after b check) answer
+
+-- The position is mate within a number of the attacker's moves: never within 0; within n + 1 where there is a check after
+-- which every answer leads to a position that is mate within n. So a rank is a finite strategy of checks against every
+-- legal defence: a check without an answer is mate within 1.
+abbrev pub RankAtMost : Side → ℕ → Board → Type 0
+RankAtMost attacker zero b = ⊥
+RankAtMost attacker (suc n) b =
+    (check : Move) × IsCheck attacker b check
+    × ((answer : Move) → IsAnswer attacker (after b check) answer → RankAtMost attacker n (after_both b check answer))
+
+-- The position is a mate: within some number of moves.
+abbrev pub IsMate : Side → Board → Type 0
+IsMate attacker b = (n : ℕ) × RankAtMost attacker n b
+
+-- The positions of s are closed, but for those of t: each check from each position of s has an answer that leads to a
+-- position of s or of t.
+abbrev pub IsClosed : Side → List Board → List Board → Type 0
+IsClosed attacker s t = (b : Board) (check : Move) → Contains s b → IsCheck attacker b check
+    → (answer : Move) × IsAnswer attacker (after b check) answer
+    × (Contains s (after_both b check answer) ⊎ Contains t (after_both b check answer))
+
+-- From the position the defender escapes into the positions of t: it is one of some closed positions, but for those of t.
+abbrev pub EscapesInto : Side → Board → List Board → Type 0
+EscapesInto attacker b t = (s : List Board) × Contains s b × IsClosed attacker s t
+
+-- The defender escapes: the position is one of some closed positions.
+abbrev pub Escapes : Side → Board → Type 0
+Escapes attacker b = EscapesInto attacker b []
+
+-- A law: an escape is no mate.
+abbrev pub EscapeIsNoMate : Type 0
+EscapeIsNoMate = (attacker : Side) (b : Board) → Escapes attacker b → ¬ IsMate attacker b
+
+-- A law: a mate within n is a mate within any greater number.
+abbrev pub RankGrows : Type 0
+RankGrows = (attacker : Side) (n m : ℕ) (b : Board) → n ≤ m → RankAtMost attacker n b → RankAtMost attacker m b
+
+-- A law: a check without an answer is a mate within one move, and only such a check is.
+pub record MateInOne (attacker : Side) (b : Board) : Type 0 where
+  pub check : Move
+  pub is_check : IsCheck attacker b check
+  pub no_answer : (answer : Move) → ¬ IsAnswer attacker (after b check) answer
+
+abbrev pub RankOne : Type 0
+RankOne = (attacker : Side) (b : Board) → (MateInOne attacker b → RankAtMost attacker 1 b) × (RankAtMost attacker 1 b → MateInOne attacker b)
