@@ -111,12 +111,7 @@ pub(crate) fn first_dead(cells: &[Option<Piece>; 81]) -> Option<Square>
 }
 
 /// The first square, from `from` on and before `to`, with an unpromoted pawn of the side.
-pub(crate) fn first_pawn(
-    cells: &[Option<Piece>; 81],
-    side: Side,
-    from: u8,
-    to: u8,
-) -> Option<u8>
+pub(crate) fn first_pawn(cells: &[Option<Piece>; 81], side: Side, from: u8, to: u8) -> Option<u8>
     requires { to ≤ 81 }
     ensures none { result ≡ None → (s : ℕ) → s < to → from ≤ s → is_pawn_of side (piece_at cells.now s) ≡ false }
     ensures from { IfSome result (λ s. from ≤ s) }
