@@ -1,5 +1,5 @@
 // Positions: what can be asked of them, and the changes that moves are made of.
-ghost use Rattle.std.specs.Prelude.{◌≡◌, ◌≢◌, ◌<◌, ◌↔◌, ℕ, IfSome, IsNone, true};
+ghost use Rattle.std.specs.Prelude.{◌≡◌, ◌≢◌, ◌<◌, ◌↔◌, ℕ, IfSome, IsNone, IsTrue, true};
 ghost use Rattle.board_core.specs.Kind.{total_of};
 ghost use Rattle.board_core.specs.Board.{piece_at, held, hand_of, with_more, with_less, count_of, kings_of, is_king_of, with_hand, passed};
 ghost use Rattle.board_core.specs.Kept.{IsKept};
@@ -8,6 +8,11 @@ ghost use Rattle.board_core.specs.declared.piece.Kind.TheVariants.{King};
 use crate::scan::first_king;
 use crate::{Hand, Kind, Piece, Side, Square};
 use std::marker::Model;
+use std::mem::size_of;
+
+const _: () = prove!(size_of::<Option<Piece>>() == 4);
+
+const _: () = prove!(size_of::<Position>() <= 400);
 
 /// A position of shogi: what stands on each square, the two hands, and the side to move. A plain value of fixed size,
 /// copied as its bytes.
@@ -15,7 +20,7 @@ use std::marker::Model;
 /// It keeps: no kind has more pieces than a set (18 pawns, 4 each of lance, knight, silver and gold, 2 each of bishop
 /// and rook; on the board, promoted or not, of both sides, and in both hands); each side has at most one king; no piece
 /// stands where it could never move again; no side has two unpromoted pawns on a file.
-#[derive(Clone, Copy)]
+#[derive(Clone, Copy, PartialEq, Eq, Debug)]
 pub struct Position {
     cells: [Option<Piece>; 81],
     black: Hand,
@@ -69,6 +74,14 @@ impl Position {
         ensures kept { IsKept self.now }
     {
         &self.cells
+    }
+
+    /// Whether two positions are one: the same piece or none on each square, the same hands, the same side to move.
+    /// `==` answers the same.
+    pub fn is_same(&self, with: &Position) -> bool
+        ensures { IsTrue result ↔ (self.now ≡ with.now) }
+    {
+        self == with
     }
 
     /// The side to move.
