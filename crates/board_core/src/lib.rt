@@ -12,6 +12,8 @@ mod piece;
 mod position;
 mod scan;
 mod square;
+#[cfg(test)]
+mod tests;
 
 pub use build::BadPosition;
 pub use hand::Hand;
