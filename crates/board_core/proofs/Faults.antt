@@ -1,5 +1,4 @@
-use Rattle.std.proofs.Common.{◌≡◌, ◌≢◌, ◌<◌, ◌≤◌, ◌+◌, ◌⊎◌, inl, inr, ◌↔◌, IsTrue, ℕ, List, Option, Bool, true, false, refl, arith, ◌∙◌}
-use Rattle.std.proofs.lemmas.Bool.{cases_lt}
+use Rattle.std.proofs.Common.{◌≡◌, ◌≢◌, ◌<◌, ◌≤◌, ◌+◌, ℕ, List, Option, false, refl, arith, ◌∙◌}
 use Rattle.board_core.specs.declared.piece.Piece.{Piece}
 use Rattle.board_core.specs.declared.piece.Kind.{Kind}
 use Rattle.board_core.specs.declared.piece.Kind.TheVariants.{Pawn, Lance, Knight, Silver, Gold, Bishop, Rook, King}
@@ -80,25 +79,6 @@ clear_pawns b n c apart (TwoPawns m) o f = apart m (omega arith) f.0 f.1
 -- no fault at all is there
 pub clear_all : (b : Board) → ((n : ℕ) → Clear b (100 + n)) → (fault : BadPosition) → HasFault b fault → ⊥
 clear_all b c fault f = c (fault_order fault + 1) fault (omega arith) f
-
--- what holds of each kind before a place
-pub kinds_below : (P : Kind → Type 0) (n : ℕ) → n ≤ 7 → (0 < n → P Pawn) → (1 < n → P Lance) → (2 < n → P Knight) → (3 < n → P Silver)
-    → (4 < n → P Gold) → (5 < n → P Bishop) → (6 < n → P Rook) → (k : Kind) → place_of k < n → P k
-kinds_below P m h p l n s g b r Pawn o = p o
-kinds_below P m h p l n s g b r Lance o = l o
-kinds_below P m h p l n s g b r Knight o = n o
-kinds_below P m h p l n s g b r Silver o = s o
-kinds_below P m h p l n s g b r Gold o = g o
-kinds_below P m h p l n s g b r Bishop o = b o
-kinds_below P m h p l n s g b r Rook o = r o
-kinds_below P m h p l n s g b r King o = absurd (omega arith)
-
--- what a test that failed has shown
-pub few_by : (test : Bool) (most count : ℕ) → IsTrue test ↔ (most < count) → test ≡ false → count ≤ most
-few_by test most count h e = elim (cases_lt most count) [
-  | inl more ↦ let t = h.1 more in absurd (cc)
-  | inr fits ↦ fits
-]
 
 -- two pawns on a file stand on one of the nine files
 pub two_pawns_within : (cells : List (Option Piece)) (side : Side) (file : ℕ) → TwoPawnsOn cells side file → file < 10

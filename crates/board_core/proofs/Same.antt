@@ -1,4 +1,4 @@
-use Rattle.std.proofs.Common.{◌≡◌, ◌&&◌, ℕ, List, [], ◌∷◌, Option, Some, None, Bool, true, false, arith, rules, refl, ap, sym, ◌∙◌, subst, eqb-true}
+use Rattle.std.proofs.Common.{◌≡◌, ◌&&◌, List, [], ◌∷◌, Option, Some, None, Bool, true, false, rules, refl, ap, ◌∙◌, subst, eqb-true}
 use Rattle.std.specs.Option.{option_eq}
 use mathlib.Core.Bool.{beq}
 use lib.Pointwise.{pointwise}
@@ -17,9 +17,7 @@ use Rattle.board_core.specs.declared.piece.Side.{Side}
 use Rattle.board_core.specs.contracts.piece.Kind.{the_type as kind_type}
 use Rattle.board_core.specs.contracts.piece.Side.{the_type as side_type}
 use Rattle.board_core.specs.Kind.{can_promote}
-use Rattle.board_core.specs.declared.moves.Move.{Move}
 use Rattle.board_core.specs.contracts.piece.PiecePartialEq.TheImpl as piece_same
-use Rattle.board_core.specs.contracts.moves.MovePartialEq.TheImpl as move_same
 use Rattle.board_core.specs.contracts.piece.PieceEq.TheImpl.Laws as piece_laws
 
 pub and_left : (p q : Bool) → (p && q) ≡ true → p ≡ true

@@ -1,4 +1,4 @@
-use Rattle.std.specs.Prelude.{◌+◌, ◌*◌, ◌<◌, ℕ, Bool, true, false, if◌then◌else◌}
+use Rattle.std.specs.Prelude.{◌+◌, ◌*◌, ℕ, Bool, true, false}
 use Rattle.board_core.specs.declared.moves.Move.{Move}
 use Rattle.board_core.specs.declared.moves.Move.TheVariants as moves
 use Rattle.board_core.specs.Kind.{place_of}

@@ -27,6 +27,17 @@ pub enum BadPosition {
     TwoPawns(u8),
 }
 
+// The kinds that a hand may hold, in their order.
+const KINDS_IN_HAND: [Kind; 7] = [
+    Kind::Pawn,
+    Kind::Lance,
+    Kind::Knight,
+    Kind::Silver,
+    Kind::Gold,
+    Kind::Bishop,
+    Kind::Rook,
+];
+
 impl Position {
     /// The position with these cells (by the number of the square), hands and side to move; or the first fault of them,
     /// in the order of the variants of [`BadPosition`]: more pieces of a kind than a set of shogi has, no king of the
@@ -80,26 +91,10 @@ fn first_too_many(cells: &[Option<Piece>; 81], black: Hand, white: Hand) -> Opti
     ensures some { IfSome result (λ k. total_of k < count_of (record { cells = cells.now; black = black; white = white; side = Black }) k) }
     ensures first { IfSome result (λ k. (j : Kind) → place_of j < place_of k → count_of (record { cells = cells.now; black = black; white = white; side = Black }) j ≤ total_of j) }
 {
-    if is_too_many(cells, black, white, Kind::Pawn) {
-        return Some(Kind::Pawn);
-    }
-    if is_too_many(cells, black, white, Kind::Lance) {
-        return Some(Kind::Lance);
-    }
-    if is_too_many(cells, black, white, Kind::Knight) {
-        return Some(Kind::Knight);
-    }
-    if is_too_many(cells, black, white, Kind::Silver) {
-        return Some(Kind::Silver);
-    }
-    if is_too_many(cells, black, white, Kind::Gold) {
-        return Some(Kind::Gold);
-    }
-    if is_too_many(cells, black, white, Kind::Bishop) {
-        return Some(Kind::Bishop);
-    }
-    if is_too_many(cells, black, white, Kind::Rook) {
-        return Some(Kind::Rook);
+    for kind in KINDS_IN_HAND {
+        if is_too_many(cells, black, white, kind) {
+            return Some(kind);
+        }
     }
     None
 }

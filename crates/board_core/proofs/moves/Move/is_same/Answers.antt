@@ -1,5 +1,4 @@
-use Rattle.std.proofs.Common.{◌≡◌, ap, sym, ◌∙◌, eq-eqb, eqb-true}
-use Rattle.std.proofs.lemmas.Bool.Decides.{eqb_tells}
+use Rattle.std.proofs.Common.{ap, sym, ◌∙◌, eq-eqb, eqb-true}
 use Rattle.board_core.specs.Order.{order_of}
 use Rattle.board_core.proofs.MoveOrder.{move_same-place, move_exact}
 use Rattle.board_core.proofs.moves.Move.is_same.Goals as goal
