@@ -10,6 +10,7 @@ mod hand;
 mod moves;
 mod piece;
 mod position;
+mod scan;
 mod square;
 
 pub use build::BadPosition;

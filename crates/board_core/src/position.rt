@@ -1,10 +1,11 @@
 // Positions: what can be asked of them, and the changes that moves are made of.
-ghost use Rattle.std.specs.Prelude.{◌≡◌, ◌≢◌, ◌<◌};
+ghost use Rattle.std.specs.Prelude.{◌≡◌, ◌≢◌, ◌<◌, ◌↔◌, ℕ, IfSome, IsNone, true};
 ghost use Rattle.board_core.specs.Kind.{total_of};
-ghost use Rattle.board_core.specs.Board.{piece_at, held, hand_of, with_more, with_less, count_of, with_hand, passed};
+ghost use Rattle.board_core.specs.Board.{piece_at, held, hand_of, with_more, with_less, count_of, kings_of, is_king_of, with_hand, passed};
 ghost use Rattle.board_core.specs.Kept.{IsKept};
 ghost use Rattle.board_core.specs.declared.piece.Kind.TheVariants.{King};
 
+use crate::scan::first_king;
 use crate::{Hand, Kind, Piece, Side, Square};
 use std::marker::Model;
 
@@ -37,6 +38,24 @@ impl Model for Position {
 }
 
 impl Position {
+    /// The position with these parts, of which it is known that they keep what every position keeps.
+    pub(crate) fn kept(
+        cells: &[Option<Piece>; 81],
+        black: Hand,
+        white: Hand,
+        side: Side,
+    ) -> Position
+        requires { IsKept (record { cells = cells.now; black = black; white = white; side = side }) }
+        ensures { result ≡ record { cells = cells.now; black = black; white = white; side = side } }
+    {
+        Position {
+            cells: *cells,
+            black,
+            white,
+            side,
+        }
+    }
+
     /// The piece on a square, where there is one.
     pub fn piece_at(&self, square: Square) -> Option<Piece>
         ensures { result ≡ piece_at self.now.cells square.number }
@@ -57,6 +76,15 @@ impl Position {
         ensures { result ≡ self.now.side }
     {
         self.side
+    }
+
+    /// The square of a side's king, where it has one.
+    pub fn king_square(&self, side: Side) -> Option<Square>
+        ensures found { IfSome result (λ s. is_king_of side (piece_at self.now.cells s.number) ≡ true) }
+        ensures only { IfSome result (λ s. (t : ℕ) → is_king_of side (piece_at self.now.cells t) ≡ true → t ≡ s.number) }
+        ensures none { IsNone result ↔ (kings_of self.now side ≡ 0) }
+    {
+        first_king(self.cells(), side)
     }
 
     /// A side's hand.

@@ -1,6 +1,8 @@
 // Squares and their numbers.
 ghost use Rattle.std.specs.Prelude.{◌≡◌, ◌<◌, ◌≤◌, IfSome, IsSome, ◌↔◌};
 
+use crate::Side;
+
 /// A square of the board by its number, `9 * (file - 1) + (rank - 1)`: 0 is 1a, 8 is 1i, 9 is 2a, 80 is 9i. Files run
 /// from 1 to 9 from right to left as Black sees the board, ranks from 1 (a) to 9 (i) from top to bottom.
 #[derive(Clone, Copy, PartialEq, Eq, PartialOrd, Ord, Hash, Debug)]
@@ -56,5 +58,15 @@ impl Square {
         ensures to { result ≤ 9 }
     {
         self.number % 9 + 1
+    }
+
+    /// How many ranks lie ahead of it for a side: none on the last rank, where Black's is rank 1 and White's rank 9.
+    pub fn ranks_ahead(self, side: Side) -> u8
+        ensures { result ≡ ranks_ahead side self.number }
+    {
+        match side {
+            Side::Black => self.number % 9,
+            Side::White => 8 - self.number % 9,
+        }
     }
 }
