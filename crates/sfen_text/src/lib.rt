@@ -1,13 +1,10 @@
-// A library with one function.
+//! Positions of shogi as SFEN texts, both ways.
+//!
+//! [`write_sfen`] writes the one text of a position: no two positions have one text.
 #![tactic(auto)]
 
-ghost use Rattle.std.specs.Prelude.{◌≡◌};
-ghost use Rattle.sfen_text.specs.Echo.{echo_of};
+mod memory;
+mod write;
 
-// The `ensures` clause is the contract: what `echo` returns is `echo_of` of its argument, a definition
-// in `specs/Echo.antt`, which a caller's clause can cite too.
-pub fn echo(x: usize) -> usize
-    ensures { result ≡ echo_of x }
-{
-    x
-}
+pub use memory::NoMemory;
+pub use write::write_sfen;
