@@ -1,5 +1,5 @@
 // The board field of a text.
-ghost use Rattle.std.specs.Prelude.{◌≡◌, ◌≤◌, ◌<◌, ◌+◌, ◌-◌, ◌*◌, ◌^◌, ◌∷◌, ℕ, length, take, drop, MatchResult, Err, Result};
+ghost use Rattle.std.specs.Prelude.{◌≡◌, [], ◌≤◌, ◌<◌, ◌+◌, ◌-◌, ◌*◌, ◌^◌, ◌∷◌, ℕ, length, take, drop, MatchResult, Err, Result};
 ghost use Rattle.sfen_text.specs.Signs.{stands, plain_sign, Signs, sign, signs, in_front, squares, cells_of, IsFilling, filled};
 ghost use Rattle.sfen_text.specs.Reading.{Gives, cells_at};
 
@@ -48,7 +48,6 @@ fn plain_sign(byte: u8) -> Sign
     }
 }
 
-#[tactic(auto, unfolding(crate::specs::Signs::signs))]
 // The first sign of a text, and how many bytes it takes.
 fn sign_of(text: &[u8]) -> (Sign, usize)
     requires { 0 < length text.now }
@@ -56,11 +55,14 @@ fn sign_of(text: &[u8]) -> (Sign, usize)
     ensures within { result.1 ≤ length text.now }
     ensures signs { (at : ℕ) → signs at text.now ≡ sign at result.0 (signs (at + result.1) (drop result.1 text.now)) }
 {
-    match text {
-        [b'+', letter, ..] => (stands(promoted_of(*letter)), 2),
-        [byte, ..] => (plain_sign(*byte), 1),
-        [] => (Sign::Broken, 0),
+    let plain = (plain_sign(text[0]), 1);
+    if text.len() == 1 {
+        return plain;
     }
+    if text[0] != b'+' {
+        return plain;
+    }
+    (stands(promoted_of(text[1])), 2)
 }
 
 #[tactic(auto, unfolding(crate::specs::Signs::squares))]
@@ -96,18 +98,27 @@ fn take_sign(filling: &mut Filling, found: Sign, at: usize) -> Result<(), TextFa
     Ok(())
 }
 
-#[tactic(auto, unfolding(crate::specs::Signs::signs, crate::specs::Signs::squares))]
+fn nothing_filled() -> Filling
+    ensures filling { IsFilling result }
+    ensures nothing { filled result ≡ [] }
+    ensures ranks { result.ranks ≡ 8 }
+    ensures left { result.left ≡ 9 }
+{
+    Filling {
+        read: [None; 81],
+        ranks: 8,
+        left: 9,
+    }
+}
+
+#[tactic(auto, unfolding(crate::specs::Signs::signs, crate::specs::Signs::squares), using(crate::proofs::Filling::in_front_none))]
 // The squares of the board's field, in the order of reading.
 fn squares_of(text: &[u8], at: usize) -> Result<[Option<Piece>; 81], TextFault>
     requires { at + length text.now < 2 ^ 64 }
     ensures { Gives (λ read. read) result (squares (at + length text.now) 8 9 (signs at text.now)) }
 {
     let end = at + text.len();
-    let mut filling = Filling {
-        read: [None; 81],
-        ranks: 8,
-        left: 9,
-    };
+    let mut filling = nothing_filled();
     let mut rest = text;
     let mut here = at;
     while !rest.is_empty() {
