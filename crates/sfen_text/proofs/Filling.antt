@@ -77,7 +77,7 @@ take_none (suc n) c read le ahead =
     let here : get_or read c None ≡ None = sym (piece_at_is read c) ∙ ahead c (omega arith) in
     rw (e, again, one, here) (append_assoc (take c read) (None ∷ []) (replicate n None))
 
-le_passes : (a b : ℕ) → a ≤ b → nat_le a b ≡ true
+pub le_passes : (a b : ℕ) → a ≤ b → nat_le a b ≡ true
 le_passes a b le = let e = le-ltb b a le in grind (arith, nat_tests)
 
 pub in_front_none : (read : Result (List (Option Piece)) TextFault) → in_front [] read ≡ read

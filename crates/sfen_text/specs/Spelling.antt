@@ -49,8 +49,8 @@ count_text n = if n == 1 then [] else (if nat_lt n 10 then (48 + n) ∷ [] else 
 
 -- What a side holds of a kind: nothing, or a count and the letter.
 abbrev pub held_text : Side → Kind → ℕ → List ℕ
-held_text side kind zero = []
-held_text side kind (suc n) = count_text (suc n) ++ letter_of side kind ∷ []
+held_text side k zero = []
+held_text side k (suc n) = count_text (suc n) ++ letter_of side k ∷ []
 
 -- A side's hand, in the order rook, bishop, gold, silver, knight, lance, pawn.
 abbrev pub hand_text : Side → List ℕ → List ℕ

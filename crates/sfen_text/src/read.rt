@@ -191,10 +191,24 @@ fn built(parts: Parts) -> Result<Position, TextFault>
     }
 }
 
-pub fn read_sfen(input: &[u8]) -> Result<Position, TextFault>
-    ensures exact { IsAnswer (reading input.now) result }
+fn answer_of(input: &[u8]) -> Result<Position, TextFault>
+    ensures { IsAnswer (reading input.now) result }
 {
     let (at, text) = body_of(input);
     let parts = parts_of(text, at)?;
     built(parts)
+}
+
+/// The position that an SFEN text stands for; else its first fault from the left, with its place in the whole input, or,
+/// where the text is well formed, the fault of its parts ([`TextFault`]). Takes no memory, in one pass.
+///
+/// Spaces, tabs, carriage returns and line feeds at both ends don't count, nor does `sfen ` or `position sfen ` in front
+/// (USI protocol: `position`). The rest is three or four fields with spaces between: the board from rank a to rank i, each
+/// from file 9 to file 1; the side to move; the hands; perhaps a move number of one to nine digits, which isn't used.
+pub fn read_sfen(input: &[u8]) -> Result<Position, TextFault>
+    ensures exact { IsAnswer (reading input.now) result }
+    // What is written for a position is read as it.
+    ensures again { (p : Board) → IsKept p → HasDefender p → input.now ≡ sfen_of p → result ≡ Ok p }
+{
+    answer_of(input)
 }

@@ -151,11 +151,7 @@ fn side_byte(side: Side) -> u8
     }
 }
 
-/// The text of a position (SFEN): the board with longest runs of empty squares, the side to move, and the hands, a space
-/// between. In the hands Black's letters come first, each side's in the order R B G S N L P, each with its count before it
-/// where that is above 1; a dash where both are empty. No move number, no line feed. Answers `NoMemory` only where the
-/// memory ends.
-pub fn write_sfen(alloc: Global, position: &Position) -> Result<Vec<u8>, NoMemory>
+fn text_of(alloc: Global, position: &Position) -> Result<Vec<u8>, NoMemory>
     ensures { IfOk result (λ text. text.items ≡ sfen_of position.now) }
 {
     let mut text = Vec::new(alloc);
@@ -165,4 +161,17 @@ pub fn write_sfen(alloc: Global, position: &Position) -> Result<Vec<u8>, NoMemor
     text.push(b' ')?;
     put_hands(&mut text, position)?;
     Ok(text)
+}
+
+/// The text of a position (SFEN): the board with longest runs of empty squares, the side to move, and the hands, a space
+/// between. In the hands Black's letters come first, each side's in the order R B G S N L P, each with its count before it
+/// where that is above 1; a dash where both are empty. No move number, no line feed. Answers `NoMemory` only where the
+/// memory ends.
+pub fn write_sfen(alloc: Global, position: &Position) -> Result<Vec<u8>, NoMemory>
+    ensures text { IfOk result (λ text. text.items ≡ sfen_of position.now) }
+    // No other position has this text.
+    ensures apart { IfOk result (λ text. (other : Board) → IsKept other → sfen_of other ≡ text.items → other ≡ position.now) }
+{
+    position.cells();
+    text_of(alloc, position)
 }

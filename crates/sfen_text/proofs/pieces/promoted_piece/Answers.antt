@@ -3,4 +3,4 @@ use Rattle.sfen_text.proofs.Filling.{promoted_is}
 use Rattle.sfen_text.proofs.pieces.promoted_piece.Goals as goal
 
 pub returns : goal.returns
-returns c = promoted_is c.args.side c.args.kind c.result-1.given.0 (search rules)
+returns c = promoted_is c.args.side c.args.kind _ (search rules)
