@@ -1,0 +1,9 @@
+pub mod Writing
+pub mod Filling
+pub mod Fields
+pub mod PiecesAgain
+pub mod RowsAgain
+pub mod HandsAgain
+pub mod BytesAgain
+pub mod FieldsAgain
+pub mod TextAgain

@@ -1,0 +1,64 @@
+-- The hands field of an SFEN text.
+use Rattle.std.specs.Prelude.{◌≡◌, ◌+◌, ◌-◌, ◌*◌, ◌==◌, ◌&&◌, ℕ, zero, suc, List, [], ◌∷◌, length, replicate, slice_set, Bool, true, false, Option, Some, None, Result, Ok, Err, nat_le, nat_lt, if◌then◌else◌}
+use Rattle.board_core.specs.declared.piece.Kind.{Kind}
+use Rattle.board_core.specs.declared.piece.Kind.TheVariants.{King}
+use Rattle.board_core.specs.declared.piece.Side.{Side}
+use Rattle.board_core.specs.declared.piece.Side.TheVariants.{Black, White}
+use Rattle.board_core.specs.declared.piece.Piece.{Piece}
+use Rattle.board_core.specs.Kind.{place_of, same_kind}
+use Rattle.board_core.specs.Board.{held}
+use Rattle.sfen_text.specs.declared.fault.TextFault.{TextFault}
+use Rattle.sfen_text.specs.declared.fault.TextFault.TheVariants.{BadHand, HandTwice}
+use Rattle.sfen_text.specs.Pieces.{piece_of}
+
+-- The items of a text: each with the place of its letter, its count, side and kind; or the place where an item begins that
+-- is none.
+pub data Items : Type 0 where
+  none : Items
+  item : ℕ → ℕ → Side → Kind → Items → Items
+  broken : ℕ → Items
+
+-- An item of this letter's piece, which is no king; its text begins at `start`, its letter stands at `at`.
+abbrev pub lettered : ℕ → ℕ → ℕ → Option Piece → Items → Items
+lettered start at count None rest = broken start
+lettered start at count (Some piece) rest = if same_kind piece.kind King then broken start else item at count piece.side piece.kind rest
+
+-- How many an item without digits, or with digits of this value, counts.
+abbrev pub count_or_one : ℕ → ℕ
+count_or_one count = if count == 0 then 1 else count
+
+-- Whether a byte is a digit.
+abbrev pub is_digit : ℕ → Bool
+is_digit byte = nat_le 48 byte && nat_le byte 57
+
+-- The items of a text from `at` on; the item that is being read begins at `start`, and its digits so far have the value
+-- `count`, 0 where there are none. A count is 1 to 18, without a leading zero.
+unfoldable pub items : ℕ → ℕ → ℕ → List ℕ → Items
+items start count at [] = if count == 0 then none else broken start
+items start count at (byte ∷ text) =
+    if is_digit byte then
+      (if nat_lt 0 (10 * count + (byte - 48)) && nat_le (10 * count + (byte - 48)) 18 then items start (10 * count + (byte - 48)) (at + 1) text else broken start)
+    else lettered start at (count_or_one count) (piece_of byte) (items (at + 1) 0 (at + 1) text)
+
+-- The hands with these items added to them, Black's first; or the first fault.
+unfoldable pub hands_with : List ℕ → List ℕ → Items → Result (List ℕ × List ℕ) TextFault
+hands_with black white none = Ok (black, white)
+hands_with black white (item at count Black kind rest) = if held black kind == 0 then hands_with (slice_set black (place_of kind) count) white rest else Err (HandTwice at)
+hands_with black white (item at count White kind rest) = if held white kind == 0 then hands_with black (slice_set white (place_of kind) count) rest else Err (HandTwice at)
+hands_with black white (broken start) = Err (BadHand start)
+
+-- Whether a text is this one byte.
+abbrev pub is_byte : ℕ → List ℕ → Bool
+is_byte wanted [] = false
+is_byte wanted (byte ∷ []) = byte == wanted
+is_byte wanted (byte ∷ next ∷ text) = false
+
+-- The empty hand.
+abbrev pub empty_hand : List ℕ
+empty_hand = 0 ∷ 0 ∷ 0 ∷ 0 ∷ 0 ∷ 0 ∷ 0 ∷ []
+
+-- The hands of a field at a place: empty ones for a dash; or the first fault, as where there is no field.
+unfoldable pub hands_of : ℕ → List ℕ → Result (List ℕ × List ℕ) TextFault
+hands_of at text =
+    if length text == 0 then Err (BadHand at)
+    else (if is_byte 45 text then Ok (empty_hand, empty_hand) else hands_with empty_hand empty_hand (items at 0 at text))

@@ -1,0 +1,69 @@
+// What is wrong with a text.
+use board_core::{BadPosition, Kind, Square};
+use std::fmt::{self, Write};
+
+/// Why a text is no position that can be solved: its first fault. Places are byte offsets in the whole input, from 0.
+#[derive(Clone, Copy, PartialEq, Eq, Debug)]
+pub enum TextFault {
+    /// A piece or a run that would pass nine squares in its row, a slash before the row is full or behind the ninth row,
+    /// or the end of the board before the ninth row is full.
+    BadRow(usize),
+    /// A byte of the board that begins no piece, run or slash; a plus without a letter that promotes.
+    BadPiece(usize),
+    /// The field of the side to move is neither `b` nor `w`.
+    BadSide(usize),
+    /// The start of an item of the hands that is none; or there is no such field.
+    BadHand(usize),
+    /// A letter that already came in the same hand.
+    HandTwice(usize),
+    /// A fourth field that is no move number of one to nine digits, or a fifth one.
+    Trailing(usize),
+    /// The text is well formed, and makes no position.
+    BadPosition(BadPosition),
+    /// The side that isn't to move is in check.
+    DefenderInCheck,
+}
+
+impl fmt::Display for TextFault {
+    /// Prints the fault's kind in words, and its place, kind, square or file: `bad row at 7`, `too many P`,
+    /// `dead piece at 9i`, `two pawns on file 5`.
+    fn fmt<W: Write>(&self, f: &mut fmt::Formatter<W>) -> fmt::Result {
+        match self {
+            TextFault::BadRow(at) => write!(f, "bad row at {at}"),
+            TextFault::BadPiece(at) => write!(f, "bad piece at {at}"),
+            TextFault::BadSide(at) => write!(f, "bad side at {at}"),
+            TextFault::BadHand(at) => write!(f, "bad hand at {at}"),
+            TextFault::HandTwice(at) => write!(f, "hand twice at {at}"),
+            TextFault::Trailing(at) => write!(f, "trailing at {at}"),
+            TextFault::BadPosition(bad) => write_bad_position(*bad, f),
+            TextFault::DefenderInCheck => write!(f, "defender in check"),
+        }
+    }
+}
+
+fn write_bad_position<W: Write>(bad: BadPosition, f: &mut fmt::Formatter<W>) -> fmt::Result {
+    match bad {
+        BadPosition::TooMany(kind) => write!(f, "too many {}", letter(kind)),
+        BadPosition::NoDefenderKing => write!(f, "no defender king"),
+        BadPosition::TwoKings => write!(f, "two kings"),
+        BadPosition::DeadPiece(square) => write!(f, "dead piece at {}{}", square.file(), rank_letter(square)),
+        BadPosition::TwoPawns(file) => write!(f, "two pawns on file {file}"),
+    }
+}
+
+fn letter(kind: Kind) -> char {
+    match kind {
+        Kind::Pawn => 'P',
+        Kind::Lance => 'L',
+        Kind::Knight => 'N',
+        Kind::Silver => 'S',
+        Kind::Gold => 'G',
+        Kind::Bishop => 'B',
+        Kind::Rook => 'R',
+        Kind::King => 'K',
+    }
+}
+
+fn rank_letter(square: Square) -> char {
+    char::from(b'a' - 1 + square.rank())
+}

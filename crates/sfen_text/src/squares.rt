@@ -1,0 +1,156 @@
+// The board field of a text.
+ghost use Rattle.std.specs.Prelude.{◌≡◌, [], ◌≤◌, ◌<◌, ◌+◌, ◌-◌, ◌*◌, ◌^◌, ◌∷◌, ℕ, length, take, drop, MatchResult, Err, Result};
+ghost use Rattle.sfen_text.specs.Signs.{stands, plain_sign, Signs, sign, signs, in_front, squares, cells_of, IsFilling, filled};
+ghost use Rattle.sfen_text.specs.Reading.{Gives, cells_at};
+
+use crate::TextFault;
+use crate::pieces::{piece_of, promoted_of};
+use board_core::Piece;
+
+// A sign of the board's text.
+#[derive(Clone, Copy)]
+pub enum Sign {
+    // Between two rows.
+    Slash,
+    // So many empty squares, 1 to 9.
+    Run(u8),
+    // A piece.
+    Stands(Piece),
+    // No sign.
+    Broken,
+}
+
+// What was read so far: the squares in the order of reading, how many ranks are still to come, and how many squares of
+// this rank.
+#[derive(Clone, Copy)]
+struct Filling {
+    read: [Option<Piece>; 81],
+    ranks: u8,
+    left: u8,
+}
+
+fn stands(piece: Option<Piece>) -> Sign
+    ensures { result ≡ stands piece }
+{
+    match piece {
+        Some(piece) => Sign::Stands(piece),
+        None => Sign::Broken,
+    }
+}
+
+fn plain_sign(byte: u8) -> Sign
+    ensures { result ≡ plain_sign byte }
+{
+    match byte {
+        b'/' => Sign::Slash,
+        b'1'..=b'9' => Sign::Run(byte - b'0'),
+        _ => stands(piece_of(byte)),
+    }
+}
+
+// The first sign of a text, and how many bytes it takes.
+fn sign_of(text: &[u8]) -> (Sign, usize)
+    requires { 0 < length text.now }
+    ensures size { 1 ≤ result.1 }
+    ensures within { result.1 ≤ length text.now }
+    ensures signs { (at : ℕ) → signs at text.now ≡ sign at result.0 (signs (at + result.1) (drop result.1 text.now)) }
+{
+    let plain = (plain_sign(text[0]), 1);
+    if text.len() == 1 {
+        return plain;
+    }
+    if text[0] != b'+' {
+        return plain;
+    }
+    (stands(promoted_of(text[1])), 2)
+}
+
+#[tactic(auto, unfolding(crate::specs::Signs::squares))]
+fn take_sign(filling: &mut Filling, found: Sign, at: usize) -> Result<(), TextFault>
+    requires { IsFilling filling.old }
+    ensures { MatchResult result
+        (λ _. IsFilling filling.new × ((end : ℕ) (rest : Signs) → in_front (filled filling.old) (squares end filling.old.ranks filling.old.left (sign at found rest)) ≡ in_front (filled filling.new) (squares end filling.new.ranks filling.new.left rest)))
+        (λ fault. (end : ℕ) (rest : Signs) → squares end filling.old.ranks filling.old.left (sign at found rest) ≡ Err fault) }
+{
+    match found {
+        Sign::Broken => return Err(TextFault::BadPiece(at)),
+        Sign::Slash => {
+            if filling.left > 0 || filling.ranks == 0 {
+                return Err(TextFault::BadRow(at));
+            }
+            filling.ranks -= 1;
+            filling.left = 9;
+        }
+        Sign::Run(count) => {
+            if count > filling.left {
+                return Err(TextFault::BadRow(at));
+            }
+            filling.left -= count;
+        }
+        Sign::Stands(piece) => {
+            if filling.left == 0 {
+                return Err(TextFault::BadRow(at));
+            }
+            filling.read[81 - 9 * filling.ranks as usize - filling.left as usize] = Some(piece);
+            filling.left -= 1;
+        }
+    }
+    Ok(())
+}
+
+fn nothing_filled() -> Filling
+    ensures filling { IsFilling result }
+    ensures nothing { filled result ≡ [] }
+    ensures ranks { result.ranks ≡ 8 }
+    ensures left { result.left ≡ 9 }
+{
+    Filling {
+        read: [None; 81],
+        ranks: 8,
+        left: 9,
+    }
+}
+
+#[tactic(auto, unfolding(crate::specs::Signs::signs, crate::specs::Signs::squares), using(crate::proofs::Filling::in_front_none))]
+// The squares of the board's field, in the order of reading.
+fn squares_of(text: &[u8], at: usize) -> Result<[Option<Piece>; 81], TextFault>
+    requires { at + length text.now < 2 ^ 64 }
+    ensures { Gives (λ read. read) result (squares (at + length text.now) 8 9 (signs at text.now)) }
+{
+    let end = at + text.len();
+    let mut filling = nothing_filled();
+    let mut rest = text;
+    let mut here = at;
+    while !rest.is_empty() {
+        let (found, size) = sign_of(rest);
+        take_sign(&mut filling, found, here)?;
+        here += size;
+        rest = &rest[size..];
+    }
+    if filling.ranks > 0 || filling.left > 0 {
+        return Err(TextFault::BadRow(end));
+    }
+    Ok(filling.read)
+}
+
+#[tactic(auto, unfolding(crate::specs::Signs::cells_of))]
+// The cells by the number of the square, from the squares in the order of reading.
+fn cells_of(read: &[Option<Piece>; 81]) -> [Option<Piece>; 81]
+    ensures { result ≡ cells_of read.now }
+{
+    let mut cells = [None; 81];
+    for square in 0..81 {
+        cells[square] = read[9 * (square % 9) + (8 - square / 9)];
+    }
+    cells
+}
+
+#[tactic(auto, unfolding(crate::specs::Reading::cells_at))]
+// The cells of the board's field, by the number of the square.
+pub fn board_of(text: &[u8], at: usize) -> Result<[Option<Piece>; 81], TextFault>
+    requires { at + length text.now < 2 ^ 64 }
+    ensures { Gives (λ cells. cells) result (cells_at at text.now) }
+{
+    let read = squares_of(text, at)?;
+    Ok(cells_of(&read))
+}

@@ -1,0 +1,177 @@
+// Positions as texts.
+ghost use Rattle.std.specs.Prelude.{◌≡◌, ◌≢◌, ◌≤◌, ◌<◌, ◌+◌, ◌++◌, ◌∷◌, [], List, ℕ, IfOk, OnOk};
+ghost use Rattle.board_core.specs.Board.{Board, held, hand_of};
+ghost use Rattle.board_core.specs.Kept.{IsKept};
+ghost use Rattle.board_core.specs.declared.piece.Kind.TheVariants.{King};
+ghost use Rattle.board_core.specs.declared.piece.Side.TheVariants.{Black, White};
+ghost use Rattle.sfen_text.specs.Pieces.{kind_letter, letter_of, piece_text};
+ghost use Rattle.sfen_text.specs.Spelling.{row_of, run_text, row_text, slashed_row, board_text, side_letter, count_text, held_text, hand_text, hands_text, sfen_of};
+
+use crate::NoMemory;
+use board_core::{Hand, Kind, Piece, Position, Side, Square};
+use std::alloc::Global;
+
+fn capital(kind: Kind) -> u8
+    ensures letter { result ≡ kind_letter kind }
+    ensures capital { result < 91 }
+{
+    match kind {
+        Kind::Pawn => b'P',
+        Kind::Lance => b'L',
+        Kind::Knight => b'N',
+        Kind::Silver => b'S',
+        Kind::Gold => b'G',
+        Kind::Bishop => b'B',
+        Kind::Rook => b'R',
+        Kind::King => b'K',
+    }
+}
+
+fn letter(side: Side, kind: Kind) -> u8
+    ensures { result ≡ letter_of side kind }
+{
+    match side {
+        Side::Black => capital(kind),
+        Side::White => capital(kind) + 32,
+    }
+}
+
+fn put_piece(out: &mut Vec<u8>, piece: Piece) -> Result<(), NoMemory>
+    ensures { OnOk result (out.new.items ≡ out.old.items ++ piece_text piece) }
+{
+    if piece.promoted {
+        out.push(b'+')?;
+    }
+    out.push(letter(piece.side, piece.kind))?;
+    Ok(())
+}
+
+fn put_run(out: &mut Vec<u8>, run: u8) -> Result<(), NoMemory>
+    requires { run ≤ 9 }
+    ensures { OnOk result (out.new.items ≡ out.old.items ++ run_text run) }
+{
+    if run > 0 {
+        out.push(b'0' + run)?;
+    }
+    Ok(())
+}
+
+#[tactic(auto, using(crate::proofs::Writing::row_from_more), unfolding(crate::specs::Spelling::row_of))]
+fn put_row(out: &mut Vec<u8>, position: &Position, rank: u8) -> Result<(), NoMemory>
+    requires from { 1 ≤ rank }
+    requires to { rank ≤ 9 }
+    ensures { OnOk result (out.new.items ≡ out.old.items ++ row_text 0 (row_of position.now.cells rank)) }
+{
+    let mut run = 0;
+    for file in (1..10).rev() {
+        match position.piece_at(Square::on(file, rank)) {
+            None => run += 1,
+            Some(piece) => {
+                put_run(out, run)?;
+                put_piece(out, piece)?;
+                run = 0;
+            }
+        }
+    }
+    put_run(out, run)
+}
+
+fn put_board(out: &mut Vec<u8>, position: &Position) -> Result<(), NoMemory>
+    ensures { OnOk result (out.new.items ≡ out.old.items ++ board_text position.now.cells) }
+{
+    put_row(out, position, 1)?;
+    for rank in 2..10 {
+        out.push(b'/')?;
+        put_row(out, position, rank)?;
+    }
+    Ok(())
+}
+
+fn put_held(out: &mut Vec<u8>, side: Side, kind: Kind, count: u8) -> Result<(), NoMemory>
+    requires { count < 100 }
+    ensures { OnOk result (out.new.items ≡ out.old.items ++ held_text side kind count) }
+{
+    if count == 0 {
+        return Ok(());
+    }
+    if count >= 10 {
+        out.push(b'0' + count / 10)?;
+        out.push(b'0' + count % 10)?;
+    } else if count > 1 {
+        out.push(b'0' + count)?;
+    }
+    out.push(letter(side, kind))?;
+    Ok(())
+}
+
+fn put_kind(out: &mut Vec<u8>, position: &Position, side: Side, kind: Kind) -> Result<(), NoMemory>
+    requires { kind ≢ King }
+    ensures { OnOk result (out.new.items ≡ out.old.items ++ held_text side kind (held (hand_of position.now side) kind)) }
+{
+    position.cells();
+    put_held(out, side, kind, position.hand(side).count(kind))
+}
+
+fn put_hand(out: &mut Vec<u8>, position: &Position, side: Side) -> Result<(), NoMemory>
+    ensures { OnOk result (out.new.items ≡ out.old.items ++ hand_text side (hand_of position.now side)) }
+{
+    put_kind(out, position, side, Kind::Rook)?;
+    put_kind(out, position, side, Kind::Bishop)?;
+    put_kind(out, position, side, Kind::Gold)?;
+    put_kind(out, position, side, Kind::Silver)?;
+    put_kind(out, position, side, Kind::Knight)?;
+    put_kind(out, position, side, Kind::Lance)?;
+    put_kind(out, position, side, Kind::Pawn)
+}
+
+fn put_both(out: &mut Vec<u8>, position: &Position) -> Result<(), NoMemory>
+    ensures { OnOk result (out.new.items ≡ out.old.items ++ (hand_text Black position.now.black ++ hand_text White position.now.white)) }
+{
+    put_hand(out, position, Side::Black)?;
+    put_hand(out, position, Side::White)
+}
+
+fn put_hands(out: &mut Vec<u8>, position: &Position) -> Result<(), NoMemory>
+    ensures { OnOk result (out.new.items ≡ out.old.items ++ hands_text position.now.black position.now.white) }
+{
+    let before = out.len();
+    put_both(out, position)?;
+    if out.len() == before {
+        out.push(b'-')?;
+    }
+    Ok(())
+}
+
+fn side_byte(side: Side) -> u8
+    ensures { result ≡ side_letter side }
+{
+    match side {
+        Side::Black => b'b',
+        Side::White => b'w',
+    }
+}
+
+fn text_of(alloc: Global, position: &Position) -> Result<Vec<u8>, NoMemory>
+    ensures { IfOk result (λ text. text.items ≡ sfen_of position.now) }
+{
+    let mut text = Vec::new(alloc);
+    put_board(&mut text, position)?;
+    text.push(b' ')?;
+    text.push(side_byte(position.side()))?;
+    text.push(b' ')?;
+    put_hands(&mut text, position)?;
+    Ok(text)
+}
+
+/// The text of a position (SFEN): the board with longest runs of empty squares, the side to move, and the hands, a space
+/// between. In the hands Black's letters come first, each side's in the order R B G S N L P, each with its count before it
+/// where that is above 1; a dash where both are empty. No move number, no line feed. Answers `NoMemory` only where the
+/// memory ends.
+pub fn write_sfen(alloc: Global, position: &Position) -> Result<Vec<u8>, NoMemory>
+    ensures text { IfOk result (λ text. text.items ≡ sfen_of position.now) }
+    // No other position has this text.
+    ensures apart { IfOk result (λ text. (other : Board) → IsKept other → sfen_of other ≡ text.items → other ≡ position.now) }
+{
+    position.cells();
+    text_of(alloc, position)
+}

@@ -1,0 +1,3 @@
+pub mod MoveText
+pub mod Padded
+pub mod Lines

@@ -1,0 +1,77 @@
+// Texts as moves.
+ghost use Rattle.std.specs.Prelude.{◌≡◌, ◌≢◌, ℕ, List, [], ◌∷◌, Some, IfSome, IfNone, false};
+ghost use Rattle.board_core.specs.declared.moves.Move.{Move};
+ghost use Rattle.board_core.specs.declared.square.Square.{Square};
+ghost use Rattle.board_core.specs.declared.piece.Kind.{Kind};
+ghost use Rattle.board_core.specs.declared.piece.Kind.TheVariants.{King};
+ghost use Rattle.usi_text.specs.MoveText.{square_text, kind_letter, promotion_text, move_text, HasText, IsRead};
+
+use board_core::{Kind, Move, Square};
+
+fn square_of(file: u8, rank: u8) -> Option<Square>
+    ensures found { IfSome result (λ s. square_text s.number ≡ file ∷ rank ∷ []) }
+    ensures none { IfNone result ((s : Square) → square_text s.number ≡ file ∷ rank ∷ [] → ⊥) }
+{
+    if matches!(file, b'1'..=b'9') && matches!(rank, b'a'..=b'i') {
+        Some(Square::on(file - b'0', rank - b'a' + 1))
+    } else {
+        None
+    }
+}
+
+fn dropped_kind(letter: u8) -> Option<Kind>
+    ensures found { IfSome result (λ k. (kind_letter k ≡ letter) × (k ≢ King)) }
+    ensures none { IfNone result ((k : Kind) → k ≢ King → kind_letter k ≡ letter → ⊥) }
+{
+    match letter {
+        b'P' => Some(Kind::Pawn),
+        b'L' => Some(Kind::Lance),
+        b'N' => Some(Kind::Knight),
+        b'S' => Some(Kind::Silver),
+        b'G' => Some(Kind::Gold),
+        b'B' => Some(Kind::Bishop),
+        b'R' => Some(Kind::Rook),
+        _ => None,
+    }
+}
+
+// No star stands second in a text of four bytes: that is a drop's.
+fn board_move(f: u8, r: u8, g: u8, s: u8, promote: bool) -> Option<Move>
+    requires { promote ≡ false → r ≢ 42 }
+    ensures { IsRead (f ∷ r ∷ g ∷ s ∷ promotion_text promote) result }
+{
+    let from = square_of(f, r)?;
+    let to = square_of(g, s)?;
+    if from == to {
+        return None;
+    }
+    Some(Move::Board { from, to, promote })
+}
+
+fn drop_move(letter: u8, file: u8, rank: u8) -> Option<Move>
+    ensures { IsRead (letter ∷ 42 ∷ file ∷ rank ∷ []) result }
+{
+    let kind = dropped_kind(letter)?;
+    let to = square_of(file, rank)?;
+    Some(Move::Drop { kind, to })
+}
+
+fn move_of(bytes: &[u8]) -> Option<Move>
+    ensures { IsRead bytes.now result }
+{
+    match bytes {
+        [letter, b'*', file, rank] => drop_move(*letter, *file, *rank),
+        [f, r, g, s] => board_move(*f, *r, *g, *s, false),
+        [f, r, g, s, b'+'] => board_move(*f, *r, *g, *s, true),
+        _ => None,
+    }
+}
+
+/// The move whose text the bytes are (USI protocol: moves); none where they are no move's text, as for a king's drop and
+/// for a board move to where it began. Takes no memory.
+pub fn read_move(bytes: &[u8]) -> Option<Move>
+    ensures exact { IsRead bytes.now result }
+    ensures again { (m : Move) → HasText m → bytes.now ≡ move_text m → result ≡ Some m }
+{
+    move_of(bytes)
+}
