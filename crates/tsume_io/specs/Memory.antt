@@ -1,5 +1,5 @@
 -- What a source and a sink in memory are: bytes, and a script that says how their calls go.
-use Rattle.std.specs.Prelude.{◌≡◌, ℕ, ◌+◌, ◌-◌, ◌<◌, ◌≤◌, min, List, length, drop, Contains, ◌⊎◌}
+use Rattle.std.specs.Prelude.{◌≡◌, ℕ, ◌+◌, ◌<◌, min, List, length, drop, Contains}
 use Rattle.tsume_io.specs.Faults.{one_more}
 use Rattle.tsume_io.specs.declared.script.Script.{Script}
 use Rattle.tsume_io.specs.declared.memory.MemSource.{MemSource}

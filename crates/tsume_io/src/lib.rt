@@ -23,3 +23,6 @@ pub use never_fails::NeverFails;
 pub use sink::{Sink, WriteFault, write_all};
 pub use source::{ReadEnd, Source, read_all};
 pub use standard::{StdSink, StdSource};
+
+#[cfg(test)]
+mod tests;

@@ -166,9 +166,8 @@ impl Sink for MemSink {
     {
         let count = self.script.piece.min(piece.len());
         self.script.call(self.room - self.kept.len() < count)?;
-        match self.kept.extend_from_slice(&piece[..count]) {
-            Ok(()) => Ok(count),
-            Err(_) => Err(Failed),
-        }
+        // The room was taken at the start.
+        self.kept.extend_from_slice(&piece[..count]).unwrap();
+        Ok(count)
     }
 }

@@ -15,9 +15,20 @@ pub struct StdSource<R> {
 }
 
 impl<R: io::Read + Drop> StdSource<R> {
+    ghost use Rattle.tsume_io.specs.Standard.{source_faults};
+
     /// A source over this reader.
-    pub fn new(reader: R) -> StdSource<R> {
+    pub fn new(reader: R) -> StdSource<R>
+        ensures { source_faults result ≡ 0 }
+    {
         StdSource { reader, faults: 0 }
+    }
+
+    /// How many reads failed, up to 2^64 - 1.
+    pub fn faults(&self) -> u64
+        ensures { result ≡ source_faults self.now }
+    {
+        self.faults
     }
 }
 
@@ -47,9 +58,20 @@ pub struct StdSink<W> {
 }
 
 impl<W: io::Write + Drop> StdSink<W> {
+    ghost use Rattle.tsume_io.specs.Standard.{sink_faults};
+
     /// A sink over this writer.
-    pub fn new(writer: W) -> StdSink<W> {
+    pub fn new(writer: W) -> StdSink<W>
+        ensures { sink_faults result ≡ 0 }
+    {
         StdSink { writer, faults: 0 }
+    }
+
+    /// How many writes failed, up to 2^64 - 1.
+    pub fn faults(&self) -> u64
+        ensures { result ≡ sink_faults self.now }
+    {
+        self.faults
     }
 }
 

@@ -1,4 +1,4 @@
-use Rattle.std.proofs.Common.{◌+◌, arith, rules, ap, sym, ◌∙◌, ◌++◌, drop, length}
+use Rattle.std.proofs.Common.{◌+◌, arith, rules, ap, sym, ◌∙◌, ◌++◌, drop}
 use Rattle.tsume_io.proofs.Pieces.{copied, take-front}
 use Rattle.tsume_io.proofs.memory.MemSourceSource.read.Goals as goal
 

@@ -1,4 +1,4 @@
-use Rattle.std.proofs.Common.{arith, rules}
+use Rattle.std.proofs.Common.{arith}
 use Rattle.tsume_io.proofs.Pieces.{copied}
 use Rattle.tsume_io.proofs.never_fails.NeverFailsSource.read.Goals as goal
 
