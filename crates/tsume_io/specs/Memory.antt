@@ -17,6 +17,14 @@ pub record Counts (old new : Script) (faults : ℕ) : Type 0 where
   pub piece : new.piece ≡ old.piece
   pub failing : new.failing.items ≡ old.failing.items
 
+-- One call more was made, and it didn't fail.
+abbrev pub Passes : Script → Script → Type 0
+Passes old new = Counts old new old.faults
+
+-- One call more was made, and it failed.
+abbrev pub Fails : Script → Script → Type 0
+Fails old new = Counts old new (one_more old.faults)
+
 -- A script before its first call.
 pub record IsFresh (script : Script) (piece : ℕ) (failing : List ℕ) : Type 0 where
   pub calls : script.calls ≡ 0
@@ -48,11 +56,11 @@ bytes_kept sink = sink.kept.items
 abbrev pub room_of : MemSink → ℕ
 room_of sink = sink.room
 
--- how many bytes a call that doesn't fail keeps
+-- how many bytes a call that doesn't fail keeps, of so many
 abbrev pub bytes_taken : MemSink → ℕ → ℕ
-bytes_taken sink length = min sink.script.piece length
+bytes_taken sink size = min sink.script.piece size
 
--- The next call would pass the room.
+-- A write of so many bytes would pass the room.
 abbrev pub IsFull : MemSink → ℕ → Type 0
 IsFull sink size = room_of sink < length (bytes_kept sink) + bytes_taken sink size
 

@@ -1,6 +1,6 @@
 // A source and a sink in memory, whose calls go as a script says. Tests stand on them.
 ghost use Rattle.std.specs.Prelude.{◌≡◌, ◌↔◌, ◌⊎◌, ◌<◌, ◌≤◌, ◌++◌, [], length, take, Some, IfOk, OnOk, OnErr, IsErr, vec_len, vec_capacity};
-ghost use Rattle.tsume_io.specs.Faults.{Rose, one_more};
+ghost use Rattle.tsume_io.specs.Faults.{Rose};
 
 use crate::copy::copy_front;
 use crate::fault::{Failed, NoMemory};
@@ -57,7 +57,7 @@ impl MemSource {
 }
 
 impl Source for MemSource {
-    ghost use Rattle.tsume_io.specs.Memory.{Counts, IsFailingNext, source_script, bytes_left, bytes_given};
+    ghost use Rattle.tsume_io.specs.Memory.{Passes, Fails, IsFailingNext, source_script, bytes_left, bytes_given};
 
     ghost left = { λ s. Some (bytes_left s) };
 
@@ -66,17 +66,19 @@ impl Source for MemSource {
     fn read(&mut self, into: &mut [u8]) -> Result<usize, Failed>
         // As each source.
         ensures within { IfOk result (λ n. n ≤ length into.new) }
-        ensures took { IfOk result (λ n. bytes_left self.old ≡ take n into.new ++ bytes_left self.new) }
+        ensures took { IfOk result
+            (λ n. bytes_left self.old ≡ take n into.new ++ bytes_left self.new) }
         ensures end { IfOk result (λ n. n ≡ 0 → 0 < length into.new → bytes_left self.new ≡ []) }
-        ensures failed { OnErr result (Rose (source_script self.old).faults (source_script self.new).faults) }
+        ensures failed { OnErr result
+            (Rose (source_script self.old).faults (source_script self.new).faults) }
         ensures unchanged { OnErr result (bytes_left self.new ≡ bytes_left self.old) }
         ensures never_falls { (source_script self.old).faults ≤ (source_script self.new).faults }
 
         // As this one alone.
         ensures fails { IsErr result ↔ IsFailingNext (source_script self.old) }
         ensures given { IfOk result (λ n. n ≡ bytes_given self.old (length into.old)) }
-        ensures ok { OnOk result (Counts (source_script self.old) (source_script self.new) (source_script self.old).faults) }
-        ensures err { OnErr result (Counts (source_script self.old) (source_script self.new) (one_more (source_script self.old).faults)) }
+        ensures ok { OnOk result (Passes (source_script self.old) (source_script self.new)) }
+        ensures err { OnErr result (Fails (source_script self.old) (source_script self.new)) }
     {
         self.script.call(false)?;
         let most = self.script.piece.min(into.len());
@@ -142,7 +144,8 @@ impl MemSink {
 }
 
 impl Sink for MemSink {
-    ghost use Rattle.tsume_io.specs.Memory.{Counts, IsFailingNext, sink_script, bytes_kept, bytes_taken, room_of, IsFull};
+    ghost use Rattle.tsume_io.specs.Memory.{Passes, Fails, IsFailingNext, sink_script};
+    ghost use Rattle.tsume_io.specs.Memory.{bytes_kept, bytes_taken, room_of, IsFull};
     ghost use Rattle.tsume_io.specs.Sink.{IsWriteOf};
 
     ghost kept = { λ s. Some (bytes_kept s) };
@@ -152,17 +155,20 @@ impl Sink for MemSink {
     fn write(&mut self, piece: &[u8]) -> Result<usize, Failed>
         // As each sink.
         ensures count { IfOk result (λ n. IsWriteOf n piece.now) }
-        ensures grew { IfOk result (λ n. bytes_kept self.new ≡ bytes_kept self.old ++ take n piece.now) }
-        ensures failed { OnErr result (Rose (sink_script self.old).faults (sink_script self.new).faults) }
+        ensures grew { IfOk result
+            (λ n. bytes_kept self.new ≡ bytes_kept self.old ++ take n piece.now) }
+        ensures failed { OnErr result
+            (Rose (sink_script self.old).faults (sink_script self.new).faults) }
         ensures unchanged { OnErr result (bytes_kept self.new ≡ bytes_kept self.old) }
         ensures never_falls { (sink_script self.old).faults ≤ (sink_script self.new).faults }
 
         // As this one alone.
-        ensures fails { IsErr result ↔ (IsFailingNext (sink_script self.old) ⊎ IsFull self.old (length piece.now)) }
+        ensures fails { IsErr result
+            ↔ (IsFailingNext (sink_script self.old) ⊎ IsFull self.old (length piece.now)) }
         ensures taken { IfOk result (λ n. n ≡ bytes_taken self.old (length piece.now)) }
         ensures room { room_of self.new ≡ room_of self.old }
-        ensures ok { OnOk result (Counts (sink_script self.old) (sink_script self.new) (sink_script self.old).faults) }
-        ensures err { OnErr result (Counts (sink_script self.old) (sink_script self.new) (one_more (sink_script self.old).faults)) }
+        ensures ok { OnOk result (Passes (sink_script self.old) (sink_script self.new)) }
+        ensures err { OnErr result (Fails (sink_script self.old) (sink_script self.new)) }
     {
         let count = self.script.piece.min(piece.len());
         self.script.call(self.room - self.kept.len() < count)?;

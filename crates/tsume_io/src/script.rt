@@ -1,6 +1,5 @@
 // How the calls of a source or a sink in memory go.
 ghost use Rattle.std.specs.Prelude.{◌≡◌, ◌↔◌, ◌≤◌, ◌⊎◌, IsTrue, IsErr, OnOk, OnErr};
-ghost use Rattle.tsume_io.specs.Faults.{one_more};
 
 use crate::Failed;
 use crate::fault::raised;
@@ -19,7 +18,7 @@ pub struct Script {
 }
 
 impl Script {
-    ghost use Rattle.tsume_io.specs.Memory.{Counts, IsFailingNext, IsFresh};
+    ghost use Rattle.tsume_io.specs.Memory.{Passes, Fails, IsFailingNext, IsFresh};
 
     pub fn new(piece: usize, failing: Vec<u64>) -> Script
         requires { 1 ≤ piece }
@@ -36,8 +35,8 @@ impl Script {
     // Counts the next call, and fails where it is listed, or where `refuses` says so.
     pub fn call(&mut self, refuses: bool) -> Result<(), Failed>
         ensures fails { IsErr result ↔ (IsFailingNext self.old ⊎ IsTrue refuses) }
-        ensures ok { OnOk result (Counts self.old self.new self.old.faults) }
-        ensures err { OnErr result (Counts self.old self.new (one_more self.old.faults)) }
+        ensures ok { OnOk result (Passes self.old self.new) }
+        ensures err { OnErr result (Fails self.old self.new) }
         ensures never_falls { self.old.faults ≤ self.new.faults }
     {
         self.calls = raised(self.calls);

@@ -61,7 +61,8 @@ const PIECE: usize = 65_536;
 /// so a source that never ends is left after `limit` + 1 bytes. After a refusal, what was taken from
 /// the source is lost.
 pub fn read_all<S: Source>(alloc: Global, source: &mut S, limit: usize) -> Result<Vec<u8>, ReadEnd>
-    ensures whole { IfOk result (λ bytes. TookAll (S.left source.old) (S.left source.new) bytes.items) }
+    ensures whole { IfOk result
+        (λ bytes. TookAll (S.left source.old) (S.left source.new) bytes.items) }
     ensures within { IfOk result (λ bytes. length bytes.items ≤ limit) }
 
     // A fault is answered only where one was counted in this call.

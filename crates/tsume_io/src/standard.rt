@@ -1,6 +1,8 @@
-// std's readers and writers as a source and a sink: the edge that is trusted. Nothing is told of the
-// bytes there.
-ghost use Rattle.std.specs.Prelude.{◌≡◌, None};
+// std's readers and writers as a source and a sink: the edge that is trusted, since nothing is told of
+// a real file's bytes.
+ghost use Rattle.std.specs.Prelude.{◌≡◌, ◌≤◌, None, length, IfOk, OnErr};
+ghost use Rattle.std.specs.Io.KnownBytes.{ReadConsumes, WriteAppends};
+ghost use Rattle.tsume_io.specs.Faults.{Rose};
 
 use crate::fault::{Failed, raised};
 use crate::{Sink, Source};
@@ -15,11 +17,12 @@ pub struct StdSource<R> {
 }
 
 impl<R: io::Read + Drop> StdSource<R> {
-    ghost use Rattle.tsume_io.specs.Standard.{source_faults};
+    ghost use Rattle.tsume_io.specs.Standard.{reader_of, source_faults};
 
     /// A source over this reader.
     pub fn new(reader: R) -> StdSource<R>
-        ensures { source_faults result ≡ 0 }
+        ensures reader { reader_of result ≡ reader }
+        ensures faults { source_faults result ≡ 0 }
     {
         StdSource { reader, faults: 0 }
     }
@@ -33,11 +36,22 @@ impl<R: io::Read + Drop> StdSource<R> {
 }
 
 impl<R: io::Read + Drop> Source for StdSource<R> {
+    ghost use Rattle.tsume_io.specs.Standard.{reader_of, source_faults};
+
     ghost left = { λ _. None };
 
-    ghost faults = { λ s. s.faults };
+    ghost faults = { λ s. source_faults s };
 
-    fn read(&mut self, into: &mut [u8]) -> Result<usize, Failed> {
+    fn read(&mut self, into: &mut [u8]) -> Result<usize, Failed>
+        // As each source that doesn't tell its bytes.
+        ensures within { IfOk result (λ n. n ≤ length into.new) }
+        ensures failed { OnErr result (Rose (source_faults self.old) (source_faults self.new)) }
+        ensures never_falls { source_faults self.old ≤ source_faults self.new }
+
+        // What std tells of the reader's bytes holds here too.
+        ensures reader { ReadConsumes (R.remaining (reader_of self.old))
+            (R.remaining (reader_of self.new)) result into.new }
+    {
         match self.reader.read(into) {
             Ok(count) => Ok(count),
             Err(_) => {
@@ -58,11 +72,12 @@ pub struct StdSink<W> {
 }
 
 impl<W: io::Write + Drop> StdSink<W> {
-    ghost use Rattle.tsume_io.specs.Standard.{sink_faults};
+    ghost use Rattle.tsume_io.specs.Standard.{writer_of, sink_faults};
 
     /// A sink over this writer.
     pub fn new(writer: W) -> StdSink<W>
-        ensures { sink_faults result ≡ 0 }
+        ensures writer { writer_of result ≡ writer }
+        ensures faults { sink_faults result ≡ 0 }
     {
         StdSink { writer, faults: 0 }
     }
@@ -76,11 +91,23 @@ impl<W: io::Write + Drop> StdSink<W> {
 }
 
 impl<W: io::Write + Drop> Sink for StdSink<W> {
+    ghost use Rattle.tsume_io.specs.Sink.{IsWriteOf};
+    ghost use Rattle.tsume_io.specs.Standard.{writer_of, sink_faults};
+
     ghost kept = { λ _. None };
 
-    ghost faults = { λ s. s.faults };
+    ghost faults = { λ s. sink_faults s };
 
-    fn write(&mut self, piece: &[u8]) -> Result<usize, Failed> {
+    fn write(&mut self, piece: &[u8]) -> Result<usize, Failed>
+        // As each sink that doesn't tell its bytes.
+        ensures count { IfOk result (λ n. IsWriteOf n piece.now) }
+        ensures failed { OnErr result (Rose (sink_faults self.old) (sink_faults self.new)) }
+        ensures never_falls { sink_faults self.old ≤ sink_faults self.new }
+
+        // What std tells of the writer's bytes holds here too.
+        ensures writer { WriteAppends (W.contents (writer_of self.old))
+            (W.contents (writer_of self.new)) result piece.now }
+    {
         match self.writer.write(piece) {
             Ok(count) if count > 0 || piece.is_empty() => Ok(count),
             _ => {
