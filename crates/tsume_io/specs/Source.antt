@@ -1,5 +1,5 @@
 -- What a read does to the bytes that a source has left. They are `None` where the source doesn't tell them.
-use Rattle.std.specs.Prelude.{◌≡◌, ℕ, ◌<◌, ◌≤◌, List, [], ◌++◌, length, Option, None, Some}
+use Rattle.std.specs.Prelude.{◌≡◌, ℕ, ◌+◌, ◌<◌, ◌≤◌, List, [], ◌++◌, length, Option, None, Some}
 
 -- These bytes were taken from the front of those that were left, and no others. What wasn't told isn't told now.
 abbrev pub Took : Option (List ℕ) → Option (List ℕ) → List ℕ → Type 0
@@ -24,9 +24,9 @@ TookAll (Some before) None taken = ⊥
 abbrev pub TookAtMost : ℕ → Option (List ℕ) → Option (List ℕ) → Type 0
 TookAtMost limit before after = (taken : List ℕ) × (length taken ≤ limit) × Took before after taken
 
--- More than `limit` bytes were taken.
-abbrev pub TookMoreThan : ℕ → Option (List ℕ) → Option (List ℕ) → Type 0
-TookMoreThan limit before after = (taken : List ℕ) × (limit < length taken) × Took before after taken
+-- One byte more than `limit` was taken.
+abbrev pub TookOneMoreThan : ℕ → Option (List ℕ) → Option (List ℕ) → Type 0
+TookOneMoreThan limit before after = (taken : List ℕ) × (length taken ≡ limit + 1) × Took before after taken
 
 -- More than `limit` bytes are left.
 abbrev pub HasMoreThan : ℕ → Option (List ℕ) → Type 0

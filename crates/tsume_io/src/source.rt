@@ -1,7 +1,7 @@
 // Where bytes come from, and a read of all of them.
 ghost use Rattle.std.specs.Prelude.{◌≡◌, ℕ, ◌<◌, ◌≤◌, List, Option, length, take, IfOk, OnErr, IsErrOf, vec_len};
 ghost use Rattle.tsume_io.specs.Faults.{Rose};
-ghost use Rattle.tsume_io.specs.Source.{Took, TookAll, TookAtMost, TookMoreThan, HasMoreThan, IsAtEnd};
+ghost use Rattle.tsume_io.specs.Source.{Took, TookAll, TookAtMost, TookOneMoreThan, HasMoreThan, IsAtEnd};
 ghost use Rattle.tsume_io.specs.declared.source.ReadEnd.TheVariants.{Fault as FaultEnd, NoMemory as NoMemoryEnd};
 
 use crate::Failed;
@@ -58,8 +58,9 @@ impl From<AllocError> for ReadEnd {
 const PIECE: usize = 65_536;
 
 /// Reads the bytes of a source to their end, at most `limit` of them. Every turn takes a byte or ends,
-/// so a source that never ends is left after `limit` + 1 bytes. After a refusal, what was taken from
-/// the source is lost.
+/// and a source that never ends is left after `limit` + 1 bytes. It asks for pieces of 64 KiB, and takes
+/// memory for the bytes that came, which grows by doubling. After a refusal, what was taken from the
+/// source is lost.
 pub fn read_all<S: Source>(alloc: Global, source: &mut S, limit: usize) -> Result<Vec<u8>, ReadEnd>
     ensures whole { IfOk result
         (λ bytes. TookAll (S.left source.old) (S.left source.new) bytes.items) }
@@ -73,7 +74,7 @@ pub fn read_all<S: Source>(alloc: Global, source: &mut S, limit: usize) -> Resul
 
     ensures too_long { IsErrOf result ReadEnd.TooLong → HasMoreThan limit (S.left source.old) }
     ensures too_long_taken { IsErrOf result ReadEnd.TooLong
-        → TookMoreThan limit (S.left source.old) (S.left source.new) }
+        → TookOneMoreThan limit (S.left source.old) (S.left source.new) }
     ensures no_memory_within { IsErrOf result ReadEnd.NoMemory
         → TookAtMost limit (S.left source.old) (S.left source.new) }
 {

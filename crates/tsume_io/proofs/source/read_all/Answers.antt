@@ -1,4 +1,5 @@
-use Rattle.std.proofs.Common.{arith, ◌++◌, take, length-append, length-take-le}
+use Rattle.std.proofs.Common.{◌+◌, arith, ◌++◌, take, length-append, length-take-le}
+use Rattle.std.proofs.lemmas.List.{length-take}
 use Rattle.tsume_io.proofs.Pieces.{Took-append}
 use Rattle.tsume_io.proofs.source.read_all.Goals as goal
 
@@ -10,7 +11,7 @@ returns-then-limit-len-clause-too_long_taken g c =
     let read = c.in_ok-count.ensures in
     λ _. (
       before ++ more,
-      omega (arith, length-append before more, length-take-le c.in_ok-count.count c.read.new.into read.within),
+      omega (arith, length-append before more, length-take-le c.in_ok-count.count c.read.new.into read.within, length-take (c.min-most.result + 1) c.loop-bytes.piece),
       Took-append _ _ _ before more c.loop-bytes.invariant.took read.took,
     )
 
