@@ -1,0 +1,16 @@
+// Where a worker may be held up.
+
+/// A gate that a worker passes after each unit of work that it has drawn, with no lock held. Workers
+/// and units are numbered from 1. It answers nothing, so no result depends on it.
+pub trait Gate: Sync {
+    /// The worker of this number has drawn the unit of this number.
+    fn pass(&self, worker: u32, unit: u64);
+}
+
+/// A gate that holds nobody up.
+#[derive(Clone, Copy, Debug, PartialEq, Eq)]
+pub struct OpenGate;
+
+impl Gate for OpenGate {
+    fn pass(&self, _worker: u32, _unit: u64) {}
+}

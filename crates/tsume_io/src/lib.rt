@@ -1,0 +1,28 @@
+//! What the program knows of the outside world: a source of bytes, a sink for bytes, and a gate that
+//! a worker passes. Code that is generic over these traits reaches nothing else, and can't raise a
+//! count of faults itself, so "a fault only where the count rose" rules out a body that gives up.
+//!
+//! `read_all` and `write_all` are the two calls that the layers above make. `StdSource` and `StdSink`
+//! adapt std's readers and writers; `MemSource`, `MemSink` and `NeverFails` stand in memory.
+#![tactic(auto)]
+
+mod copy;
+mod fault;
+mod gate;
+mod memory;
+mod never_fails;
+mod script;
+mod sink;
+mod source;
+mod standard;
+
+pub use fault::{Failed, NoMemory};
+pub use gate::{Gate, OpenGate};
+pub use memory::{MemSink, MemSource};
+pub use never_fails::NeverFails;
+pub use sink::{Sink, WriteFault, write_all};
+pub use source::{ReadEnd, Source, read_all};
+pub use standard::{StdSink, StdSource};
+
+#[cfg(test)]
+mod tests;

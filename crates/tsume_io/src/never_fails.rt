@@ -1,0 +1,46 @@
+// A source whose calls don't fail.
+ghost use Rattle.std.specs.Prelude.{◌≡◌, ◌≤◌, Some, vec_len};
+
+use crate::copy::copy_front;
+use crate::{Failed, Source};
+
+/// A source of these bytes that never fails: its count of faults is the constant 0, so `read_all` of it
+/// can't end in a fault. It gives as many bytes a call as there is place for.
+#[derive(Drop)]
+pub struct NeverFails {
+    bytes: Vec<u8>,
+    at: usize,
+    ghost in_bytes: { at ≤ vec_len bytes },
+}
+
+impl NeverFails {
+    ghost use Rattle.tsume_io.specs.Memory.{rest_of};
+
+    /// A source of these bytes.
+    pub fn new(bytes: Vec<u8>) -> NeverFails
+        ensures { rest_of result ≡ bytes.items }
+    {
+        NeverFails { bytes, at: 0 }
+    }
+
+    /// The bytes that it still has to give.
+    pub fn left(&self) -> &[u8]
+        ensures { result.now ≡ rest_of self.now }
+    {
+        &self.bytes[self.at..]
+    }
+}
+
+impl Source for NeverFails {
+    ghost use Rattle.tsume_io.specs.Memory.{rest_of};
+
+    ghost left = { λ s. Some (rest_of s) };
+
+    ghost faults = { λ _. 0 };
+
+    fn read(&mut self, into: &mut [u8]) -> Result<usize, Failed> {
+        let count = copy_front(self.left(), into);
+        self.at += count;
+        Ok(count)
+    }
+}

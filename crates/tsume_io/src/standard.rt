@@ -1,0 +1,119 @@
+// std's readers and writers as a source and a sink: the edge that is trusted, since nothing is told of
+// a real file's bytes.
+ghost use Rattle.std.specs.Prelude.{◌≡◌, ◌≤◌, None, length, IfOk, OnErr};
+ghost use Rattle.std.specs.Io.KnownBytes.{ReadConsumes, WriteAppends};
+ghost use Rattle.tsume_io.specs.Faults.{Rose};
+
+use crate::fault::{Failed, raised};
+use crate::{Sink, Source};
+use std::io;
+
+/// A reader of std as a source. It tells nothing of its bytes. Each error of the reader counts as a
+/// fault, an interrupted read too.
+#[derive(Drop)]
+pub struct StdSource<R> {
+    reader: R,
+    faults: u64,
+}
+
+impl<R: io::Read + Drop> StdSource<R> {
+    ghost use Rattle.tsume_io.specs.Standard.{reader_of, source_faults};
+
+    /// A source over this reader.
+    pub fn new(reader: R) -> StdSource<R>
+        ensures reader { reader_of result ≡ reader }
+        ensures faults { source_faults result ≡ 0 }
+    {
+        StdSource { reader, faults: 0 }
+    }
+
+    /// How many reads failed, up to 2^64 - 1.
+    pub fn faults(&self) -> u64
+        ensures { result ≡ source_faults self.now }
+    {
+        self.faults
+    }
+}
+
+impl<R: io::Read + Drop> Source for StdSource<R> {
+    ghost use Rattle.tsume_io.specs.Standard.{reader_of, source_faults};
+
+    ghost left = { λ _. None };
+
+    ghost faults = { λ s. source_faults s };
+
+    fn read(&mut self, into: &mut [u8]) -> Result<usize, Failed>
+        // As each source that doesn't tell its bytes.
+        ensures within { IfOk result (λ n. n ≤ length into.new) }
+        ensures failed { OnErr result (Rose (source_faults self.old) (source_faults self.new)) }
+        ensures never_falls { source_faults self.old ≤ source_faults self.new }
+
+        // What std tells of the reader's bytes holds here too.
+        ensures reader { ReadConsumes (R.remaining (reader_of self.old))
+            (R.remaining (reader_of self.new)) result into.new }
+    {
+        match self.reader.read(into) {
+            Ok(count) => Ok(count),
+            Err(_) => {
+                self.faults = raised(self.faults);
+                Err(Failed)
+            }
+        }
+    }
+}
+
+/// A writer of std as a sink. It tells nothing of its bytes. Each error of the writer counts as a
+/// fault, an interrupted write too, and so does a write that takes nothing of a piece that isn't
+/// empty. The sink never flushes: give it a writer that holds nothing back.
+#[derive(Drop)]
+pub struct StdSink<W> {
+    writer: W,
+    faults: u64,
+}
+
+impl<W: io::Write + Drop> StdSink<W> {
+    ghost use Rattle.tsume_io.specs.Standard.{writer_of, sink_faults};
+
+    /// A sink over this writer.
+    pub fn new(writer: W) -> StdSink<W>
+        ensures writer { writer_of result ≡ writer }
+        ensures faults { sink_faults result ≡ 0 }
+    {
+        StdSink { writer, faults: 0 }
+    }
+
+    /// How many writes failed, up to 2^64 - 1.
+    pub fn faults(&self) -> u64
+        ensures { result ≡ sink_faults self.now }
+    {
+        self.faults
+    }
+}
+
+impl<W: io::Write + Drop> Sink for StdSink<W> {
+    ghost use Rattle.tsume_io.specs.Sink.{IsWriteOf};
+    ghost use Rattle.tsume_io.specs.Standard.{writer_of, sink_faults};
+
+    ghost kept = { λ _. None };
+
+    ghost faults = { λ s. sink_faults s };
+
+    fn write(&mut self, piece: &[u8]) -> Result<usize, Failed>
+        // As each sink that doesn't tell its bytes.
+        ensures count { IfOk result (λ n. IsWriteOf n piece.now) }
+        ensures failed { OnErr result (Rose (sink_faults self.old) (sink_faults self.new)) }
+        ensures never_falls { sink_faults self.old ≤ sink_faults self.new }
+
+        // What std tells of the writer's bytes holds here too.
+        ensures writer { WriteAppends (W.contents (writer_of self.old))
+            (W.contents (writer_of self.new)) result piece.now }
+    {
+        match self.writer.write(piece) {
+            Ok(count) if count > 0 || piece.is_empty() => Ok(count),
+            _ => {
+                self.faults = raised(self.faults);
+                Err(Failed)
+            }
+        }
+    }
+}

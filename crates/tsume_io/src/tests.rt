@@ -1,0 +1,168 @@
+// Tables of pieces, of failing calls and of limits, and one look at each end of the outside.
+ghost use Rattle.std.specs.Prelude.{◌≤◌, IfOk, IsErrOf};
+
+use super::*;
+use std::alloc::Global;
+use std::io;
+use std::test::Fail;
+
+const LETTERS: [u8; 28] = *b"the quick brown fox jumps on";
+
+// The letters, read and written again in such pieces.
+fn copied(alloc: Global, piece: usize) -> Result<Vec<u8>, Fail>
+    requires { 1 ≤ piece }
+{
+    let mut source = MemSource::make(LETTERS.to_vec(alloc)?, piece, Vec::new(alloc));
+    let bytes = read_all(alloc, &mut source, 28)?;
+    let mut sink = MemSink::make(alloc, 28, piece, Vec::new(alloc))?;
+    write_all(&mut sink, &bytes)?;
+    Ok(sink.kept().to_vec(alloc)?)
+}
+
+#[test]
+fn any_pieces_make_the_same_bytes(rt: HostRuntime) -> Result<(), Fail> {
+    let alloc = rt.alloc();
+    for copy in [copied(alloc, 1)?, copied(alloc, 2)?, copied(alloc, 7)?] {
+        assert_eq!(rt; copy.as_slice(), LETTERS.as_slice());
+    }
+    Ok(())
+}
+
+#[test]
+fn a_source_may_fail_at_each_call(rt: HostRuntime) -> Result<(), Fail> {
+    let alloc = rt.alloc();
+    // The last of the 29 calls finds the end.
+    for call in 1..30u64 {
+        let failing = vec![in alloc; call]?;
+        let mut source = MemSource::make(LETTERS.to_vec(alloc)?, 1, failing);
+        let end = read_all(alloc, &mut source, 28).err();
+        assert_eq!(rt; end, Some(ReadEnd::Fault), "at call {call}");
+        assert_eq!(rt; (source.calls(), source.faults()), (call, 1));
+        // The bytes of the calls before it are taken, and no others.
+        assert_eq!(rt; source.left().len() as u64, 29 - call);
+    }
+    Ok(())
+}
+
+#[test]
+fn a_sink_may_fail_at_each_call(rt: HostRuntime) -> Result<(), Fail> {
+    let alloc = rt.alloc();
+    let bytes: Vec<u8> = (0..107u8).collect(alloc)?;
+    for call in 1..108u64 {
+        let mut sink = MemSink::make(alloc, 107, 1, vec![in alloc; call]?)?;
+        assert_eq!(rt;
+            write_all(&mut sink, &bytes),
+            Err(WriteFault),
+            "at call {call}"
+        );
+        assert_eq!(rt; (sink.calls(), sink.faults()), (call, 1));
+        let kept: Vec<u8> = (0..107u8).take(sink.kept().len()).collect(alloc)?;
+        assert_eq!(rt; sink.kept().len() as u64, call - 1);
+        assert_eq!(rt; sink.kept(), kept.as_slice());
+    }
+    let mut small = MemSink::make(alloc, 106, 7, Vec::new(alloc))?;
+    assert_eq!(rt;
+        write_all(&mut small, &bytes),
+        Err(WriteFault),
+        "no room for the last"
+    );
+    assert_eq!(rt; (small.kept().len(), small.faults()), (105, 1));
+    Ok(())
+}
+
+// Where nothing fails, no fault is answered.
+fn read_in_memory(alloc: Global, bytes: Vec<u8>, limit: usize) -> Result<usize, ReadEnd>
+    ensures { IsErrOf result ReadEnd.Fault → ⊥ }
+{
+    let mut source = NeverFails::new(bytes);
+    let bytes = read_all(alloc, &mut source, limit)?;
+    Ok(bytes.len())
+}
+
+#[test]
+fn one_byte_over_the_limit_is_too_long(rt: HostRuntime) -> Result<(), Fail> {
+    let alloc = rt.alloc();
+    let cases = [
+        (0, Err(ReadEnd::TooLong)),
+        (27, Err(ReadEnd::TooLong)),
+        (28, Ok(28)),
+        (29, Ok(28)),
+        (usize::MAX, Ok(28)),
+    ];
+    for (limit, want) in cases {
+        let read = read_in_memory(alloc, LETTERS.to_vec(alloc)?, limit);
+        assert_eq!(rt; read, want, "at {limit}");
+    }
+    // A fault that comes behind the byte too many isn't seen; one before it is.
+    for (call, want) in [(28u64, ReadEnd::Fault), (29, ReadEnd::TooLong)] {
+        let mut source = MemSource::make(LETTERS.to_vec(alloc)?, 1, vec![in alloc; call]?);
+        assert_eq!(rt;
+            read_all(alloc, &mut source, 27).err(),
+            Some(want),
+            "at call {call}"
+        );
+    }
+    Ok(())
+}
+
+// It gives or takes two bytes, then none, and fails from then on.
+#[derive(Drop)]
+struct Tired {
+    calls: u8,
+}
+
+impl Tired {
+    fn serve(&mut self, asked: usize) -> io::Result<usize>
+        ensures { IfOk result (λ n. n ≤ asked) }
+    {
+        self.calls = self.calls.saturating_add(1);
+        match self.calls {
+            1 => Ok(asked.min(2)),
+            2 => Ok(0),
+            _ => Err(io::Error::from(io::ErrorKind::Other)),
+        }
+    }
+}
+
+impl io::Read for Tired {
+    fn read(&mut self, buf: &mut [u8]) -> io::Result<usize> {
+        self.serve(buf.len())
+    }
+}
+
+impl io::Write for Tired {
+    fn write(&mut self, buf: &[u8]) -> io::Result<usize> {
+        self.serve(buf.len())
+    }
+
+    fn flush(&mut self) -> io::Result<()> {
+        Ok(())
+    }
+}
+
+#[test]
+fn a_reader_of_std_is_a_source(rt: HostRuntime) -> Result<(), Fail> {
+    let alloc = rt.alloc();
+    let mut source = StdSource::new(Tired { calls: 0 });
+    assert_eq!(rt;
+        read_all(alloc, &mut source, 9)?.as_slice(),
+        [0, 0].as_slice()
+    );
+    assert_eq!(rt; source.faults(), 0);
+    assert_eq!(rt; read_all(alloc, &mut source, 9).err(), Some(ReadEnd::Fault));
+    assert_eq!(rt; source.faults(), 1);
+    Ok(())
+}
+
+#[test]
+fn a_writer_of_std_is_a_sink(rt: HostRuntime) {
+    let mut sink = StdSink::new(Tired { calls: 0 });
+    assert_eq!(rt; sink.write(&LETTERS), Ok(2));
+    assert_eq!(rt; sink.write(&[]), Ok(0), "nothing is asked");
+    assert_eq!(rt; sink.faults(), 0);
+    let mut sink = StdSink::new(Tired { calls: 1 });
+    assert_eq!(rt; sink.write(&LETTERS), Err(Failed), "nothing is taken");
+    assert_eq!(rt; sink.write(&LETTERS), Err(Failed));
+    assert_eq!(rt; sink.faults(), 2);
+    OpenGate.pass(1, 1);
+}
