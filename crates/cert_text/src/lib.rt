@@ -7,5 +7,7 @@
 #![tactic(auto)]
 
 mod certificate;
+mod write;
 
 pub use certificate::{Certificate, EscapeCertificate, MateCertificate};
+pub use write::write_cert;
