@@ -8,14 +8,13 @@
 
 mod fault;
 mod hands;
-mod memory;
 mod pieces;
 mod read;
 mod squares;
 mod write;
 
+pub use board_core::NoMemory;
 pub use fault::TextFault;
-pub use memory::NoMemory;
 pub use read::read_sfen;
 pub use write::write_sfen;
 

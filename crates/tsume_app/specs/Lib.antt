@@ -1,2 +1,4 @@
 pub mod Input
 pub mod FirstMate
+pub mod Answer
+pub mod Run

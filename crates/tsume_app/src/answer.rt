@@ -1,6 +1,6 @@
 // What the program finds.
 use board_core::Move;
-use cert_text::MateCertificate;
+use cert_text::Certificate;
 use std::marker::Model;
 
 /// The moves of a mate: the attacker's and the defender's in turn, from the attacker's first. Contracts see the list.
@@ -39,6 +39,6 @@ impl MainLine {
 /// What was found out about a problem.
 #[derive(Drop)]
 pub enum Answer {
-    /// It is a mate: its certificate, and the main line.
-    Mate(MateCertificate, MainLine),
+    /// It is a mate: its certificate, of a mate, and the main line.
+    Mate(Certificate, MainLine),
 }

@@ -7,6 +7,8 @@
 mod answer;
 mod fault;
 mod first_mate;
+mod shown;
+mod text;
 
 pub use answer::{Answer, MainLine};
 pub use fault::{Fault, WordFault};

@@ -6,12 +6,11 @@
 #![tactic(auto)]
 
 mod lines;
-mod memory;
 mod read;
 mod write;
 
+pub use board_core::NoMemory;
 pub use lines::{mate_line, nomate_line, timeout_line};
-pub use memory::NoMemory;
 pub use read::read_move;
 pub use write::{MoveText, write_move};
 
