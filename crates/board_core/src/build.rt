@@ -1,6 +1,15 @@
 // Positions from their parts.
+ghost use Rattle.std.specs.Prelude.{◌≡◌, ◌≢◌, ◌<◌, ◌≤◌, ◌↔◌, ℕ, None, IsTrue, IfSome};
+ghost use Rattle.board_core.specs.Kind.{place_of, total_of};
+ghost use Rattle.board_core.specs.Board.{Board, count_of};
+ghost use Rattle.board_core.specs.Kept.{TwoPawnsOn};
 ghost use Rattle.board_core.specs.Build.{IsBuilt};
+ghost use Rattle.board_core.specs.declared.piece.Kind.{Kind};
+ghost use Rattle.board_core.specs.declared.piece.Kind.TheVariants.{King};
+ghost use Rattle.board_core.specs.declared.piece.Side.{Side};
+ghost use Rattle.board_core.specs.declared.piece.Side.TheVariants.{Black};
 
+use crate::scan::{count_kind, count_kings, first_dead, first_pawn};
 use crate::{Hand, Kind, Piece, Position, Side, Square};
 
 /// Why cells, hands and a side make no position: the first fault that is there, in the order of the variants.
@@ -16,4 +25,106 @@ pub enum BadPosition {
     DeadPiece(Square),
     /// Two unpromoted pawns of a side on a file, from 1 to 9: the first such file.
     TwoPawns(u8),
+}
+
+// The kinds that a hand may hold, in their order.
+const KINDS_IN_HAND: [Kind; 7] = [
+    Kind::Pawn,
+    Kind::Lance,
+    Kind::Knight,
+    Kind::Silver,
+    Kind::Gold,
+    Kind::Bishop,
+    Kind::Rook,
+];
+
+impl Position {
+    /// The position with these cells (by the number of the square), hands and side to move; or the first fault of them,
+    /// in the order of the variants of [`BadPosition`]: more pieces of a kind than a set of shogi has, no king of the
+    /// side that isn't to move, two kings of a side, a piece that could never move again, two unpromoted pawns of a side
+    /// on a file (rules of shogi: the set, forced promotion, nifu). Takes no memory.
+    pub fn build(
+        cells: &[Option<Piece>; 81],
+        black: Hand,
+        white: Hand,
+        side: Side,
+    ) -> Result<Position, BadPosition>
+        ensures { IsBuilt (record { cells = cells.now; black = black; white = white; side = side }) result }
+    {
+        if let Some(kind) = first_too_many(cells, black, white) {
+            return Err(BadPosition::TooMany(kind));
+        }
+        if count_kings(cells, side.other()) == 0 {
+            return Err(BadPosition::NoDefenderKing);
+        }
+        if count_kings(cells, Side::Black) > 1 {
+            return Err(BadPosition::TwoKings);
+        }
+        if count_kings(cells, Side::White) > 1 {
+            return Err(BadPosition::TwoKings);
+        }
+        if let Some(square) = first_dead(cells) {
+            return Err(BadPosition::DeadPiece(square));
+        }
+        if let Some(file) = first_file_of_two_pawns(cells) {
+            return Err(BadPosition::TwoPawns(file));
+        }
+        black.seven();
+        white.seven();
+        Ok(Position::kept(cells, black, white, side))
+    }
+}
+
+// Whether there are more pieces of the kind than a set has.
+fn is_too_many(cells: &[Option<Piece>; 81], black: Hand, white: Hand, kind: Kind) -> bool
+    requires { kind ≢ King }
+    ensures { IsTrue result ↔ (total_of kind < count_of (record { cells = cells.now; black = black; white = white; side = Black }) kind) }
+{
+    let held = usize::from(black.count(kind)) + usize::from(white.count(kind));
+    count_kind(cells, kind) + held > usize::from(kind.total())
+}
+
+// The first kind, in their order, of which there are more pieces than a set has.
+fn first_too_many(cells: &[Option<Piece>; 81], black: Hand, white: Hand) -> Option<Kind>
+    ensures none { result ≡ None → (k : Kind) → k ≢ King → count_of (record { cells = cells.now; black = black; white = white; side = Black }) k ≤ total_of k }
+    ensures not_king { IfSome result (λ k. k ≢ King) }
+    ensures some { IfSome result (λ k. total_of k < count_of (record { cells = cells.now; black = black; white = white; side = Black }) k) }
+    ensures first { IfSome result (λ k. (j : Kind) → place_of j < place_of k → count_of (record { cells = cells.now; black = black; white = white; side = Black }) j ≤ total_of j) }
+{
+    for kind in KINDS_IN_HAND {
+        if is_too_many(cells, black, white, kind) {
+            return Some(kind);
+        }
+    }
+    None
+}
+
+// Whether two unpromoted pawns of the side stand on the file: one pass over its nine squares.
+fn has_two_pawns(cells: &[Option<Piece>; 81], side: Side, file: u8) -> bool
+    requires from { 1 ≤ file }
+    requires to { file ≤ 9 }
+    ensures { IsTrue result ↔ TwoPawnsOn cells.now side file }
+{
+    let end = 9 * file;
+    match first_pawn(cells, side, end - 9, end) {
+        Some(one) => first_pawn(cells, side, one + 1, end).is_some(),
+        None => false,
+    }
+}
+
+// The first file on which two unpromoted pawns of a side stand.
+fn first_file_of_two_pawns(cells: &[Option<Piece>; 81]) -> Option<u8>
+    ensures none { result ≡ None → (file : ℕ) (side : Side) → TwoPawnsOn cells.now side file → ⊥ }
+    ensures some { IfSome result (λ file. (side : Side) × TwoPawnsOn cells.now side file) }
+    ensures first { IfSome result (λ file. (f : ℕ) → f < file → (side : Side) → TwoPawnsOn cells.now side f → ⊥) }
+{
+    for file in 1..10 {
+        if has_two_pawns(cells, Side::Black, file) {
+            return Some(file);
+        }
+        if has_two_pawns(cells, Side::White, file) {
+            return Some(file);
+        }
+    }
+    None
 }

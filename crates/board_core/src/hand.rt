@@ -64,6 +64,13 @@ impl Hand {
         self.0
     }
 
+    // That a hand has seven counts, said to proofs; it does nothing.
+    pub(crate) fn seven(self)
+        ensures { length self ≡ 7 }
+    {
+        let _counts = self.0;
+    }
+
     /// How many pieces of a kind, which isn't the king, it holds.
     pub fn count(self, kind: Kind) -> u8
         requires { kind ≢ King }

@@ -11,7 +11,10 @@ mod memory;
 mod moves;
 mod piece;
 mod position;
+mod scan;
 mod square;
+#[cfg(test)]
+mod tests;
 
 pub use build::BadPosition;
 pub use hand::Hand;

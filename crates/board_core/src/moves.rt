@@ -1,5 +1,10 @@
 // Moves and their order.
+ghost use Rattle.std.specs.Prelude.{◌≡◌, ◌↔◌, IsTrue};
+ghost use Rattle.std.specs.Ordering.{nat_cmp};
+ghost use Rattle.board_core.specs.Order.{order_of};
+
 use crate::{Kind, Position, Square};
+use std::cmp::Ordering;
 
 /// A move: of a piece on the board, perhaps promoting it, or of a piece from the hand (a drop). Whether it may be made
 /// is a question to the rules.
@@ -26,9 +31,26 @@ pub enum Move {
     },
 }
 
+impl Move {
+    /// How two moves are ordered: as their places in the order of moves are. `<`, `cmp` and sorting agree with it.
+    pub fn compare(self, with: Move) -> Ordering
+        ensures { result ≡ nat_cmp (order_of self) (order_of with) }
+    {
+        self.cmp(&with)
+    }
+
+    /// Whether two moves are one: no two moves have one place in the order.
+    pub fn is_same(self, with: Move) -> bool
+        ensures same { IsTrue result ↔ (self ≡ with) }
+        ensures place { IsTrue result ↔ (order_of self ≡ order_of with) }
+    {
+        self == with
+    }
+}
+
 /// One line of a mate's certificate. What it says, and what an accepted certificate bears out: at this position of the
 /// attacker the move is a check after which each answer leads to a position of lower rank.
-#[derive(Clone, Copy)]
+#[derive(Clone, Copy, PartialEq, Eq, Debug)]
 pub struct MateEntry {
     /// The rank: an upper bound for the number of the attacker's moves up to the mate; at least 1 in a certificate.
     pub rank: u32,

@@ -1,14 +1,20 @@
 // Positions: what can be asked of them, and the changes that moves are made of.
-ghost use Rattle.std.specs.Prelude.{◌≡◌, ◌≢◌, ◌<◌, ◌+◌, ℕ, None, Some, false, true};
+ghost use Rattle.std.specs.Prelude.{◌≡◌, ◌≢◌, ◌<◌, ◌+◌, ℕ, None, Some, false, true, ◌↔◌, IfSome, IsNone, IsTrue};
 ghost use Rattle.board_core.specs.Square.{file_of};
 ghost use Rattle.board_core.specs.Kind.{total_of, same_kind};
-ghost use Rattle.board_core.specs.Board.{piece_at, held, hand_of, with_more, with_less, is_pawn_of, is_dead, count_of, kings_of, with_cell, with_hand, passed, one_if, ChangesCell};
+ghost use Rattle.board_core.specs.Board.{piece_at, held, hand_of, with_more, with_less, is_pawn_of, is_dead, count_of, kings_of, with_cell, with_hand, passed, one_if, ChangesCell, is_king_of};
 ghost use Rattle.board_core.specs.Kept.{IsKept};
 ghost use Rattle.board_core.specs.declared.piece.Kind.{Kind};
 ghost use Rattle.board_core.specs.declared.piece.Kind.TheVariants.{King};
 
+use crate::scan::first_king;
 use crate::{Hand, Kind, Piece, Side, Square};
 use std::marker::Model;
+use std::mem::size_of;
+
+const _: () = prove!(size_of::<Option<Piece>>() == 4);
+
+const _: () = prove!(size_of::<Position>() <= 400);
 
 /// A position of shogi: what stands on each square, the two hands, and the side to move. A plain value of fixed size,
 /// copied as its bytes.
@@ -16,7 +22,7 @@ use std::marker::Model;
 /// It keeps: no kind has more pieces than a set (18 pawns, 4 each of lance, knight, silver and gold, 2 each of bishop
 /// and rook; on the board, promoted or not, of both sides, and in both hands); each side has at most one king; no piece
 /// stands where it could never move again; no side has two unpromoted pawns on a file.
-#[derive(Clone, Copy)]
+#[derive(Clone, Copy, PartialEq, Eq, Debug)]
 pub struct Position {
     cells: [Option<Piece>; 81],
     black: Hand,
@@ -49,6 +55,24 @@ impl Piece {
 }
 
 impl Position {
+    /// The position with these parts, of which it is known that they keep what every position keeps.
+    pub(crate) fn kept(
+        cells: &[Option<Piece>; 81],
+        black: Hand,
+        white: Hand,
+        side: Side,
+    ) -> Position
+        requires { IsKept (record { cells = cells.now; black = black; white = white; side = side }) }
+        ensures { result ≡ record { cells = cells.now; black = black; white = white; side = side } }
+    {
+        Position {
+            cells: *cells,
+            black,
+            white,
+            side,
+        }
+    }
+
     /// The piece on a square, where there is one.
     pub fn piece_at(&self, square: Square) -> Option<Piece>
         ensures { result ≡ piece_at self.now.cells square.number }
@@ -64,11 +88,28 @@ impl Position {
         &self.cells
     }
 
+    /// Whether two positions are one: the same piece or none on each square, the same hands, the same side to move.
+    /// `==` answers the same.
+    pub fn is_same(&self, with: &Position) -> bool
+        ensures { IsTrue result ↔ (self.now ≡ with.now) }
+    {
+        self == with
+    }
+
     /// The side to move.
     pub fn side(&self) -> Side
         ensures { result ≡ self.now.side }
     {
         self.side
+    }
+
+    /// The square of a side's king, where it has one.
+    pub fn king_square(&self, side: Side) -> Option<Square>
+        ensures found { IfSome result (λ s. is_king_of side (piece_at self.now.cells s.number) ≡ true) }
+        ensures only { IfSome result (λ s. (t : ℕ) → is_king_of side (piece_at self.now.cells t) ≡ true → t ≡ s.number) }
+        ensures none { IsNone result ↔ (kings_of self.now side ≡ 0) }
+    {
+        first_king(self.cells(), side)
     }
 
     /// A side's hand.

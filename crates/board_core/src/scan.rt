@@ -1,0 +1,128 @@
+// Looks through the 81 cells of a board.
+ghost use Rattle.std.specs.Prelude.{◌≡◌, ◌<◌, ◌≤◌, ℕ, None, IfSome, count_by, true, false};
+ghost use Rattle.board_core.specs.Kind.{same_kind, same_side};
+ghost use Rattle.board_core.specs.Board.{piece_at, is_of_kind, is_king_of, is_pawn_of, is_dead};
+
+use crate::{Kind, Piece, Side, Square};
+
+fn same_kind(one: Kind, two: Kind) -> bool
+    ensures { result ≡ same_kind one two }
+{
+    one.place() == two.place()
+}
+
+fn same_side(one: Side, two: Side) -> bool
+    ensures { result ≡ same_side one two }
+{
+    match (one, two) {
+        (Side::Black, Side::Black) | (Side::White, Side::White) => true,
+        _ => false,
+    }
+}
+
+fn is_of_kind(kind: Kind, cell: Option<Piece>) -> bool
+    ensures { result ≡ is_of_kind kind cell }
+{
+    match cell {
+        Some(piece) => same_kind(piece.kind, kind),
+        None => false,
+    }
+}
+
+fn is_king_of(side: Side, cell: Option<Piece>) -> bool
+    ensures { result ≡ is_king_of side cell }
+{
+    match cell {
+        Some(piece) => same_kind(piece.kind, Kind::King) && same_side(piece.side, side),
+        None => false,
+    }
+}
+
+fn is_pawn_of(side: Side, cell: Option<Piece>) -> bool
+    ensures { result ≡ is_pawn_of side cell }
+{
+    match cell {
+        Some(piece) => {
+            same_kind(piece.kind, Kind::Pawn) && !piece.promoted && same_side(piece.side, side)
+        }
+        None => false,
+    }
+}
+
+fn is_dead(square: Square, cell: Option<Piece>) -> bool
+    ensures { result ≡ is_dead square.number cell }
+{
+    match cell {
+        Some(piece) => {
+            !piece.promoted && square.ranks_ahead(piece.side) < piece.kind.ranks_needed()
+        }
+        None => false,
+    }
+}
+
+fn at(cells: &[Option<Piece>; 81], square: u8) -> Option<Piece>
+    requires { square < 81 }
+    ensures { result ≡ piece_at cells.now square }
+{
+    cells[square as usize]
+}
+
+/// How many pieces of a kind, promoted or not, of both sides, stand in the cells.
+pub(crate) fn count_kind(cells: &[Option<Piece>; 81], kind: Kind) -> usize
+    ensures count { result ≡ count_by (is_of_kind kind) cells.now }
+    ensures small { result ≤ 81 }
+{
+    cells.iter().filter(|cell| is_of_kind(kind, **cell)).count()
+}
+
+/// How many kings of a side stand in the cells.
+pub(crate) fn count_kings(cells: &[Option<Piece>; 81], side: Side) -> usize
+    ensures { result ≡ count_by (is_king_of side) cells.now }
+{
+    cells.iter().filter(|cell| is_king_of(side, **cell)).count()
+}
+
+/// The first square with a king of the side.
+pub(crate) fn first_king(cells: &[Option<Piece>; 81], side: Side) -> Option<Square>
+    ensures none { result ≡ None → (s : ℕ) → s < 81 → is_king_of side (piece_at cells.now s) ≡ false }
+    ensures some { IfSome result (λ s. is_king_of side (piece_at cells.now s.number) ≡ true) }
+{
+    for number in 0..81 {
+        if is_king_of(side, at(cells, number)) {
+            return Some(Square { number });
+        }
+    }
+    None
+}
+
+/// The first square with a piece that could never move again.
+pub(crate) fn first_dead(cells: &[Option<Piece>; 81]) -> Option<Square>
+    ensures none { result ≡ None → (s : ℕ) → s < 81 → is_dead s (piece_at cells.now s) ≡ false }
+    ensures some { IfSome result (λ s. is_dead s.number (piece_at cells.now s.number) ≡ true) }
+    ensures first { IfSome result (λ s. (t : ℕ) → t < s.number → is_dead t (piece_at cells.now t) ≡ false) }
+{
+    for number in 0..81 {
+        let square = Square { number };
+        if is_dead(square, at(cells, number)) {
+            return Some(square);
+        }
+    }
+    None
+}
+
+/// The first square, from `from` on and before `to`, with an unpromoted pawn of the side.
+pub(crate) fn first_pawn(cells: &[Option<Piece>; 81], side: Side, from: u8, to: u8) -> Option<u8>
+    requires { to ≤ 81 }
+    ensures none { result ≡ None → (s : ℕ) → s < to → from ≤ s → is_pawn_of side (piece_at cells.now s) ≡ false }
+    ensures from { IfSome result (λ s. from ≤ s) }
+    ensures to { IfSome result (λ s. s < to) }
+    ensures some { IfSome result (λ s. is_pawn_of side (piece_at cells.now s) ≡ true) }
+    ensures first { IfSome result (λ s. (t : ℕ) → t < s → from ≤ t → is_pawn_of side (piece_at cells.now t) ≡ false) }
+{
+    for square in from..to {
+        if is_pawn_of(side, at(cells, square)) {
+            return Some(square);
+        }
+    }
+    None
+}
