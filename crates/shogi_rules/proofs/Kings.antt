@@ -7,6 +7,7 @@ use Rattle.board_core.specs.declared.piece.Side.{Side}
 use Rattle.board_core.specs.Board.{Board, piece_at, is_king_of, kings_of}
 use Rattle.shogi_rules.specs.Rules.{IsInCheck}
 
+-- 1 where the test holds
 abbrev one_if : Bool → ℕ
 one_if b = cond b 1 0
 
@@ -14,6 +15,7 @@ cond_true : (b : Bool) → b ≡ true → one_if b ≡ 1
 cond_true true e = refl
 cond_true false e = absurd (cc)
 
+-- where one cell passes, at least one is counted
 passing_counted : (p : Option Piece → Bool) (cells : List (Option Piece)) (s : ℕ) → s < length cells → p (piece_at cells s) ≡ true
     → 0 < count_by p cells
 passing_counted p [] s h e = absurd (omega arith)

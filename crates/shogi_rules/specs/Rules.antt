@@ -107,11 +107,13 @@ pub record Reaches (cells : List (Option Piece)) (piece : Piece) (from to : ℕ)
 
 -- 2. WHAT A MOVE DOES.
 
+-- A piece that was promoted, or that its move promotes where its kind can be, is of a kind that can be.
 pub promotes_or : (p q c : Bool) → (p ≡ true → c ≡ true) → (p || (q && c)) ≡ true → c ≡ true
 promotes_or true q c h e = h refl
 promotes_or false true c h e = e
 promotes_or false false c h e = absurd (cc)
 
+-- Of a piece that isn't promoted nothing is asked.
 pub promotes_not : (c : Bool) → false ≡ true → c ≡ true
 promotes_not c e = absurd (cc)
 
