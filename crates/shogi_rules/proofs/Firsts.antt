@@ -1,12 +1,10 @@
 -- The first reason that holds, from tests made in order.
-use Rattle.std.proofs.Common.{◌≡◌, ◌≢◌, ◌<◌, ◌≤◌, ℕ, Option, Some, None, Bool, true, false, Result, Ok, Err, arith, IsTrue}
-use Rattle.std.specs.Prelude.{IsSome}
+use Rattle.std.proofs.Common.{◌<◌, ℕ, Bool, arith}
 use Rattle.board_core.specs.declared.piece.Kind.{Kind}
-use Rattle.board_core.specs.declared.piece.Kind.TheVariants.{Pawn, King}
-use Rattle.board_core.specs.Board.{Board, piece_at, held, hand_of, is_dead}
+use Rattle.board_core.specs.Board.{Board}
 use Rattle.shogi_rules.specs.declared.illegal.Illegal.{Illegal}
 use Rattle.shogi_rules.specs.declared.illegal.Illegal.TheVariants.{NotThere, OwnPiece, NoStep, Blocked, BadPromotion, Occupied, NotInHand, DeadDrop, TwoPawns, KingLeft, PawnMate}
-use Rattle.shogi_rules.specs.Rules.{IsOwn, Fits, IsClear, PromotionFits, IsInCheck, after_board, after_drop, dropped, HasPawnOnFile, IsPawnMate, RefusesBoard, RefusesDrop, refusal_order}
+use Rattle.shogi_rules.specs.Rules.{IsOwn, Fits, IsClear, PromotionFits, IsInCheck, after_board, RefusesBoard, RefusesDrop, refusal_order}
 
 -- what was tested of a move on the board speaks for it, up to a place in the order
 pub board_sooner : (b : Board) (from to : ℕ) (promote : Bool) (n : ℕ)

@@ -1,7 +1,7 @@
-use Rattle.std.proofs.Common.{◌≡◌, ◌≢◌, ◌<◌, ◌≤◌, ◌+◌, ◌-◌, ◌*◌, ◌/◌, ◌%◌, ◌↔◌, ◌⊎◌, inl, inr, ℕ, List, Option, Some, None, slice_get, arith, ap, sym, subst}
+use Rattle.std.proofs.Common.{◌≡◌, ◌≢◌, ◌<◌, ◌≤◌, ◌+◌, ◌-◌, ◌*◌, ◌/◌, ◌%◌, ◌↔◌, inl, inr, ℕ, List, Option, None, arith, sym, subst}
 use Rattle.board_core.specs.declared.piece.Piece.{Piece}
 use Rattle.board_core.specs.Board.{piece_at}
-use Rattle.shogi_rules.specs.Rules.{distance, IsInside, IsOnFile, IsOnRank, IsOnDiagonal, IsBetween, IsClear}
+use Rattle.shogi_rules.specs.Rules.{distance, IsInside, IsBetween, IsClear}
 use Rattle.shogi_rules.specs.Scan.{IsEmptyAlong}
 
 -- m is some number of steps above low, below count

@@ -4,3 +4,4 @@ pub mod Firsts
 pub mod Decided
 pub mod Turns
 pub mod Listing
+mod Kings

@@ -1,7 +1,6 @@
 -- What a move on the board needs and keeps.
-use Rattle.std.proofs.Common.{◌≡◌, ◌≢◌, ◌<◌, ◌≤◌, ◌+◌, ◌-◌, ◌/◌, ◌⊎◌, inl, inr, ◌||◌, ◌&&◌, ◌==◌, ℕ, zero, suc, List, [], ◌∷◌, Option, Some, None, Bool, true, false, length, slice_set, IsTrue, arith, ap, sym, refl, ◌∙◌, subst}
-use Rattle.std.specs.Prelude.{IsSomeAnd, not}
-use Rattle.std.specs.Option.{option_map}
+use Rattle.std.proofs.Common.{◌≡◌, ◌≢◌, ◌<◌, ◌≤◌, ◌+◌, ◌/◌, ◌⊎◌, inl, inr, ◌||◌, ◌&&◌, ◌==◌, ℕ, zero, suc, List, [], ◌∷◌, Option, Some, None, Bool, true, false, slice_set, IsTrue, arith, ap, sym, refl, subst}
+use Rattle.std.specs.Prelude.{not}
 use Rattle.std.proofs.lemmas.Bool.{cases_eq, cases_order}
 use Rattle.std.proofs.lemmas.Bool.Decides.{eqb_tells}
 use Rattle.board_core.specs.declared.piece.Piece.{Piece}
@@ -10,10 +9,10 @@ use Rattle.board_core.specs.declared.piece.Kind.TheVariants.{Pawn, Lance, Knight
 use Rattle.board_core.specs.declared.piece.Side.{Side}
 use Rattle.board_core.specs.declared.piece.Side.TheVariants.{Black, White}
 use Rattle.board_core.specs.Square.{file_of}
-use Rattle.board_core.specs.Kind.{other, same_kind, same_side, place_of, total_of, can_promote}
-use Rattle.board_core.specs.Board.{Board, piece_at, is_of_kind, is_king_of, is_pawn_of, is_dead, count_of, kings_of, with_cell, with_hand, passed, hand_of, one_if, ChangesCell}
+use Rattle.board_core.specs.Kind.{other, same_kind, same_side, total_of, can_promote}
+use Rattle.board_core.specs.Board.{Board, piece_at, is_of_kind, is_king_of, is_pawn_of, count_of, kings_of, with_cell, with_hand, passed, hand_of, one_if, ChangesCell}
 use Rattle.board_core.specs.Kept.{IsKept, TwoPawnsOn}
-use Rattle.shogi_rules.specs.Rules.{fits, distance, landed, gained, after_board, promotion_fits, IsClear, Reaches, IsInCheck, IsQuiet, IsOwn, Fits, PromotionFits}
+use Rattle.shogi_rules.specs.Rules.{fits, distance, landed, gained, after_board, IsClear, IsQuiet, IsOwn}
 
 pub true_or_false : (b : Bool) → (b ≡ true) ⊎ (b ≡ false)
 true_or_false true = inl refl

@@ -1,5 +1,5 @@
 -- What legal says of a move, as the calls that make it ask for it.
-use Rattle.std.proofs.Common.{◌≡◌, ◌≢◌, ◌<◌, ℕ, List, Option, Some, None, Bool, true, false, refl, subst, sym}
+use Rattle.std.proofs.Common.{◌≡◌, ℕ, List, Bool, refl, subst}
 use Rattle.board_core.specs.declared.piece.Kind.{Kind}
 use Rattle.board_core.specs.declared.piece.Side.{Side}
 use Rattle.board_core.specs.declared.piece.Side.TheVariants.{Black, White}
@@ -7,9 +7,8 @@ use Rattle.board_core.specs.declared.square.Square.{Square}
 use Rattle.board_core.specs.declared.moves.Move.{Move}
 use Rattle.board_core.specs.declared.moves.Move.TheVariants as moves
 use Rattle.board_core.specs.Kind.{other}
-use Rattle.board_core.specs.Board.{Board, hand_of, with_hand, held}
+use Rattle.board_core.specs.Board.{Board, hand_of, with_hand}
 use Rattle.shogi_rules.specs.declared.illegal.Illegal.{Illegal}
-use Rattle.shogi_rules.specs.declared.illegal.Illegal.TheVariants.{KingLeft}
 use Rattle.shogi_rules.specs.Rules.{RefusesBoard, RefusesDrop, IsLegal, IsInCheck, IsQuiet, after_board, after_drop}
 use Rattle.shogi_rules.proofs.Moves.{other_twice}
 

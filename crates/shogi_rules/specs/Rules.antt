@@ -1,6 +1,6 @@
 -- The rules of shogi, in the order in which one learns them: how the pieces move, what a move on the board and a drop do,
 -- promotion, check, why a move may not be made, and the mate by a dropped pawn.
-use Rattle.std.specs.Prelude.{◌≡◌, ◌≢◌, ◌<◌, ◌≤◌, ◌+◌, ◌-◌, ◌/◌, ◌%◌, ◌&&◌, ◌||◌, ◌==◌, ◌⊎◌, ℕ, List, Option, Some, None, Bool, true, false, not, Result, Ok, Err, nat_le, nat_lt, IsTrue, IsSome, IsSomeAnd, refl}
+use Rattle.std.specs.Prelude.{◌≡◌, ◌≢◌, ◌<◌, ◌+◌, ◌-◌, ◌/◌, ◌%◌, ◌&&◌, ◌||◌, ◌==◌, ◌⊎◌, ℕ, List, Option, Some, None, Bool, true, false, not, Result, Ok, Err, nat_le, nat_lt, IsTrue, IsSome, IsSomeAnd, refl}
 use Rattle.std.specs.Option.{option_map}
 use Rattle.board_core.specs.declared.piece.Kind.{Kind}
 use Rattle.board_core.specs.declared.piece.Kind.TheVariants.{Pawn, Lance, Knight, Silver, Gold, Bishop, Rook, King}
@@ -9,7 +9,7 @@ use Rattle.board_core.specs.declared.piece.Side.TheVariants.{Black, White}
 use Rattle.board_core.specs.declared.piece.Piece.{Piece}
 use Rattle.board_core.specs.declared.moves.Move.{Move}
 use Rattle.board_core.specs.declared.moves.Move.TheVariants as moves
-use Rattle.board_core.specs.Square.{file_of, ranks_ahead}
+use Rattle.board_core.specs.Square.{ranks_ahead}
 use Rattle.board_core.specs.Kind.{other, can_promote}
 use Rattle.board_core.specs.Board.{Board, piece_at, held, hand_of, with_more, with_less, is_king_of, is_pawn_of, is_dead, with_cell, with_hand, passed}
 use Rattle.shogi_rules.specs.declared.illegal.Illegal.{Illegal}
@@ -107,11 +107,13 @@ pub record Reaches (cells : List (Option Piece)) (piece : Piece) (from to : ℕ)
 
 -- 2. WHAT A MOVE DOES.
 
+-- A piece that was promoted, or that its move promotes where its kind can be, is of a kind that can be.
 pub promotes_or : (p q c : Bool) → (p ≡ true → c ≡ true) → (p || (q && c)) ≡ true → c ≡ true
 promotes_or true q c h e = h refl
 promotes_or false true c h e = e
 promotes_or false false c h e = absurd (cc)
 
+-- Of a piece that isn't promoted nothing is asked.
 pub promotes_not : (c : Bool) → false ≡ true → c ≡ true
 promotes_not c e = absurd (cc)
 

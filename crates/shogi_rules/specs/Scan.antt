@@ -1,8 +1,7 @@
 -- What the loops look for, a square at a time.
-use Rattle.std.specs.Prelude.{◌≡◌, ◌<◌, ◌+◌, ◌*◌, ◌/◌, ◌⊎◌, ℕ, List, Option, None, Bool, true, false, Ok}
+use Rattle.std.specs.Prelude.{◌≡◌, ◌<◌, ◌+◌, ◌*◌, ◌⊎◌, ℕ, List, Option, None, true, false}
 use Rattle.board_core.specs.declared.piece.Piece.{Piece}
-use Rattle.board_core.specs.declared.piece.Side.{Side}
-use Rattle.board_core.specs.Board.{Board, piece_at, is_pawn_of}
+use Rattle.board_core.specs.Board.{Board, piece_at}
 use Rattle.board_core.specs.declared.piece.Kind.{Kind}
 use Rattle.board_core.specs.declared.piece.Kind.TheVariants.{Pawn}
 use Rattle.shogi_rules.specs.Rules.{RefusesBoard, BoardMove, IsInCheck}

@@ -1,11 +1,11 @@
 // Attack and check.
 ghost use Rattle.std.specs.Prelude.{◌≡◌, ◌<◌, ◌↔◌, IsTrue, true};
 ghost use Rattle.board_core.specs.Kind.{other};
-ghost use Rattle.board_core.specs.Board.{piece_at, is_king_of};
-ghost use Rattle.shogi_rules.specs.Rules.{AttacksFrom, Attacks, IsKingAttacked, IsInCheck};
+ghost use Rattle.board_core.specs.Board.{piece_at, kings_of};
+ghost use Rattle.shogi_rules.specs.Rules.{AttacksFrom, Attacks, IsInCheck};
 
 use crate::movement::{Cells, at, reaches};
-use board_core::{Kind, Position, Side, Square};
+use board_core::{Position, Side, Square};
 
 fn attacks_from(cells: &Cells, side: Side, from: u8, to: u8) -> bool
     requires from { from < 81 }
@@ -30,34 +30,6 @@ fn attacks(cells: &Cells, side: Side, to: u8) -> bool
     false
 }
 
-fn is_king_of(cells: &Cells, side: Side, square: u8) -> bool
-    requires { square < 81 }
-    ensures { result ≡ is_king_of side (piece_at cells.now square) }
-{
-    match at(cells, square) {
-        Some(piece) => piece.kind == Kind::King && piece.side == side,
-        None => false,
-    }
-}
-
-fn is_king_attacked(cells: &Cells, side: Side, square: u8) -> bool
-    requires { square < 81 }
-    ensures { IsTrue result ↔ IsKingAttacked cells.now side square }
-{
-    is_king_of(cells, side, square) && attacks(cells, side.other(), square)
-}
-
-fn is_in_check(cells: &Cells, side: Side) -> bool
-    ensures { IsTrue result ↔ IsInCheck cells.now side }
-{
-    for square in 0..81 {
-        if is_king_attacked(cells, side, square) {
-            return true;
-        }
-    }
-    false
-}
-
 /// Whether a piece of `by` attacks the square: it would reach it by one step or slide, whatever stands there. Takes no
 /// memory. (Rules of shogi: movement of the pieces.)
 pub fn attacked(position: &Position, square: Square, by: Side) -> bool
@@ -69,7 +41,14 @@ pub fn attacked(position: &Position, square: Square, by: Side) -> bool
 /// Whether the side is in check: its king is attacked by the other side. A side without a king never is. Takes no memory.
 /// (Rules of shogi: check.)
 pub fn in_check(position: &Position, side: Side) -> bool
-    ensures { IsTrue result ↔ IsInCheck position.now.cells side }
+    ensures check { IsTrue result ↔ IsInCheck position.now.cells side }
+
+    // A side without a king is never in check.
+    ensures king { IsTrue result → 0 < kings_of position.now side }
 {
-    is_in_check(position.cells(), side)
+    let cells = position.cells();
+    match position.king_square(side) {
+        Some(square) => attacks(cells, side.other(), square.number),
+        None => false,
+    }
 }

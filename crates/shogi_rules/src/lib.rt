@@ -11,6 +11,8 @@ mod legality;
 mod movement;
 mod moving;
 mod problem;
+#[cfg(test)]
+mod tests;
 pub mod trial;
 
 pub use checking::{attacked, in_check};

@@ -4,6 +4,7 @@ ghost use Rattle.board_core.specs.declared.piece.Piece.{Piece};
 ghost use Rattle.board_core.specs.declared.piece.Kind.{Kind};
 ghost use Rattle.board_core.specs.declared.piece.Kind.TheVariants.{King};
 ghost use Rattle.board_core.specs.Kind.{total_of, other};
+ghost use Rattle.board_core.specs.Order.{order_of};
 ghost use Rattle.board_core.specs.Board.{hand_of, with_hand, is_of_kind, count_of, one_if};
 ghost use Rattle.shogi_rules.specs.Rules.{landed, dropped, gained, after_board, after_drop, IsQuiet, IsOwn, Fits, IsClear, PromotionFits, RefusesDrop, IsLegal, IsDropped, after};
 ghost use Rattle.board_core.specs.declared.square.Square.{Square};
@@ -79,6 +80,7 @@ pub(crate) fn drop_piece(position: &Position, kind: Kind, to: Square) -> Positio
     ensures position { result ≡ after_drop position.now kind to.number }
     ensures conserved { (k : Kind) → count_of result k ≡ count_of position.now k }
     ensures changes { IsDropped position.now result kind to.number }
+    ensures king { kind ≢ King }
 {
     let side = position.side();
     let mut next = *position;
@@ -98,6 +100,9 @@ pub fn apply(position: &Position, by: Move) -> Position
     ensures position { result ≡ after position.now by }
     ensures turn { result.side ≡ other position.now.side }
     ensures quiet { IsQuiet result }
+
+    // A legal move is one of the list of all moves: 81 x 81 x 2 on the board, and 7 x 81 drops.
+    ensures listed { order_of by < 13689 }
 
     // No piece is lost or made: of each kind there are as many as before, on the board and in the hands.
     ensures conserved { (kind : Kind) → count_of result kind ≡ count_of position.now kind }

@@ -1,10 +1,10 @@
-use Rattle.std.proofs.Common.{arith, rules}
+use Rattle.std.proofs.Common.{arith}
 use Rattle.shogi_rules.proofs.Firsts.{board_sooner}
 use Rattle.shogi_rules.proofs.legality.legal_board.Goals as goal
 
 pub returns-then-in_check : goal.returns-then-in_check
 returns-then-in_check c = (
-  rw (c.move_piece-next.ensures.position, c.side.ensures) at (c.in_check.ensures.0 c.if-in_check.true),
+  rw (c.move_piece-next.ensures.position, c.side.ensures) at (c.in_check.ensures.check.0 c.if-in_check.true),
   board_sooner c.args.position.now c.args.from.number c.args.to.number c.args.promote 9
       (λ _. c.owns.ensures.0 c.if-not-owns.false)
       (λ _. λ o. let t = c.owns-2.ensures.1 o in cc)

@@ -1,8 +1,6 @@
-use Rattle.std.proofs.Common.{◌≡◌, ◌<◌, ◌+◌, ◌∙◌, ℕ, Option, Some, true, false, IsTrue, sym, ap, subst}
-use Rattle.board_core.specs.declared.piece.Piece.{Piece}
-use Rattle.board_core.specs.Board.{Board, piece_at, kings_of, is_pawn_of, is_of_kind, count_of, one_if, with_cell, with_hand, passed, hand_of}
-use Rattle.board_core.specs.Square.{file_of}
-use Rattle.shogi_rules.specs.Rules.{landed, fits, gained, IsOwn, IsClear}
+use Rattle.std.proofs.Common.{◌≡◌, ◌+◌, ◌∙◌, ℕ, Some, IsTrue, sym, subst}
+use Rattle.board_core.specs.Board.{piece_at, is_of_kind, count_of, one_if}
+use Rattle.shogi_rules.specs.Rules.{fits, IsOwn}
 use Rattle.shogi_rules.proofs.Moves.{king_gone, pawn_alone, no_king_taken, taken_left, moved_is, conserves}
 use Rattle.shogi_rules.proofs.moving.move_piece.Goals as goal
 

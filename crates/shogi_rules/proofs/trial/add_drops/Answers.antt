@@ -1,7 +1,6 @@
 use Rattle.std.proofs.Common.{◌≡◌, ◌<◌, ◌+◌, ◌*◌, ℕ, arith, refl}
 use Rattle.board_core.specs.Kind.{place_of}
 use Rattle.board_core.specs.Board.{held, hand_of}
-use Rattle.shogi_rules.specs.Trial.{IsWanted, ListsBelow}
 use Rattle.shogi_rules.proofs.Listing.{at_place, lists_more, lists_same, lists_past, wanted_drop}
 use Rattle.shogi_rules.proofs.trial.add_drops.Goals.{then-is_wanted+in_ok-push, else-is_wanted}
 use Rattle.shogi_rules.proofs.trial.add_drops.Goals as goal

@@ -1,5 +1,4 @@
 use Rattle.std.proofs.Common.{◌+◌, ◌*◌, arith}
-use Rattle.shogi_rules.specs.Trial.{IsWanted, ListsBelow}
 use Rattle.shogi_rules.proofs.Listing.{at_place, lists_more, lists_same, lists_past, wanted_from}
 use Rattle.shogi_rules.proofs.trial.add_from.Goals.{then-is_wanted+in_ok-push, else-is_wanted}
 use Rattle.shogi_rules.proofs.trial.add_from.Goals as goal
