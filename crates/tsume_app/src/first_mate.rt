@@ -1,8 +1,9 @@
 // A mate in one.
-ghost use Rattle.std.specs.Prelude.{◌≡◌, ◌↔◌, IsTrue, IfOk, ℕ, ◌<◌, length};
+ghost use Rattle.std.specs.Prelude.{◌≡◌, ◌↔◌, IsTrue, IfOk, OnOk, IfSome};
 ghost use Rattle.board_core.specs.declared.moves.Move.{Move};
 ghost use Rattle.shogi_rules.specs.Rules.{IsLegal, IsQuiet, after};
 ghost use Rattle.shogi_rules.specs.Tsume.{IsCheck, IsAnswer};
+ghost use Rattle.usi_text.specs.MoveText.{HasText};
 ghost use Rattle.tsume_app.specs.FirstMate.{MatesAtOnce, IsFirstMate};
 
 use board_core::{Move, NoMemory, Position};
@@ -19,7 +20,8 @@ fn is_unanswered(
 ) -> Result<bool, NoMemory>
     requires quiet { IsQuiet position.now }
     requires legal { IsLegal position.now check }
-    ensures { IfOk result (λ none. IsTrue none ↔ ((answer : Move) → ¬ IsAnswer problem.now.position.side (after position.now check) answer)) }
+    ensures none { IfOk result (λ none. IsTrue none ↔ ((answer : Move) → ¬ IsAnswer problem.now.position.side (after position.now check) answer)) }
+    ensures text { OnOk result (HasText check) }
 {
     let next = apply(position, check);
     let answers = trial_answers(alloc, problem, &next)?;
@@ -28,7 +30,8 @@ fn is_unanswered(
 
 /// The first check of a problem, in the order of moves, after which there is no answer; none where there is none.
 pub(crate) fn first_mate(alloc: Global, problem: &Problem) -> Result<Option<Move>, NoMemory>
-    ensures { IfOk result (λ found. IsFirstMate problem.now.position.side problem.now.position found) }
+    ensures first { IfOk result (λ found. IsFirstMate problem.now.position.side problem.now.position found) }
+    ensures text { IfOk result (λ found. IfSome found HasText) }
 {
     let position = &problem.position;
     let checks = trial_checks(alloc, problem, position)?;

@@ -14,13 +14,13 @@ is_unanswered-requires-clause-legal c =
         l.sound _ (c.loop-i.i, omega arith, sym c.index-check.ensures) in
     here.legal
 
-pub returns-then-branch : goal.returns-then-branch
-returns-then-branch c =
+pub returns-then-branch-clause-first : goal.returns-then-branch-clause-first
+returns-then-branch-clause-first c =
     let l : Lists (IsCheck c.args.problem.now.position.side c.args.problem.now.position) c.in_ok-checks.checks.items = c.in_ok-checks.ensures in
     let here : IsCheck c.args.problem.now.position.side c.args.problem.now.position c.index-check.result.now =
         l.sound _ (c.loop-i.i, omega arith, sym c.index-check.ensures) in
     let mates : MatesAtOnce c.args.problem.now.position.side c.args.problem.now.position c.index-check.result.now =
-        record { check = here; no_answer = c.in_ok-is_unanswered.ensures.0 c.if-branch.true } in
+        record { check = here; no_answer = c.in_ok-is_unanswered.ensures.none.0 c.if-branch.true } in
     (mates, first_of _ _ c.in_ok-checks.checks.items c.loop-i.i c.index-check.result.now l (omega arith) (sym c.index-check.ensures) c.loop-i.invariant)
 
 pub loop-i-preserved : goal.loop-i-preserved
@@ -32,12 +32,12 @@ loop-i-preserved c = λ k m below at mates.
               sym at_i ∙ (get_or-default c.in_ok-checks.checks.items c.loop-i.i m c.index-check.result.now (omega arith) ∙ sym c.index-check.ensures) in
           let here : MatesAtOnce c.args.problem.now.position.side c.args.problem.now.position c.index-check.result.now =
               subst (λ (y : Move). MatesAtOnce c.args.problem.now.position.side c.args.problem.now.position y) is mates in
-          absurd (let t = c.in_ok-is_unanswered.ensures.1 here.no_answer in cc)
+          absurd (let t = c.in_ok-is_unanswered.ensures.none.1 here.no_answer in cc)
       | inr other ↦ c.loop-i.invariant k m (omega arith) at mates
     ]
 
-pub returns : goal.returns
-returns c = λ m mates.
+pub returns-clause-first : goal.returns-clause-first
+returns-clause-first c = λ m mates.
     let l : Lists (IsCheck c.args.problem.now.position.side c.args.problem.now.position) c.in_ok-checks.checks.items = c.in_ok-checks.ensures in
     let found = l.complete m mates.check in
     c.loop-i.invariant found.0 m (let w = found.1 in omega arith) found.2 mates
