@@ -13,6 +13,7 @@ use Rattle.sfen_text.specs.declared.fault.TextFault.TheVariants.{BadSide, Traili
 use Rattle.sfen_text.specs.Signs.{signs, squares, cells_of}
 use Rattle.sfen_text.specs.Hands.{is_digit, is_byte, hands_of}
 
+-- What follows a step, unless the step has a fault.
 infixl 10 ◌>>=◌
 abbrev pub ◌>>=◌ : {A B : Type 0} → Result A TextFault → (A → Result B TextFault) → Result B TextFault
 (Ok x) >>= f = f x

@@ -68,3 +68,8 @@ pub record IsFilling (filling : Filling) : Type 0 where
   pub ranks : filling.ranks ≤ 8
   pub left : filling.left ≤ 9
   pub ahead : (place : ℕ) → read_count filling ≤ place → piece_at filling.read place ≡ None
+
+-- One more sign was taken: what is behind it is read on from the new squares; or the fault is there, whatever is behind it.
+abbrev pub IsTaken : Filling → Filling → Sign → ℕ → Result (Unit {0}) TextFault → Type 0
+IsTaken old new found at (Ok _) = IsFilling new × ((end : ℕ) (rest : Signs) → in_front (filled old) (squares end old.ranks old.left (sign at found rest)) ≡ in_front (filled new) (squares end new.ranks new.left rest))
+IsTaken old new found at (Err fault) = (end : ℕ) (rest : Signs) → squares end old.ranks old.left (sign at found rest) ≡ Err fault
