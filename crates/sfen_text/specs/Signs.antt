@@ -1,5 +1,5 @@
 -- The board field of an SFEN text: its signs, and the squares that they fill.
-use Rattle.std.specs.Prelude.{◌≡◌, ◌+◌, ◌-◌, ◌*◌, ◌/◌, ◌%◌, ◌==◌, ◌&&◌, ℕ, zero, suc, List, [], ◌∷◌, ◌++◌, length, map, replicate, Bool, true, false, Option, Some, None, Result, Ok, Err, nat_le, nat_lt, if◌then◌else◌, take, ◌≤◌}
+use Rattle.std.specs.Prelude.{◌≡◌, ◌+◌, ◌-◌, ◌*◌, ◌/◌, ◌%◌, ◌==◌, ◌&&◌, ℕ, List, [], ◌∷◌, ◌++◌, length, map, replicate, Option, Some, None, Result, Ok, Err, nat_le, nat_lt, if◌then◌else◌, take, ◌≤◌}
 use Rattle.std.specs.List.{range_with_len}
 use Rattle.board_core.specs.declared.piece.Piece.{Piece}
 use Rattle.board_core.specs.Board.{piece_at}
