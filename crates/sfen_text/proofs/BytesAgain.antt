@@ -1,11 +1,10 @@
 -- Which bytes are written.
-use Rattle.std.proofs.Common.{◌≡◌, ◌≢◌, ℕ, zero, suc, ◌+◌, ◌-◌, ◌/◌, ◌%◌, ◌<◌, ◌≤◌, Bool, true, false, cond, eqb, ltb, List, [], ◌∷◌, ◌++◌, length, Option, Some, None, refl, sym, ap, ◌∙◌, append_assoc, arith}
+use Rattle.std.proofs.Common.{◌≡◌, ◌≢◌, ℕ, zero, suc, ◌+◌, ◌/◌, ◌%◌, ◌≤◌, Bool, true, false, cond, eqb, ltb, List, [], ◌∷◌, ◌++◌, length, Option, Some, None, refl, arith}
 use Rattle.std.specs.List.{flat_map, range_with_len}
-use Rattle.std.proofs.lemmas.Bool.{ltb-true, ltb-false}
+use Rattle.std.proofs.lemmas.Bool.{ltb-true}
 use Rattle.std.proofs.lemmas.List.{length-append}
 use Rattle.board_core.specs.declared.piece.Kind.{Kind}
 use Rattle.board_core.specs.declared.piece.Side.{Side}
-use Rattle.board_core.specs.declared.piece.Side.TheVariants.{Black, White}
 use Rattle.board_core.specs.declared.piece.Piece.{Piece}
 use Rattle.board_core.specs.declared.piece.Kind.TheVariants.{King, Rook, Bishop, Gold, Silver, Knight, Lance, Pawn}
 use Rattle.board_core.specs.Board.{held}

@@ -1,11 +1,10 @@
 -- The fields of a text that is written.
-use Rattle.std.proofs.Common.{◌≡◌, ◌≢◌, ◌⊎◌, inl, inr, ℕ, zero, suc, ◌+◌, ◌-◌, ◌<◌, ◌≤◌, Bool, true, false, cond, eqb, List, [], ◌∷◌, ◌++◌, length, take, drop, Option, Some, None, Result, Ok, Err, refl, sym, ap, ◌∙◌, append_assoc, arith}
-use Rattle.std.specs.Prelude.{take_while, reverse, not, nat_eq, ◌&&◌, ◌||◌}
-use Rattle.std.specs.List.{prefix_len}
+use Rattle.std.proofs.Common.{◌≡◌, inl, inr, ℕ, suc, ◌+◌, ◌-◌, ◌≤◌, Bool, true, false, cond, eqb, List, [], ◌∷◌, ◌++◌, length, drop, refl, sym, ap, ◌∙◌, arith}
+use Rattle.std.specs.Prelude.{reverse, not, ◌&&◌}
 use Rattle.std.proofs.lemmas.Bool.Decides.{eqb_tells, nat_tests}
-use Rattle.std.proofs.lemmas.List.{append-nil, length-append, take_all, take_at, drop_at, reverse-append}
+use Rattle.std.proofs.lemmas.List.{take_all, take_at, drop_at, reverse-append}
 use Rattle.std.proofs.lemmas.List.Sums.{take_while-cons}
-use Rattle.sfen_text.specs.Reading.{is_space, is_blank, leading, without_end_blanks, front_len, Field, field, field_of, next_of, end_of}
+use Rattle.sfen_text.specs.Reading.{is_space, is_blank, leading, without_end_blanks, front_len, field, field_of}
 use Rattle.sfen_text.proofs.PiecesAgain.{IsPlain}
 use Rattle.sfen_text.proofs.BytesAgain.{ArePlain}
 

@@ -1,10 +1,10 @@
 -- Signs fill the squares in order.
-use Rattle.std.proofs.Common.{◌≡◌, ◌⊎◌, inl, inr, ℕ, zero, suc, ◌+◌, ◌-◌, ◌*◌, ◌<◌, ◌≤◌, Bool, true, false, cond, eqb, List, [], ◌∷◌, ◌++◌, length, take, drop, get_or, set, Option, Some, None, Result, Ok, Err, refl, sym, ap, subst, ◌∙◌, append_assoc, arith}
+use Rattle.std.proofs.Common.{◌≡◌, ◌⊎◌, inl, inr, ℕ, zero, suc, ◌+◌, ◌-◌, ◌*◌, ◌<◌, ◌≤◌, true, List, [], ◌∷◌, ◌++◌, length, take, drop, get_or, set, Option, Some, None, Result, Ok, Err, refl, sym, ap, ◌∙◌, append_assoc, arith}
 use Rattle.std.specs.Prelude.{replicate, nat_le, nat_lt, map}
 use Rattle.std.proofs.lemmas.Bool.{le-ltb, lt-ltb}
 use Rattle.std.proofs.lemmas.Bool.Decides.{eqb_tells}
 use Rattle.std.proofs.Math.Bool.{Bool-set}
-use Rattle.std.proofs.lemmas.List.{append-nil, take_more, take_more_set, take_all, get_or-set_other, length-set}
+use Rattle.std.proofs.lemmas.List.{append-nil, take_more, take_more_set, get_or-set_other, length-set}
 use Rattle.board_core.specs.declared.piece.Kind.{Kind}
 use Rattle.board_core.specs.declared.piece.Kind.TheVariants.{Pawn, Lance, Knight, Silver, Gold, Bishop, Rook, King}
 use Rattle.board_core.specs.declared.piece.Side.{Side}
@@ -13,10 +13,9 @@ use Rattle.board_core.specs.Kind.{can_promote}
 use Rattle.board_core.specs.Board.{piece_at}
 use Rattle.sfen_text.specs.declared.fault.TextFault.{TextFault}
 use Rattle.sfen_text.specs.declared.squares.Filling.{Filling}
-use Rattle.sfen_text.specs.declared.squares.Sign.{Sign}
-use Rattle.sfen_text.specs.declared.squares.Sign.TheVariants.{Slash, Run, Stands, Broken}
+use Rattle.sfen_text.specs.declared.squares.Sign.TheVariants.{Run, Stands}
 use Rattle.sfen_text.specs.Pieces.{promoted_of, promoted_piece}
-use Rattle.sfen_text.specs.Signs.{plain_sign, stands, Signs, none, sign, signs, in_front, squares, IsFilling, filled, read_count, reading_place, cells_of}
+use Rattle.sfen_text.specs.Signs.{plain_sign, stands, Signs, sign, signs, in_front, squares, IsFilling, filled, read_count, reading_place, cells_of}
 use Rattle.std.proofs.lemmas.Bool.Decides.{nat_tests}
 use Rattle.std.proofs.lemmas.List.{ext_get_or}
 use Rattle.std.proofs.lemmas.List.FromFn.{length-map-range_with_len, get_or-map-range_with_len}

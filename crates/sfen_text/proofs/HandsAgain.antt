@@ -1,7 +1,7 @@
 -- What is written for hands is read as these hands.
-use Rattle.std.proofs.Common.{◌≡◌, ◌≢◌, ◌⊎◌, inl, inr, ℕ, zero, suc, ◌+◌, ◌-◌, ◌*◌, ◌/◌, ◌%◌, ◌<◌, ◌≤◌, Bool, true, false, cond, eqb, ltb, List, [], ◌∷◌, ◌++◌, length, Option, Some, None, Result, Ok, Err, refl, sym, ap, subst, ◌∙◌, append_assoc, arith}
+use Rattle.std.proofs.Common.{◌≡◌, ◌≢◌, inl, inr, ℕ, zero, suc, ◌+◌, ◌-◌, ◌*◌, ◌/◌, ◌%◌, ◌≤◌, Bool, true, false, eqb, ltb, List, [], ◌∷◌, ◌++◌, length, Ok, refl, sym, ap, ◌∙◌, append_assoc, arith}
 use Rattle.std.specs.Prelude.{slice_set, nat_le, nat_lt, ◌&&◌}
-use Rattle.std.proofs.lemmas.Bool.{le-ltb, lt-ltb, ltb-true, ltb-false}
+use Rattle.std.proofs.lemmas.Bool.{ltb-true, ltb-false}
 use Rattle.std.proofs.lemmas.Bool.Decides.{eqb_tells, nat_tests}
 use Rattle.std.proofs.lemmas.List.{append-nil}
 use Rattle.std.specs.List.{flat_map}
@@ -11,10 +11,9 @@ use Rattle.board_core.specs.declared.piece.Side.{Side}
 use Rattle.board_core.specs.declared.piece.Side.TheVariants.{Black, White}
 use Rattle.board_core.specs.Kind.{place_of}
 use Rattle.board_core.specs.Board.{held}
-use Rattle.sfen_text.specs.declared.fault.TextFault.{TextFault}
-use Rattle.sfen_text.specs.Pieces.{letter_of, piece_of}
-use Rattle.sfen_text.specs.Spelling.{count_text, held_text, hand_text, hands_text, or_dash}
-use Rattle.sfen_text.specs.Hands.{Items, none, item, broken, items, is_digit, count_or_one, lettered, hands_with, hands_of, is_byte, empty_hand}
+use Rattle.sfen_text.specs.Pieces.{letter_of}
+use Rattle.sfen_text.specs.Spelling.{count_text, held_text, hand_text}
+use Rattle.sfen_text.specs.Hands.{item, items, is_digit, count_or_one, hands_with, empty_hand}
 use Rattle.sfen_text.proofs.PiecesAgain.{letter_again}
 
 digit_is : (d : ℕ) → d ≤ 9 → is_digit (48 + d) ≡ true

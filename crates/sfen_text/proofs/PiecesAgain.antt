@@ -1,5 +1,5 @@
 -- What is written for a piece is read as that piece.
-use Rattle.std.proofs.Common.{◌≡◌, ◌≢◌, ◌⊎◌, inl, inr, ℕ, zero, suc, ◌+◌, ◌-◌, ◌<◌, ◌≤◌, Bool, true, false, cond, eqb, List, [], ◌∷◌, ◌++◌, length, Option, Some, None, refl, sym, ap, subst, ◌∙◌, append_assoc, arith}
+use Rattle.std.proofs.Common.{◌≡◌, ◌≢◌, inr, ℕ, ◌+◌, ◌≤◌, Bool, true, false, List, [], ◌∷◌, ◌++◌, length, Some, refl, sym, subst, ◌∙◌, arith}
 use mathlib.Core.HLevel.{is_prop→PathP}
 use Rattle.std.proofs.Math.Bool.{Bool-set}
 use Rattle.board_core.specs.declared.piece.Kind.{Kind}
@@ -8,10 +8,9 @@ use Rattle.board_core.specs.declared.piece.Side.{Side}
 use Rattle.board_core.specs.declared.piece.Side.TheVariants.{Black, White}
 use Rattle.board_core.specs.declared.piece.Piece.{Piece}
 use Rattle.board_core.specs.Kind.{can_promote}
-use Rattle.sfen_text.specs.declared.squares.Sign.{Sign}
-use Rattle.sfen_text.specs.declared.squares.Sign.TheVariants.{Slash, Run, Stands, Broken}
+use Rattle.sfen_text.specs.declared.squares.Sign.TheVariants.{Stands}
 use Rattle.sfen_text.specs.Pieces.{letter_of, plus_text, piece_text, plain_piece, promoted_piece, piece_of, promoted_of}
-use Rattle.sfen_text.specs.Signs.{plain_sign, stands, Signs, none, sign, signs}
+use Rattle.sfen_text.specs.Signs.{plain_sign, stands, sign, signs}
 use Rattle.sfen_text.proofs.Filling.{signs_one}
 
 promotes_same : (b : Bool) (k : Kind) (f g : b ≡ true → can_promote k ≡ true) → f ≡ g

@@ -1,19 +1,17 @@
 -- What is written for the board is read as this board.
-use Rattle.std.proofs.Common.{◌≡◌, ◌≢◌, ◌⊎◌, inl, inr, ℕ, zero, suc, ◌+◌, ◌-◌, ◌*◌, ◌/◌, ◌%◌, ◌<◌, ◌≤◌, Bool, true, false, cond, eqb, ltb, List, [], ◌∷◌, ◌++◌, length, get_or, Option, Some, None, Result, Ok, Err, refl, sym, ap, subst, ◌∙◌, append_assoc, arith}
+use Rattle.std.proofs.Common.{◌≡◌, inl, inr, ℕ, zero, suc, ◌+◌, ◌-◌, ◌*◌, ◌/◌, ◌%◌, ◌<◌, ◌≤◌, true, false, eqb, List, [], ◌∷◌, ◌++◌, length, get_or, Option, Some, None, Ok, refl, sym, ap, ◌∙◌, append_assoc, arith}
 use Rattle.std.specs.Prelude.{replicate, nat_le, nat_lt, ◌&&◌}
 use Rattle.std.specs.List.{flat_map, range_with_len}
-use Rattle.std.proofs.lemmas.Bool.{le-ltb, lt-ltb}
-use Rattle.std.proofs.lemmas.Bool.Decides.{eqb_tells, nat_tests}
+use Rattle.std.proofs.lemmas.Bool.{lt-ltb}
+use Rattle.std.proofs.lemmas.Bool.Decides.{eqb_tells}
 use Rattle.std.proofs.lemmas.List.{append-nil, length-append, get_or_append_left, get_or-append_right}
 use Rattle.board_core.specs.declared.piece.Piece.{Piece}
 use Rattle.board_core.specs.Square.{square_on}
 use Rattle.board_core.specs.Board.{piece_at}
-use Rattle.sfen_text.specs.declared.fault.TextFault.{TextFault}
-use Rattle.sfen_text.specs.declared.squares.Sign.{Sign}
-use Rattle.sfen_text.specs.declared.squares.Sign.TheVariants.{Slash, Run, Stands, Broken}
-use Rattle.sfen_text.specs.Pieces.{letter_of, piece_text}
+use Rattle.sfen_text.specs.declared.squares.Sign.TheVariants.{Run}
+use Rattle.sfen_text.specs.Pieces.{piece_text}
 use Rattle.sfen_text.specs.Spelling.{row_from, row_of, run_text, row_text, slashed_row, board_text}
-use Rattle.sfen_text.specs.Signs.{plain_sign, Signs, none, sign, signs, in_front, squares, reading_place, cells_of}
+use Rattle.sfen_text.specs.Signs.{plain_sign, signs, in_front, squares, reading_place, cells_of}
 use Rattle.sfen_text.proofs.Filling.{signs_one, in_front_twice, in_front_none, le_passes, all_cells, piece_at_is}
 use Rattle.sfen_text.proofs.PiecesAgain.{piece_sign}
 

@@ -1,34 +1,29 @@
 -- What is written for a position is read as that position.
-use Rattle.std.proofs.Common.{◌≡◌, ◌≢◌, ◌⊎◌, inl, inr, ℕ, zero, suc, ◌+◌, ◌-◌, ◌<◌, ◌≤◌, Bool, true, false, cond, eqb, List, [], ◌∷◌, ◌++◌, length, take, drop, Option, Some, None, Result, Ok, Err, refl, sym, ap, subst, ◌∙◌, append_assoc, arith}
-use Rattle.std.specs.Prelude.{not}
-use Rattle.std.specs.List.{flat_map, range_with_len}
+use Rattle.std.proofs.Common.{◌≡◌, ◌≢◌, inl, inr, ℕ, ◌+◌, ◌≤◌, false, List, [], ◌∷◌, ◌++◌, length, drop, Option, Result, Ok, Err, refl, sym, ap, subst, ◌∙◌, append_assoc, arith}
 use Rattle.std.proofs.Math.Dec.{eqb-suc-zero}
 use Rattle.std.proofs.lemmas.Bool.{false≢true}
 use Rattle.std.proofs.lemmas.Bool.Decides.{eqb_tells}
-use Rattle.std.proofs.lemmas.List.{append-nil, length-append}
+use Rattle.std.proofs.lemmas.List.{append-nil}
 use Rattle.board_core.specs.declared.piece.Piece.{Piece}
-use Rattle.board_core.specs.declared.piece.Kind.{Kind}
 use Rattle.board_core.specs.declared.piece.Kind.TheVariants.{Pawn, Lance, Knight, Silver, Gold, Bishop, Rook, King}
 use Rattle.board_core.specs.declared.piece.Side.{Side}
 use Rattle.board_core.specs.declared.piece.Side.TheVariants.{Black, White}
 use Rattle.board_core.specs.declared.build.BadPosition.{BadPosition as Bad}
 use Rattle.board_core.specs.declared.build.BadPosition.TheVariants as bad
-use Rattle.board_core.specs.Kind.{other, total_of}
-use Rattle.board_core.specs.Board.{Board, held, kings_of, count_of}
+use Rattle.board_core.specs.Kind.{other}
+use Rattle.board_core.specs.Board.{Board}
 use Rattle.board_core.specs.Kept.{IsKept}
-use Rattle.board_core.specs.Build.{HasFault, IsBuilt}
+use Rattle.board_core.specs.Build.{HasFault}
 use Rattle.sfen_text.specs.declared.fault.TextFault.{TextFault}
 use Rattle.sfen_text.specs.declared.fault.TextFault.TheVariants as faults
-use Rattle.sfen_text.specs.Spelling.{row_of, board_text, side_letter, hand_text, hands_text, or_dash, sfen_of}
+use Rattle.sfen_text.specs.Spelling.{board_text, side_letter, hand_text, hands_text, or_dash, sfen_of}
 use Rattle.sfen_text.specs.Hands.{items, hands_with, hands_of, is_byte, empty_hand}
-use Rattle.sfen_text.specs.Signs.{cells_of}
-use Rattle.sfen_text.specs.Reading.{is_blank, leading, without_end_blanks, front_len, Field, field, field_of, next_of, end_of, cells_at, side_at, ended, fields_at, reading, IsAnswer, HasDefender}
-use Rattle.sfen_text.proofs.PiecesAgain.{IsPlain}
+use Rattle.sfen_text.specs.Reading.{is_blank, leading, without_end_blanks, front_len, field, field_of, next_of, end_of, cells_at, side_at, ended, fields_at, reading, IsAnswer, HasDefender}
 use Rattle.sfen_text.proofs.RowsAgain.{board_again, cells_again}
 use Rattle.sfen_text.proofs.HandsAgain.{IsSmall, both_again}
 use Rattle.sfen_text.proofs.BytesAgain.{ArePlain, board_plain, board_long, hand_plain, both_plain}
 use Rattle.sfen_text.proofs.Fields.{all_good}
-use Rattle.sfen_text.proofs.FieldsAgain.{Ends, AreSolid, solid_from_plain, no_blank, leading_none, field_here, field_behind, no_field, no_end_blanks, no_front}
+use Rattle.sfen_text.proofs.FieldsAgain.{Ends, AreSolid, solid_from_plain, no_blank, leading_none, field_here, field_behind, no_end_blanks, no_front}
 
 -- ---- the fields
 

@@ -1,5 +1,5 @@
 -- The hands field of an SFEN text.
-use Rattle.std.specs.Prelude.{◌≡◌, ◌+◌, ◌-◌, ◌*◌, ◌==◌, ◌&&◌, ℕ, zero, suc, List, [], ◌∷◌, length, replicate, slice_set, Bool, true, false, Option, Some, None, Result, Ok, Err, nat_le, nat_lt, if◌then◌else◌}
+use Rattle.std.specs.Prelude.{◌≡◌, ◌+◌, ◌-◌, ◌*◌, ◌==◌, ◌&&◌, ℕ, List, [], ◌∷◌, length, slice_set, Bool, false, Option, Some, None, Result, Ok, Err, nat_le, nat_lt, if◌then◌else◌, ◌≤◌}
 use Rattle.board_core.specs.declared.piece.Kind.{Kind}
 use Rattle.board_core.specs.declared.piece.Kind.TheVariants.{King}
 use Rattle.board_core.specs.declared.piece.Side.{Side}
@@ -9,6 +9,7 @@ use Rattle.board_core.specs.Kind.{place_of, same_kind}
 use Rattle.board_core.specs.Board.{held}
 use Rattle.sfen_text.specs.declared.fault.TextFault.{TextFault}
 use Rattle.sfen_text.specs.declared.fault.TextFault.TheVariants.{BadHand, HandTwice}
+use Rattle.sfen_text.specs.declared.hands.Holding.{Holding}
 use Rattle.sfen_text.specs.Pieces.{piece_of}
 
 -- The items of a text: each with the place of its letter, its count, side and kind; or the place where an item begins that
@@ -62,3 +63,9 @@ unfoldable pub hands_of : ℕ → List ℕ → Result (List ℕ × List ℕ) Tex
 hands_of at text =
     if length text == 0 then Err (BadHand at)
     else (if is_byte 45 text then Ok (empty_hand, empty_hand) else hands_with empty_hand empty_hand (items at 0 at text))
+
+-- One more byte was read, as an item's: what is behind it is read on from what was answered; or the fault is there, whatever
+-- is behind it.
+abbrev pub IsRead : Holding → ℕ → ℕ → Result Holding TextFault → Type 0
+IsRead holding byte at (Ok next) = (next.count ≤ 18) × ((rest : List ℕ) → hands_with holding.black holding.white (items holding.start holding.count at (byte ∷ rest)) ≡ hands_with next.black next.white (items next.start next.count (at + 1) rest))
+IsRead holding byte at (Err fault) = (rest : List ℕ) → hands_with holding.black holding.white (items holding.start holding.count at (byte ∷ rest)) ≡ Err fault

@@ -1,7 +1,6 @@
 -- What an SFEN text stands for, or its first fault.
-use Rattle.std.specs.Prelude.{◌≡◌, ◌+◌, ◌-◌, ◌==◌, ◌&&◌, ◌||◌, ℕ, List, [], ◌∷◌, length, take, drop, reverse, take_while, codes, Bool, true, false, not, Option, Some, None, Result, Ok, Err, nat_eq, nat_le, if◌then◌else◌}
+use Rattle.std.specs.Prelude.{◌≡◌, ◌+◌, ◌-◌, ◌==◌, ◌&&◌, ◌||◌, ℕ, List, length, take, drop, reverse, take_while, codes, Bool, not, Option, Result, Ok, Err, nat_eq, nat_le, if◌then◌else◌}
 use Rattle.std.specs.List.{list_all, starts_with}
-use Rattle.board_core.specs.declared.build.BadPosition.{BadPosition as Bad}
 use Rattle.board_core.specs.declared.piece.Side.{Side}
 use Rattle.board_core.specs.declared.piece.Side.TheVariants.{Black, White}
 use Rattle.board_core.specs.declared.piece.Piece.{Piece}
@@ -13,6 +12,7 @@ use Rattle.sfen_text.specs.declared.fault.TextFault.TheVariants.{BadSide, Traili
 use Rattle.sfen_text.specs.Signs.{signs, squares, cells_of}
 use Rattle.sfen_text.specs.Hands.{is_digit, is_byte, hands_of}
 
+-- What follows a step, unless the step has a fault.
 infixl 10 ◌>>=◌
 abbrev pub ◌>>=◌ : {A B : Type 0} → Result A TextFault → (A → Result B TextFault) → Result B TextFault
 (Ok x) >>= f = f x

@@ -1,5 +1,5 @@
 -- The board field of an SFEN text: its signs, and the squares that they fill.
-use Rattle.std.specs.Prelude.{◌≡◌, ◌+◌, ◌-◌, ◌*◌, ◌/◌, ◌%◌, ◌==◌, ◌&&◌, ℕ, zero, suc, List, [], ◌∷◌, ◌++◌, length, map, replicate, Bool, true, false, Option, Some, None, Result, Ok, Err, nat_le, nat_lt, if◌then◌else◌, take, ◌≤◌}
+use Rattle.std.specs.Prelude.{◌≡◌, ◌+◌, ◌-◌, ◌*◌, ◌/◌, ◌%◌, ◌==◌, ◌&&◌, ℕ, List, [], ◌∷◌, ◌++◌, length, map, replicate, Option, Some, None, Result, Ok, Err, nat_le, nat_lt, if◌then◌else◌, take, ◌≤◌}
 use Rattle.std.specs.List.{range_with_len}
 use Rattle.board_core.specs.declared.piece.Piece.{Piece}
 use Rattle.board_core.specs.Board.{piece_at}
@@ -68,3 +68,8 @@ pub record IsFilling (filling : Filling) : Type 0 where
   pub ranks : filling.ranks ≤ 8
   pub left : filling.left ≤ 9
   pub ahead : (place : ℕ) → read_count filling ≤ place → piece_at filling.read place ≡ None
+
+-- One more sign was taken: what is behind it is read on from the new squares; or the fault is there, whatever is behind it.
+abbrev pub IsTaken : Filling → Filling → Sign → ℕ → Result (Unit {0}) TextFault → Type 0
+IsTaken old new found at (Ok _) = IsFilling new × ((end : ℕ) (rest : Signs) → in_front (filled old) (squares end old.ranks old.left (sign at found rest)) ≡ in_front (filled new) (squares end new.ranks new.left rest))
+IsTaken old new found at (Err fault) = (end : ℕ) (rest : Signs) → squares end old.ranks old.left (sign at found rest) ≡ Err fault

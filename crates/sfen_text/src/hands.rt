@@ -1,8 +1,8 @@
 // The hands field of a text.
-ghost use Rattle.std.specs.Prelude.{◌≡◌, ◌≢◌, ◌≤◌, ◌<◌, ◌+◌, ◌^◌, ◌∷◌, ℕ, List, length, slice_set, MatchResult, Err};
+ghost use Rattle.std.specs.Prelude.{◌≡◌, ◌≢◌, ◌≤◌, ◌<◌, ◌+◌, ◌^◌, length, slice_set, IsTrue, false};
 ghost use Rattle.board_core.specs.Kind.{place_of};
 ghost use Rattle.board_core.specs.declared.piece.Kind.TheVariants.{King};
-ghost use Rattle.sfen_text.specs.Hands.{items, hands_with, hands_of, empty_hand};
+ghost use Rattle.sfen_text.specs.Hands.{items, hands_with, hands_of, empty_hand, is_digit, IsRead};
 ghost use Rattle.sfen_text.specs.Reading.{Gives};
 
 use crate::TextFault;
@@ -28,51 +28,45 @@ fn with_count(hand: Hand, kind: Kind, count: u8) -> Hand
     Hand::of(counts)
 }
 
-// Reads one more byte.
+// Reads one more byte, a digit.
 #[tactic(auto, unfolding(crate::specs::Hands::items, crate::specs::Hands::hands_with))]
-fn take_byte(holding: Holding, byte: u8, at: usize) -> Result<Holding, TextFault>
-    requires next { at + 1 < 2 ^ 64 }
+fn take_digit(holding: Holding, byte: u8, at: usize) -> Result<Holding, TextFault>
+    requires digit { IsTrue (is_digit byte) }
     requires count { holding.count ≤ 18 }
-    ensures { MatchResult result
-        (λ next. (next.count ≤ 18) × ((rest : List ℕ) → hands_with holding.black holding.white (items holding.start holding.count at (byte ∷ rest)) ≡ hands_with next.black next.white (items next.start next.count (at + 1) rest)))
-        (λ fault. (rest : List ℕ) → hands_with holding.black holding.white (items holding.start holding.count at (byte ∷ rest)) ≡ Err fault) }
+    ensures { IsRead holding byte at result }
 {
-    let Holding {
-        start,
-        count,
-        black,
-        white,
-    } = holding;
-    if byte.is_ascii_digit() {
-        let count = 10 * count + (byte - b'0');
-        if count == 0 || count > 18 {
-            return Err(TextFault::BadHand(start));
-        }
-        return Ok(Holding {
-            start,
-            count,
-            black,
-            white,
-        });
+    let count = 10 * holding.count + (byte - b'0');
+    if count == 0 || count > 18 {
+        return Err(TextFault::BadHand(holding.start));
     }
+    Ok(Holding { count, ..holding })
+}
+
+// Reads one more byte, the letter at the end of an item.
+#[tactic(auto, unfolding(crate::specs::Hands::items, crate::specs::Hands::hands_with))]
+fn take_letter(holding: Holding, byte: u8, at: usize) -> Result<Holding, TextFault>
+    requires digit { is_digit byte ≡ false }
+    requires next { at + 1 < 2 ^ 64 }
+    ensures { IsRead holding byte at result }
+{
     let Some(piece) = piece_of(byte) else {
-        return Err(TextFault::BadHand(start));
+        return Err(TextFault::BadHand(holding.start));
     };
     if piece.kind == Kind::King {
-        return Err(TextFault::BadHand(start));
+        return Err(TextFault::BadHand(holding.start));
     }
-    let count = if count == 0 { 1 } else { count };
+    let count = holding.count.max(1);
     let hand = match piece.side {
-        Side::Black => black,
-        Side::White => white,
+        Side::Black => holding.black,
+        Side::White => holding.white,
     };
     if hand.count(piece.kind) > 0 {
         return Err(TextFault::HandTwice(at));
     }
     let hand = with_count(hand, piece.kind, count);
     let (black, white) = match piece.side {
-        Side::Black => (hand, white),
-        Side::White => (black, hand),
+        Side::Black => (hand, holding.white),
+        Side::White => (holding.black, hand),
     };
     Ok(Holding {
         start: at + 1,
@@ -80,6 +74,19 @@ fn take_byte(holding: Holding, byte: u8, at: usize) -> Result<Holding, TextFault
         black,
         white,
     })
+}
+
+// Reads one more byte.
+fn take_byte(holding: Holding, byte: u8, at: usize) -> Result<Holding, TextFault>
+    requires next { at + 1 < 2 ^ 64 }
+    requires count { holding.count ≤ 18 }
+    ensures { IsRead holding byte at result }
+{
+    if byte.is_ascii_digit() {
+        take_digit(holding, byte, at)
+    } else {
+        take_letter(holding, byte, at)
+    }
 }
 
 #[tactic(auto, unfolding(crate::specs::Hands::items, crate::specs::Hands::hands_with))]

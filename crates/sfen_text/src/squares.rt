@@ -1,6 +1,6 @@
 // The board field of a text.
-ghost use Rattle.std.specs.Prelude.{◌≡◌, [], ◌≤◌, ◌<◌, ◌+◌, ◌-◌, ◌*◌, ◌^◌, ◌∷◌, ℕ, length, take, drop, MatchResult, Err, Result};
-ghost use Rattle.sfen_text.specs.Signs.{stands, plain_sign, Signs, sign, signs, in_front, squares, cells_of, IsFilling, filled};
+ghost use Rattle.std.specs.Prelude.{◌≡◌, [], ◌≤◌, ◌<◌, ◌+◌, ◌-◌, ◌*◌, ◌^◌, ℕ, length, drop};
+ghost use Rattle.sfen_text.specs.Signs.{stands, plain_sign, sign, signs, squares, cells_of, IsFilling, filled, IsTaken};
 ghost use Rattle.sfen_text.specs.Reading.{Gives, cells_at};
 
 use crate::TextFault;
@@ -68,9 +68,7 @@ fn sign_of(text: &[u8]) -> (Sign, usize)
 #[tactic(auto, unfolding(crate::specs::Signs::squares))]
 fn take_sign(filling: &mut Filling, found: Sign, at: usize) -> Result<(), TextFault>
     requires { IsFilling filling.old }
-    ensures { MatchResult result
-        (λ _. IsFilling filling.new × ((end : ℕ) (rest : Signs) → in_front (filled filling.old) (squares end filling.old.ranks filling.old.left (sign at found rest)) ≡ in_front (filled filling.new) (squares end filling.new.ranks filling.new.left rest)))
-        (λ fault. (end : ℕ) (rest : Signs) → squares end filling.old.ranks filling.old.left (sign at found rest) ≡ Err fault) }
+    ensures { IsTaken filling.old filling.new found at result }
 {
     match found {
         Sign::Broken => return Err(TextFault::BadPiece(at)),

@@ -1,4 +1,4 @@
-use Rattle.std.proofs.Common.{arith, rules}
+use Rattle.std.proofs.Common.{rules}
 use Rattle.sfen_text.proofs.Filling.{promoted_is}
 use Rattle.sfen_text.proofs.pieces.promoted_piece.Goals as goal
 

@@ -1,4 +1,4 @@
-use Rattle.std.proofs.Common.{◌≡◌, ℕ, ◌*◌, ◌<◌, length, get_or, None}
+use Rattle.std.proofs.Common.{◌≡◌, ℕ, ◌<◌, length, get_or, None}
 use Rattle.board_core.specs.Board.{piece_at}
 use Rattle.sfen_text.specs.Signs.{reading_place}
 use Rattle.sfen_text.proofs.squares.cells_of.Given as goal

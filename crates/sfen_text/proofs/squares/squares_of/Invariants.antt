@@ -1,4 +1,4 @@
-use Rattle.std.proofs.Common.{◌≡◌, ◌≤◌, ◌+◌, drop, length}
+use Rattle.std.proofs.Common.{◌≡◌, ◌+◌, length}
 use Rattle.sfen_text.specs.Signs.{squares, signs, filled, in_front, IsFilling}
 use Rattle.sfen_text.proofs.squares.squares_of.Given as goal
 

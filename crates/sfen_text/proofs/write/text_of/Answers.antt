@@ -1,6 +1,5 @@
 use Rattle.sfen_text.specs.Spelling.{sfen_of}
 use Rattle.std.proofs.Common.{append_assoc, rules}
-use Rattle.std.proofs.lemmas.Grind.{common_steps}
 use Rattle.sfen_text.proofs.write.text_of.Goals as goal
 
 pub returns : goal.returns
