@@ -13,10 +13,13 @@ abbrev pub IsAccepted : Board → Result Board TextFault → Type 0
 IsAccepted b (Ok problem) = (problem ≡ b) × IsProblem b
 IsAccepted b (Err fault) = (fault ≡ DefenderInCheck) × IsInCheck b.cells (other b.side)
 
+-- What a text that was read stands for: its own fault, or what its position is accepted as.
+abbrev pub Continues : Result Board TextFault → Result Board TextFault → Type 0
+Continues (Ok b) answer = IsAccepted b answer
+Continues (Err fault) answer = answer ≡ Err fault
+
 -- What an SFEN input stands for: a problem, or its first fault, one of the text before one of the problem.
-abbrev pub StandsFor : List ℕ → Result Board TextFault → Type 0
-StandsFor input answer = (read : Result Board TextFault) × IsAnswer (reading input) read × Continues read answer
-  where
-    Continues : Result Board TextFault → Result Board TextFault → Type 0
-    Continues (Ok b) answer = IsAccepted b answer
-    Continues (Err fault) answer = answer ≡ Err fault
+pub record StandsFor (input : List ℕ) (answer : Result Board TextFault) : Type 0 where
+  pub read : Result Board TextFault
+  pub is_read : IsAnswer (reading input) read
+  pub continues : Continues read answer

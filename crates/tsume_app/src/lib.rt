@@ -7,6 +7,7 @@
 mod answer;
 mod fault;
 mod first_mate;
+mod run;
 mod shown;
 mod text;
 

@@ -26,8 +26,5 @@ pub(crate) fn shown(alloc: Global, problem: &Problem, by: Move) -> Result<Answer
     let mut moves = Vec::new(alloc);
     moves.push(by)?;
     let certificate = MateCertificate::new(*problem, entries);
-    Ok(Answer::Mate(
-        Certificate::Mate(certificate),
-        MainLine::new(moves),
-    ))
+    Ok(Answer::Mate(Certificate::Mate(certificate), MainLine::new(moves)))
 }

@@ -19,8 +19,7 @@ returns-clause-none c =
     let l : Lists (IsAnswer c.args.problem.now.position.side c.apply-next.result) c.in_ok-answers.answers.items = c.in_ok-answers.ensures in
     let size : vec_len c.in_ok-answers.answers ≡ length c.in_ok-answers.answers.items = search rules in
     let is : c.is_empty.result ≡ (length c.in_ok-answers.answers.items == 0) = rw size at c.is_empty.ensures in
-    rw (← c.apply-next.ensures.position)
-    (
+    rw (← c.apply-next.ensures.position) (
       (λ empty. none_listed _ c.in_ok-answers.answers.items l (rw is at empty)),
       (λ none. rw is (empty_list _ c.in_ok-answers.answers.items l none)),
     )

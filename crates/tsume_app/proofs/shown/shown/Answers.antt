@@ -11,7 +11,7 @@ in_front before xs x grew empty = subst (λ (ys : List _). xs ≡ ys ++ x ∷ []
 pub returns-clause-true_of : goal.returns-clause-true_of
 returns-clause-true_of c =
     let entries : c.push.new.self.items ≡ record { rank = 1; by = c.args.by; at = c.args.problem.now.position } ∷ [] =
-        in_front _ _ _ c.in_ok-push.ensures.items c.new-entries.ensures.items in
+    in_front _ _ _ c.in_ok-push.ensures.items c.new-entries.ensures.items in
     let moves : c.push-2.new.self.items ≡ c.args.by ∷ [] = in_front _ _ _ c.in_ok-push-2.ensures.items c.new-moves.ensures.items in
     record {
       mate = mate_at_once _ _ c.args.by c.requires.first.0;
