@@ -1,3 +1,4 @@
 pub mod Listed
 pub mod Legal
 pub mod Running
+pub mod Complete

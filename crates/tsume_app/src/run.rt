@@ -136,6 +136,26 @@ fn is_solve(words: &[String]) -> bool
     }
 }
 
+fn solve<S: Source, K: Sink>(alloc: Global, source: &mut S, sink: &mut K) -> Ended
+    ensures ended { IsEnded (record {
+      left = S.left source.old;
+      left_after = S.left source.new;
+      kept = K.kept sink.old;
+      kept_after = K.kept sink.new;
+      source_faults = S.faults source.old;
+      source_faults_after = S.faults source.new;
+      sink_faults = K.faults sink.old;
+      sink_faults_after = K.faults sink.new;
+    }) result.answer result.fault }
+    ensures status { result.status ≡ status_of result.fault }
+    ensures words { ¬ AreRefused result.fault }
+{
+    match decide(alloc, source) {
+        Ok(answer) => write_answer(alloc, sink, answer),
+        Err(fault) => end_with(None, Some(fault)),
+    }
+}
+
 /// Runs the program: today the one word `solve`, which reads a problem (SFEN) from the source and writes to the sink what it
 /// found out about it.
 ///
@@ -165,12 +185,14 @@ pub fn run<S: Source, K: Sink, G: Gate>(
 
     // The words are refused exactly where they aren't the one word `solve`.
     ensures words { AreRefused result.fault ↔ ¬ IsSolve (map string_bytes words.items) }
+
+    // A problem with a mate in one is answered, unless the outside fails or memory is wanted.
+    ensures complete { IsSolve (map string_bytes words.items) → IsWellPosed (S.left source.old)
+        → ¬ Rose (S.faults source.old) (S.faults source.new) → ¬ Rose (K.faults sink.old) (K.faults sink.new)
+        → (result.fault ≡ None) ⊎ (result.fault ≡ Some Fault.NoMemory) }
 {
     if !is_solve(&words) {
         return end_with(None, Some(Fault::Words(WordFault::NotBuilt)));
     }
-    match decide(alloc, source) {
-        Ok(answer) => write_answer(alloc, sink, answer),
-        Err(fault) => end_with(None, Some(fault)),
-    }
+    solve(alloc, source, sink)
 }
