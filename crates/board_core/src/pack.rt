@@ -117,7 +117,7 @@ fn side_bit(side: Side) -> u64
     }
 }
 
-/// The key of a position. No two positions have one key. Takes no memory, and as many steps for each position.
+/// The key of a position. No two positions have one key. Takes no memory, and looks at each square once.
 ///
 /// Word `s / 12` of the eight (0 to 6) holds square `s` in the five bits from bit `5 * (s % 12)`: 0 for an empty square,
 /// 1 to 8 for Black's pawn, lance, knight, silver, gold, bishop, rook and king, 9 to 14 for its promoted pawn, lance,
