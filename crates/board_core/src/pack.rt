@@ -1,8 +1,8 @@
 // How a position is packed into its key.
-ghost use Rattle.std.specs.Prelude.{true, false, ◌≡◌, ◌<◌, ◌≤◌, ◌+◌, ◌-◌, ◌*◌, ◌↔◌, IsTrue, take, drop};
+ghost use Rattle.std.specs.Prelude.{true, false, ◌≡◌, ◌<◌, ◌≤◌, ◌+◌, ◌-◌, ◌↔◌, IsTrue, take, drop};
 ghost use Rattle.board_core.specs.Board.{Board, piece_at};
 ghost use Rattle.board_core.specs.Kept.{IsKept};
-ghost use Rattle.board_core.specs.Key.{kind_code, side_code, code_of, side_bit, beside, packed, word_of, hand_code, key_of};
+ghost use Rattle.board_core.specs.Key.{kind_code, side_code, code_of, side_bit, beside, packed, hand_code, key_of};
 
 use crate::{Hand, Key, Kind, Piece, Position, Side};
 
