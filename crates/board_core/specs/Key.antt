@@ -7,7 +7,7 @@ use Rattle.board_core.specs.declared.piece.Piece.{Piece}
 use Rattle.board_core.specs.Board.{Board, held}
 
 -- Black's code of a kind, and of its promoted side: 1 to 8 are the kinds in their order, the king last; 9 to 14 are the promoted
--- ones in the same order. Gold and king have no promoted side, and no code for one.
+-- ones in the same order. Gold and king have no promoted side, so no other code.
 abbrev pub kind_code : Bool → Kind → ℕ
 kind_code false Pawn = 1
 kind_code false Lance = 2
@@ -21,10 +21,10 @@ kind_code true Pawn = 9
 kind_code true Lance = 10
 kind_code true Knight = 11
 kind_code true Silver = 12
-kind_code true Gold = 0
+kind_code true Gold = 5
 kind_code true Bishop = 13
 kind_code true Rook = 14
-kind_code true King = 0
+kind_code true King = 8
 
 -- How much more than Black's code a side's code is.
 abbrev pub side_code : Side → ℕ

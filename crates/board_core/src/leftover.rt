@@ -1,5 +1,5 @@
 // What a set has left, in the defender's hand.
-ghost use Rattle.std.specs.Prelude.{◌≡◌, ◌≢◌, ◌≤◌};
+ghost use Rattle.std.specs.Prelude.{◌≡◌, ◌≢◌};
 ghost use Rattle.board_core.specs.Kind.{total_of};
 ghost use Rattle.board_core.specs.Board.{count_of};
 ghost use Rattle.board_core.specs.Rest.{held_with_rest, hand_with_rest, rest_of};

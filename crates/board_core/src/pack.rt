@@ -1,32 +1,61 @@
 // How a position is packed into its key.
-ghost use Rattle.std.specs.Prelude.{◌≡◌, ◌<◌, ◌≤◌, ◌+◌, ◌-◌, ◌*◌, ◌↔◌, IsTrue, take, drop};
+ghost use Rattle.std.specs.Prelude.{true, false, ◌≡◌, ◌<◌, ◌≤◌, ◌+◌, ◌-◌, ◌↔◌, IsTrue, take, drop};
 ghost use Rattle.board_core.specs.Board.{Board, piece_at};
 ghost use Rattle.board_core.specs.Kept.{IsKept};
-ghost use Rattle.board_core.specs.Key.{kind_code, side_code, code_of, side_bit, beside, packed, word_of, hand_code, key_of};
+ghost use Rattle.board_core.specs.Key.{kind_code, side_code, code_of, side_bit, beside, packed, hand_code, key_of};
 
 use crate::{Hand, Key, Kind, Piece, Position, Side};
+
+// How much more the code of the promoted side is than that of the kind.
+fn promotion(kind: Kind) -> u64
+    ensures added { kind_code true kind ≡ kind_code false kind + result }
+    ensures small { result ≤ 8 }
+{
+    match kind {
+        Kind::Gold | Kind::King => 0,
+        Kind::Bishop | Kind::Rook => 7,
+        _ => 8,
+    }
+}
 
 // The code of a kind, or of its promoted side, as Black's.
 fn kind_code(promoted: bool, kind: Kind) -> u64
     ensures code { result ≡ kind_code promoted kind }
+    ensures small { result ≤ 16 }
+{
+    let plain = own_code(kind);
+    if promoted {
+        plain + promotion(kind)
+    } else {
+        plain
+    }
+}
+
+// The code of a kind, as Black's.
+fn own_code(kind: Kind) -> u64
+    ensures code { result ≡ kind_code false kind }
+    ensures small { result ≤ 8 }
+{
+    match kind {
+        Kind::Pawn => 1,
+        Kind::Lance => 2,
+        Kind::Knight => 3,
+        Kind::Silver => 4,
+        Kind::Gold => 5,
+        Kind::Bishop => 6,
+        Kind::Rook => 7,
+        Kind::King => 8,
+    }
+}
+
+// How much more than Black's code a side's code is.
+fn side_code(side: Side) -> u64
+    ensures code { result ≡ side_code side }
     ensures small { result ≤ 14 }
 {
-    match (promoted, kind) {
-        (false, Kind::Pawn) => 1,
-        (false, Kind::Lance) => 2,
-        (false, Kind::Knight) => 3,
-        (false, Kind::Silver) => 4,
-        (false, Kind::Gold) => 5,
-        (false, Kind::Bishop) => 6,
-        (false, Kind::Rook) => 7,
-        (false, Kind::King) => 8,
-        (true, Kind::Pawn) => 9,
-        (true, Kind::Lance) => 10,
-        (true, Kind::Knight) => 11,
-        (true, Kind::Silver) => 12,
-        (true, Kind::Bishop) => 13,
-        (true, Kind::Rook) => 14,
-        (true, _) => 0,
+    match side {
+        Side::Black => 0,
+        Side::White => 14,
     }
 }
 
@@ -37,10 +66,7 @@ fn code(cell: Option<Piece>) -> u64
 {
     match cell {
         None => 0,
-        Some(piece) => match piece.side {
-            Side::Black => kind_code(piece.promoted, piece.kind),
-            Side::White => kind_code(piece.promoted, piece.kind) + 14,
-        },
+        Some(piece) => kind_code(piece.promoted, piece.kind) + side_code(piece.side),
     }
 }
 
@@ -91,7 +117,7 @@ fn side_bit(side: Side) -> u64
     }
 }
 
-/// The key of a position. No two positions have one key. Takes no memory; its time is the same for all positions.
+/// The key of a position. No two positions have one key. Takes no memory, and looks at each square once.
 ///
 /// Word `s / 12` of the eight (0 to 6) holds square `s` in the five bits from bit `5 * (s % 12)`: 0 for an empty square,
 /// 1 to 8 for Black's pawn, lance, knight, silver, gold, bishop, rook and king, 9 to 14 for its promoted pawn, lance,

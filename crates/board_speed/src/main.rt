@@ -1,5 +1,5 @@
-// Measures positions: `board_speed ROUNDS` builds the opening position and copies a position so often, and prints sums
-// that depend on every round. With a second word it also prints how long each took, in microseconds.
+// Measures positions: `board_speed ROUNDS` builds the opening position, copies a position and makes a key so often, and
+// prints sums that depend on every round. With a second word it also prints how long each took, in microseconds.
 #![tactic(auto)]
 
 mod rounds;
@@ -31,11 +31,20 @@ fn main(rt: HostRuntime) -> io::Result<()> {
     let copying = start.elapsed(&rt)?;
     println!(rt; "copied {copied}")?;
 
+    let start = Instant::now(&rt)?;
+    let words = match Position::build(&cells, Hand::empty(), Hand::empty(), Side::Black) {
+        Ok(position) => rounds::keys(rt.alloc(), position, count)?,
+        Err(_) => 0,
+    };
+    let packing = start.elapsed(&rt)?;
+    println!(rt; "keys {words}")?;
+
     if timed {
         println!(rt;
-            "building took {} us, copying {} us",
+            "building took {} us, copying {} us, making keys {} us",
             building.as_micros(),
-            copying.as_micros()
+            copying.as_micros(),
+            packing.as_micros()
         )?;
     }
     Ok(())

@@ -1,5 +1,5 @@
 // The work that is measured.
-use board_core::{Hand, Kind, Piece, Position, Side, Square};
+use board_core::{Hand, Kind, Piece, Position, Side, Square, key};
 use std::alloc::{AllocError, Global};
 
 // How many positions stand side by side while they are copied.
@@ -88,4 +88,25 @@ pub fn copy(alloc: Global, position: Position, rounds: u64) -> Result<usize, All
             .filter(|found| found.side() == Side::Black)
             .count(),
     )
+}
+
+/// Makes the key of one of a ring of positions each round, each of them the position without what stood on another
+/// square; answers the sum of the words, with what it overflows by dropped.
+pub fn keys(alloc: Global, position: Position, rounds: u64) -> Result<u64, AllocError> {
+    let mut ring = Vec::new(alloc);
+    for number in 0..RING as u8 {
+        let mut other = position;
+        other.take(Square { number });
+        ring.push(other)?;
+    }
+    let mut sum: u64 = 0;
+    for round in 0..rounds {
+        if let Some(found) = ring.get((round % RING) as usize) {
+            let words = key(found).0;
+            for word in words.iter() {
+                sum = sum.wrapping_add(*word);
+            }
+        }
+    }
+    Ok(sum)
 }
