@@ -7,9 +7,10 @@
 mod answer;
 mod fault;
 mod first_mate;
-mod run;
+mod program;
 mod shown;
 mod text;
 
 pub use answer::{Answer, MainLine};
 pub use fault::{Fault, WordFault};
+pub use program::{Ended, run};

@@ -1,5 +1,5 @@
 use Rattle.tsume_app.proofs.Complete.{complete_of}
-use Rattle.tsume_app.proofs.run.run.Goals as goal
+use Rattle.tsume_app.proofs.program.run.Goals as goal
 
 pub returns-clause-complete : goal.returns-clause-complete
 returns-clause-complete g c = λ solves posed source sink.

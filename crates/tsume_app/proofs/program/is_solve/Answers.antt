@@ -1,6 +1,6 @@
 use Rattle.std.proofs.Common.{◌≡◌, ◌<◌, ◌≤◌, ℕ, zero, suc, List, [], ◌∷◌, Bool, true, length, get_or, arith, refl, sym, ap, ◌∙◌, map, subst, codes, string_bytes, rules}
 use Rattle.std.proofs.lemmas.Slice.Eq.{bytes_eq-Decides}
-use Rattle.tsume_app.proofs.run.is_solve.Goals as goal
+use Rattle.tsume_app.proofs.program.is_solve.Goals as goal
 
 one_word : {X : Type 0} → (f : X → List ℕ) (xs : List X) (w : X) → length xs < 2 → 1 ≤ length xs → w ≡ get_or xs 0 w → map f xs ≡ f w ∷ []
 one_word f [] w below above e = absurd (omega arith)

@@ -1,6 +1,6 @@
 use Rattle.std.proofs.Common.{◌≡◌, true, Result, Ok, Err, refl, sym, ◌∙◌}
 use Rattle.std.specs.Result.{OnErr, is_err}
-use Rattle.tsume_app.proofs.run.write_answer.Goals as goal
+use Rattle.tsume_app.proofs.program.write_answer.Goals as goal
 
 err_holds : {T E P : Type 0} → (r : Result T E) → is_err r ≡ true → OnErr r P → P
 err_holds (Ok x) h p = absurd (cc)
