@@ -1,0 +1,4 @@
+pub mod Listing
+pub mod Rising
+pub mod Entries
+pub mod Verdicts
