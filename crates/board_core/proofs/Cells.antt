@@ -1,10 +1,8 @@
-use Rattle.std.proofs.Common.{◌≡◌, ◌≢◌, ◌<◌, ◌≤◌, ◌+◌, ◌-◌, ℕ, zero, suc, List, [], ◌∷◌, Option, Some, None, Bool, true, false, cond, length, slice_get, slice_set, arith, ap, sym, refl, get_or, ◌∙◌}
+use Rattle.std.proofs.Common.{◌≡◌, ◌≢◌, ◌<◌, ◌+◌, ℕ, zero, suc, List, [], ◌∷◌, Option, None, Bool, true, false, cond, length, slice_set, arith, ap, refl, get_or}
 use Rattle.std.specs.List.{count_by}
 use Rattle.std.proofs.lemmas.List.Sums.{sum_by-set}
 use Rattle.board_core.specs.declared.piece.Piece.{Piece}
-use Rattle.board_core.specs.declared.piece.Kind.{Kind}
-use Rattle.board_core.specs.declared.piece.Side.{Side}
-use Rattle.board_core.specs.Board.{Board, piece_at, held, count_of, kings_of, is_of_kind, is_king_of, with_cell, one_if, ChangesCell}
+use Rattle.board_core.specs.Board.{Board, piece_at, is_of_kind, is_king_of, with_cell, one_if, ChangesCell}
 
 -- a cell that was written holds what was written
 pub piece_at-set_same : (cells : List (Option Piece)) (i : ℕ) (v : Option Piece) → i < length cells → piece_at (slice_set cells i v) i ≡ v

@@ -5,3 +5,6 @@ pub mod Counting
 pub mod Faults
 pub mod MoveOrder
 pub mod Same
+pub mod Packing
+pub mod KeyExact
+pub mod RestKept

@@ -1,4 +1,4 @@
-use Rattle.std.specs.Prelude.{◌≡◌, ◌≢◌, ◌+◌, ◌-◌, ◌<◌, ◌&&◌, ℕ, List, Option, Some, None, Bool, true, false, not, slice_get, slice_set, slice_index, count_by, nat_lt, nat_le}
+use Rattle.std.specs.Prelude.{◌≡◌, ◌≢◌, ◌+◌, ◌-◌, ◌&&◌, ℕ, List, Option, Some, None, Bool, true, false, not, slice_get, slice_set, slice_index, count_by, nat_lt}
 use Rattle.board_core.specs.declared.piece.Kind.{Kind}
 use Rattle.board_core.specs.declared.piece.Kind.TheVariants.{Pawn, King}
 use Rattle.board_core.specs.declared.piece.Side.{Side}

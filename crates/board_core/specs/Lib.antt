@@ -4,3 +4,5 @@ pub mod Board
 pub mod Kept
 pub mod Build
 pub mod Order
+pub mod Key
+pub mod Rest

@@ -7,8 +7,11 @@
 
 mod build;
 mod hand;
+mod keys;
+mod leftover;
 mod memory;
 mod moves;
+mod pack;
 mod piece;
 mod position;
 mod scan;
@@ -18,8 +21,11 @@ mod tests;
 
 pub use build::BadPosition;
 pub use hand::Hand;
+pub use keys::Key;
+pub use leftover::rest;
 pub use memory::NoMemory;
 pub use moves::{MateEntry, Move};
+pub use pack::{key, same_key};
 pub use piece::{Kind, Piece, Side};
 pub use position::Position;
 pub use square::Square;

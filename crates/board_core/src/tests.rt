@@ -464,3 +464,115 @@ fn moves_sort_into_their_order(rt: HostRuntime) -> Result<(), Fail> {
     assert_eq!(rt; moves.as_slice(), want.as_slice());
     Ok(())
 }
+
+// What stands on the board, the two hands, and who moves.
+type Stand<'a> = (&'a [Placed], [u8; 7], [u8; 7], Side);
+
+fn stand(rt: &impl Abort, (pieces, black, white, side): &Stand) -> Position {
+    match Position::build(
+        &cells_of(rt, pieces),
+        Hand::of(*black),
+        Hand::of(*white),
+        *side,
+    ) {
+        Ok(position) => position,
+        Err(fault) => panic!(rt; "{fault:?}"),
+    }
+}
+
+const GOLD: [u8; 7] = [0, 0, 0, 0, 1, 0, 0];
+
+const ALL_BUT_ONE: [u8; 7] = [17, 4, 4, 4, 4, 2, 2];
+
+const FACING: &[Placed] = &[(51, King, false, White), (53, Pawn, false, Black)];
+
+const TURNED: &[Placed] = &[(51, King, false, White), (53, Pawn, true, Black)];
+
+const KINGS: &[Placed] = &[
+    (51, King, false, White),
+    (53, Pawn, false, Black),
+    (59, King, false, Black),
+];
+
+const MANY: &[Placed] = &[
+    (51, King, false, White),
+    (13, Lance, false, Black),
+    (91, Rook, true, White),
+    (99, Bishop, true, White),
+    (19, Gold, false, White),
+    (24, Knight, true, Black),
+    (35, Silver, false, White),
+    (46, Lance, true, White),
+];
+
+#[test]
+fn a_key_is_as_laid_out(rt: HostRuntime) {
+    let rows: [(Stand, [u64; 8]); 4] = [
+        ((FACING, GOLD, NONE, Black), [0, 0, 0, 1046, 0, 0, 0, 16384]),
+        ((TURNED, GOLD, NONE, Black), [0, 0, 0, 9238, 0, 0, 0, 16384]),
+        (
+            (KINGS, GOLD, GOLD, White),
+            [0, 0, 0, 8796093023254, 0, 0, 0, 4432406265856],
+        ),
+        (
+            (MANY, [9, 1, 2, 3, 0, 1, 0], [9, 0, 1, 0, 2, 0, 1], Black),
+            [
+                20890720929792,
+                20266198323167243,
+                26388279066624,
+                22,
+                0,
+                0,
+                29686813949980,
+                1168786987561,
+            ],
+        ),
+    ];
+    for (row, (position, words)) in rows.iter().enumerate() {
+        assert_eq!(rt; key(&stand(&rt, position)), Key(*words), "row {row}");
+    }
+}
+
+#[test]
+fn no_two_positions_have_one_key(rt: HostRuntime) {
+    let positions: [Stand; 6] = [
+        (KINGS, GOLD, NONE, Black),
+        (KINGS, GOLD, NONE, White),
+        (KINGS, GOLD, GOLD, Black),
+        (KINGS, NONE, GOLD, Black),
+        (FACING, GOLD, NONE, Black),
+        (TURNED, GOLD, NONE, Black),
+    ];
+    for (row, one) in positions.iter().enumerate() {
+        for (column, two) in positions.iter().enumerate() {
+            let same = same_key(&stand(&rt, one), &stand(&rt, two));
+            assert_eq!(rt; same, row == column, "rows {row} and {column}");
+        }
+    }
+}
+
+#[test]
+fn the_rest_is_in_the_defenders_hand(rt: HostRuntime) {
+    let rows: [(Stand, [u8; 7], [u8; 7]); 4] = [
+        ((FACING, GOLD, NONE, Black), GOLD, [17, 4, 4, 4, 3, 2, 2]),
+        (
+            (TURNED, GOLD, [2, 0, 0, 0, 0, 0, 1], Black),
+            GOLD,
+            [17, 4, 4, 4, 3, 2, 2],
+        ),
+        (
+            (KINGS, [1, 0, 0, 0, 0, 0, 0], GOLD, White),
+            [17, 4, 4, 4, 3, 2, 2],
+            GOLD,
+        ),
+        ((KINGS, NONE, ALL_BUT_ONE, Black), NONE, ALL_BUT_ONE),
+    ];
+    for (row, (given, black, white)) in rows.iter().enumerate() {
+        let before = stand(&rt, given);
+        let after = rest(&before);
+        assert_eq!(rt; after.hand(Black), Hand::of(*black), "row {row}");
+        assert_eq!(rt; after.hand(White), Hand::of(*white), "row {row}");
+        assert_eq!(rt; after.side(), before.side(), "row {row}");
+        assert!(rt; after.cells() == before.cells(), "row {row}");
+    }
+}

@@ -1,0 +1,67 @@
+use Rattle.std.specs.Prelude.{◌+◌, ◌*◌, ◌^◌, ℕ, List, [], ◌∷◌, Option, Some, None, Bool, true, false, take, drop}
+use Rattle.board_core.specs.declared.piece.Kind.{Kind}
+use Rattle.board_core.specs.declared.piece.Kind.TheVariants.{Pawn, Lance, Knight, Silver, Gold, Bishop, Rook, King}
+use Rattle.board_core.specs.declared.piece.Side.{Side}
+use Rattle.board_core.specs.declared.piece.Side.TheVariants.{Black, White}
+use Rattle.board_core.specs.declared.piece.Piece.{Piece}
+use Rattle.board_core.specs.Board.{Board, held}
+
+-- Black's code of a kind, and of its promoted side: 1 to 8 are the kinds in their order, the king last; 9 to 14 are the promoted
+-- ones in the same order. Gold and king have no promoted side, and no code for one.
+abbrev pub kind_code : Bool → Kind → ℕ
+kind_code false Pawn = 1
+kind_code false Lance = 2
+kind_code false Knight = 3
+kind_code false Silver = 4
+kind_code false Gold = 5
+kind_code false Bishop = 6
+kind_code false Rook = 7
+kind_code false King = 8
+kind_code true Pawn = 9
+kind_code true Lance = 10
+kind_code true Knight = 11
+kind_code true Silver = 12
+kind_code true Gold = 0
+kind_code true Bishop = 13
+kind_code true Rook = 14
+kind_code true King = 0
+
+-- How much more than Black's code a side's code is.
+abbrev pub side_code : Side → ℕ
+side_code Black = 0
+side_code White = 14
+
+-- The code of what a square holds: 0 where it is empty; 1 to 14 for Black's pieces, 15 to 28 for White's.
+abbrev pub code_of : Option Piece → ℕ
+code_of None = 0
+code_of (Some piece) = kind_code piece.promoted piece.kind + side_code piece.side
+
+-- One number in so many of the lowest bits, and another in the bits above them.
+abbrev pub beside : ℕ → ℕ → ℕ → ℕ
+beside width low high = low + 2 ^ width * high
+
+-- Squares in a word: five bits for the code of each, the first in the lowest bits.
+abbrev pub packed : List (Option Piece) → ℕ
+packed [] = 0
+packed (cell ∷ cells) = beside 5 (code_of cell) (packed cells)
+
+-- The word of a key for twelve squares, the first of which has twelve times the word's number; the last such word has nine.
+unfoldable pub word_of : List (Option Piece) → ℕ → ℕ
+word_of cells number = packed (take 12 (drop (12 * number) cells))
+
+-- A hand in 21 bits, from the lowest: five bits for the pawns, three each for lances, knights, silvers and golds, two each for
+-- bishops and rooks.
+unfoldable pub hand_code : List ℕ → ℕ
+hand_code hand = beside 5 (held hand Pawn) (beside 3 (held hand Lance) (beside 3 (held hand Knight) (beside 3 (held hand Silver)
+    (beside 3 (held hand Gold) (beside 2 (held hand Bishop) (held hand Rook))))))
+
+-- 1 where White is to move, else 0.
+abbrev pub side_bit : Side → ℕ
+side_bit Black = 0
+side_bit White = 1
+
+-- The eight words of a board's key: seven of twelve squares each, and one of Black's hand in 21 bits, White's hand in the next 21,
+-- and the side to move in the bit above them.
+unfoldable pub key_of : Board → List ℕ
+key_of b = word_of b.cells 0 ∷ word_of b.cells 1 ∷ word_of b.cells 2 ∷ word_of b.cells 3 ∷ word_of b.cells 4 ∷ word_of b.cells 5
+    ∷ word_of b.cells 6 ∷ beside 21 (hand_code b.black) (beside 21 (hand_code b.white) (side_bit b.side)) ∷ []
