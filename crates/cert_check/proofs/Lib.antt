@@ -2,3 +2,4 @@ pub mod Listing
 pub mod Rising
 pub mod Entries
 pub mod Verdicts
+pub mod Finding

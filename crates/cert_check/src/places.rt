@@ -1,15 +1,16 @@
 // Finding a position among those of a certificate.
-ghost use Rattle.std.specs.Prelude.{◌≡◌, ◌++◌, ◌∷◌, [], ◌↔◌, List, OnOk, IsTrue, Contains};
+ghost use Rattle.std.specs.Prelude.{◌≡◌, ◌++◌, ◌∷◌, [], ◌↔◌, List, length, OnOk, IsTrue, Contains};
 ghost use Rattle.board_core.specs.Board.{Board};
 ghost use Rattle.cert_check.specs.Places.{ArePlacesOf, IsPlace};
 
-use board_core::{NoMemory, Position};
+use board_core::{Key, NoMemory, Position, key};
 use std::alloc::Global;
+use std::collections::BTreeMap;
 
-/// Where each position of a list stands.
+/// Where each position of a list stands, by its key.
 #[derive(Drop)]
 pub(crate) struct Places {
-    positions: Vec<Position>,
+    by_key: BTreeMap<Key, usize>,
 }
 
 impl Places {
@@ -18,15 +19,15 @@ impl Places {
         ensures { ArePlacesOf result [] }
     {
         Places {
-            positions: Vec::new(alloc),
+            by_key: BTreeMap::new(alloc),
         }
     }
 
-    /// Takes one more position, behind the others.
-    pub(crate) fn add(&mut self, position: &Position) -> Result<(), NoMemory>
-        ensures { OnOk result ((positions : List Board) → ArePlacesOf self.old positions → ArePlacesOf self.new (positions ++ position.now ∷ [])) }
+    /// Takes one more position, behind the others: its place is how many there are.
+    pub(crate) fn add(&mut self, position: &Position, place: usize) -> Result<(), NoMemory>
+        ensures { OnOk result ((positions : List Board) → ArePlacesOf self.old positions → place ≡ length positions → ArePlacesOf self.new (positions ++ position.now ∷ [])) }
     {
-        self.positions.push(*position)?;
+        self.by_key.insert(key(position), place)?;
         Ok(())
     }
 
@@ -41,11 +42,6 @@ impl Places {
     pub(crate) fn find(&self, position: &Position) -> Option<usize>
         ensures { (positions : List Board) → ArePlacesOf self.now positions → IsPlace positions position.now result }
     {
-        for (place, other) in self.positions.iter().enumerate() {
-            if position.is_same(other) {
-                return Some(place);
-            }
-        }
-        None
+        self.by_key.get(&key(position)).copied()
     }
 }

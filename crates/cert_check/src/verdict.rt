@@ -51,13 +51,13 @@ fn places_of(alloc: Global, certificate: &Certificate) -> Result<Places, NoMemor
     let mut places = Places::new(alloc);
     match certificate {
         Certificate::Mate(mate) => {
-            for entry in mate.entries() {
-                places.add(&entry.at)?;
+            for (place, entry) in mate.entries().iter().enumerate() {
+                places.add(&entry.at, place)?;
             }
         }
         Certificate::Escape(escape) => {
-            for position in escape.entries() {
-                places.add(position)?;
+            for (place, position) in escape.entries().iter().enumerate() {
+                places.add(position, place)?;
             }
         }
     }
