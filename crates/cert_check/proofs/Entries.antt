@@ -1,6 +1,6 @@
 -- The first reason against one entry.
-use Rattle.std.proofs.Common.{◌≡◌, ◌<◌, ◌≤◌, ◌+◌, ℕ, List, get_or, length, Contains, arith, ap, sym, refl, ◌∙◌, subst, false, true, Bool}
-use Rattle.std.specs.Prelude.{Some, None, Option, slice_get, IsTrue}
+use Rattle.std.proofs.Common.{◌≡◌, ◌<◌, ◌≤◌, ◌+◌, ℕ, List, get_or, length, Contains, arith, ap, sym, ◌∙◌, subst}
+use Rattle.std.specs.Prelude.{Some, slice_get}
 use Rattle.std.proofs.lemmas.Option.{get_or_from_slice_get, slice_get_within}
 use Rattle.board_core.specs.declared.piece.Side.{Side}
 use Rattle.board_core.specs.declared.moves.Move.{Move}
@@ -12,7 +12,7 @@ use Rattle.shogi_rules.specs.Tsume.{IsCheck, IsAnswer}
 use Rattle.mate_def.specs.Mate.{after_both}
 use Rattle.cert_text.specs.Certificate.{IsRising, positions_of}
 use Rattle.cert_check.specs.Valid.{IsListedBelow, IsBorneOut}
-use Rattle.cert_check.specs.Reasons.{IsOutside, IsNotLower, MateReason, IsAnswerJudged, IsAnsweredInto, IsHeld, EscapeReason, IsFirstReason, reason_order}
+use Rattle.cert_check.specs.Reasons.{IsNotLower, MateReason, IsAnswerJudged, IsAnsweredInto, IsHeld, EscapeReason, IsFirstReason, reason_order}
 use Rattle.cert_check.specs.declared.verdict.Why.{Why}
 use Rattle.cert_check.specs.declared.verdict.Why.TheVariants.{RootMissing, NotACheck, AnswerOutside, RankNotLower, CheckUnanswered}
 use Rattle.cert_check.proofs.Listing.{before_in, held_at}

@@ -1,5 +1,5 @@
 -- A position is found by its key exactly where it is listed.
-use Rattle.std.proofs.Common.{◌≡◌, ◌<◌, ◌≤◌, ◌+◌, ◌++◌, ◌⊎◌, inl, inr, ℕ, zero, suc, List, [], ◌∷◌, get_or, length, Contains, arith, ap, sym, refl, ◌∙◌, subst, cond, true, false, Bool, ⊎_elim}
+use Rattle.std.proofs.Common.{◌≡◌, ◌++◌, ◌⊎◌, inl, inr, ℕ, zero, suc, List, [], ◌∷◌, length, Contains, ap, sym, refl, ◌∙◌, subst, cond, true, false, Bool, ⊎_elim}
 use Rattle.std.specs.Prelude.{Some, None, Option, slice_get, IsSome}
 use Rattle.std.specs.Ordering.{nat_cmp, is_eq}
 use Rattle.std.specs.declared.cmp.Ordering.{Ordering}

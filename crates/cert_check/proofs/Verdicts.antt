@@ -1,20 +1,18 @@
 -- The verdict, from what was found out about each entry, and what it shows.
-use Rattle.std.proofs.Common.{◌≡◌, ◌<◌, ◌≤◌, ◌+◌, ◌⊎◌, inl, inr, ◌↔◌, ℕ, zero, suc, List, [], ◌∷◌, get_or, length, map, Contains, arith, ap, sym, refl, ◌∙◌, subst}
+use Rattle.std.proofs.Common.{◌≡◌, ◌<◌, ◌≤◌, ◌⊎◌, inl, inr, ◌↔◌, ℕ, zero, suc, List, [], ◌∷◌, get_or, length, Contains, arith, sym, refl, subst}
 use Rattle.std.specs.Prelude.{Some, None, Option, slice_get, IsSomeAnd, Result, Ok, Err, IfOk}
 use Rattle.std.proofs.Math.ListN.{length-map}
 use Rattle.std.proofs.lemmas.Option.{slice_get_read, slice_get_within, get_or_from_slice_get}
 use Rattle.board_core.specs.declared.piece.Side.{Side}
-use Rattle.board_core.specs.declared.moves.Move.{Move}
 use Rattle.board_core.specs.declared.moves.MateEntry.{MateEntry}
 use Rattle.board_core.specs.Board.{Board}
-use Rattle.shogi_rules.specs.Rules.{after, IsQuiet}
-use Rattle.shogi_rules.specs.Tsume.{IsCheck, IsAnswer}
-use Rattle.mate_def.specs.Mate.{after_both, RankAtMost, IsMate, IsClosed, Escapes, EscapeIsNoMate}
+use Rattle.shogi_rules.specs.Rules.{IsQuiet}
+use Rattle.mate_def.specs.Mate.{RankAtMost, IsClosed, Escapes, EscapeIsNoMate}
 use Rattle.cert_text.specs.declared.certificate.Certificate.{Certificate}
 use Rattle.cert_text.specs.declared.certificate.Certificate.TheVariants.{Mate, Escape}
 use Rattle.cert_text.specs.Certificate.{Mating, Escaping, IsMating, IsEscaping, positions_of}
-use Rattle.cert_check.specs.Valid.{IsListedBelow, IsBorneOut, ValidMate, ValidEscape, IsValid, ShowsMate, ShowsEscape, Shows, problem_of, positions_in, IsKeptBy}
-use Rattle.cert_check.specs.Reasons.{MateReason, EscapeReason, IsAnsweredInto, IsHeld, RootReason, EntryReason, EntryHolds, HasReason, IsFirstReason, IsSooner, IsFirstAgainst, IsVerdict, reason_order}
+use Rattle.cert_check.specs.Valid.{IsBorneOut, ValidMate, ValidEscape, IsValid, ShowsMate, Shows, problem_of, positions_in, IsKeptBy}
+use Rattle.cert_check.specs.Reasons.{MateReason, EscapeReason, IsHeld, RootReason, EntryReason, EntryHolds, HasReason, IsFirstReason, IsSooner, IsVerdict, reason_order}
 use Rattle.cert_check.specs.declared.verdict.Why.{Why}
 use Rattle.cert_check.specs.declared.verdict.Why.TheVariants.{RootMissing, NotACheck, AnswerOutside, RankNotLower, CheckUnanswered}
 use Rattle.cert_check.specs.declared.verdict.Verdict.{Verdict}

@@ -1,6 +1,5 @@
-use Rattle.std.proofs.Common.{◌<◌, ◌≤◌, ◌≡◌, length, arith, sym, subst, refl, false, true}
+use Rattle.std.proofs.Common.{arith, sym, subst}
 use Rattle.board_core.specs.Order.{Lists}
-use Rattle.board_core.specs.declared.moves.Move.{Move}
 use Rattle.shogi_rules.specs.Tsume.{IsCheck}
 use Rattle.cert_check.specs.Reasons.{IsAnsweredInto}
 use Rattle.cert_check.proofs.Listing.{held_at, more}

@@ -1,6 +1,5 @@
-use Rattle.std.proofs.Common.{◌<◌, ◌≤◌, ◌≡◌, length, arith, sym, subst, refl, Contains}
+use Rattle.std.proofs.Common.{arith, sym, subst, refl, Contains}
 use Rattle.board_core.specs.Order.{Lists}
-use Rattle.board_core.specs.Board.{Board}
 use Rattle.board_core.specs.declared.moves.Move.{Move}
 use Rattle.shogi_rules.specs.Rules.{after}
 use Rattle.shogi_rules.specs.Tsume.{IsAnswer}

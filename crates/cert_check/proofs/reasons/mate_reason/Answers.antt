@@ -1,4 +1,4 @@
-use Rattle.std.proofs.Common.{◌<◌, ◌≤◌, ◌≡◌, length, arith, sym, subst, refl}
+use Rattle.std.proofs.Common.{arith, sym, subst}
 use Rattle.board_core.specs.Order.{Lists}
 use Rattle.board_core.specs.Board.{Board}
 use Rattle.board_core.specs.declared.piece.Side.{Side}

@@ -1,4 +1,4 @@
-use Rattle.std.proofs.Common.{map, take}
+use Rattle.std.proofs.Common.{take}
 use Rattle.cert_text.specs.Certificate.{positions_of}
 use Rattle.cert_check.specs.Places.{ArePlacesOf}
 use Rattle.cert_check.proofs.verdict.places_of.Given as goal

@@ -1,4 +1,4 @@
-use Rattle.std.proofs.Common.{◌≡◌, ◌≤◌, length, arith, subst}
+use Rattle.std.proofs.Common.{arith, subst}
 use Rattle.cert_check.specs.Reasons.{EntryHolds, EntryReason, IsFirstReason}
 use Rattle.cert_check.proofs.Verdicts.{refused_root, refused_at, accepted}
 use Rattle.cert_check.proofs.verdict.verdict_on.Goals as goal
