@@ -100,7 +100,7 @@ all_cells cells read size each = ext_get_or None cells (map (λ square. piece_at
 
 pub run_taken : (f : Filling) (count at : ℕ) → IsFilling f → count ≤ f.left
     → IsFilling (record f { left = f.left - count })
-      × ((end : ℕ) (rest : Signs) → in_front (filled f) (squares end f.ranks f.left (sign at (Run count) rest)) ≡ in_front (filled (record f { left = f.left - count })) (squares end f.ranks (f.left - count) rest))
+    × ((end : ℕ) (rest : Signs) → in_front (filled f) (squares end f.ranks f.left (sign at (Run count) rest)) ≡ in_front (filled (record f { left = f.left - count })) (squares end f.ranks (f.left - count) rest))
 unfolding squares
 run_taken f count at is le =
     let size = is.size in
@@ -108,13 +108,14 @@ run_taken f count at is le =
     let left = is.left in
     let more : 81 - 9 * f.ranks - (f.left - count) ≡ read_count f + count = omega arith in
     let fits : nat_le count f.left ≡ true = le_passes count f.left le in
-    let text : take (81 - 9 * f.ranks - (f.left - count)) f.read ≡ filled f ++ replicate count None = rw more (take_none count (read_count f) f.read (omega arith) is.ahead) in
-    (record { size = size; ranks = ranks; left = omega arith; ahead = λ place h. is.ahead place (omega arith) },
-     λ end rest. rw (fits, text) (in_front_twice (filled f) (replicate count None) (squares end f.ranks (f.left - count) rest)))
+    let text : take (81 - 9 * f.ranks - (f.left - count)) f.read ≡ filled f ++ replicate count None = rw more (take_none count (read_count f) f.read (omega arith) is.ahead) in (
+      record { size = size; ranks = ranks; left = omega arith; ahead = λ place h. is.ahead place (omega arith) },
+      λ end rest. rw (fits, text) (in_front_twice (filled f) (replicate count None) (squares end f.ranks (f.left - count) rest)),
+    )
 
 pub piece_taken : (f : Filling) (piece : Piece) (at : ℕ) → IsFilling f → 0 < f.left
     → IsFilling (record { read = set f.read (81 - 9 * f.ranks - f.left) (Some piece); ranks = f.ranks; left = f.left - 1 })
-      × ((end : ℕ) (rest : Signs) → in_front (filled f) (squares end f.ranks f.left (sign at (Stands piece) rest)) ≡ in_front (filled (record { read = set f.read (81 - 9 * f.ranks - f.left) (Some piece); ranks = f.ranks; left = f.left - 1 })) (squares end f.ranks (f.left - 1) rest))
+    × ((end : ℕ) (rest : Signs) → in_front (filled f) (squares end f.ranks f.left (sign at (Stands piece) rest)) ≡ in_front (filled (record { read = set f.read (81 - 9 * f.ranks - f.left) (Some piece); ranks = f.ranks; left = f.left - 1 })) (squares end f.ranks (f.left - 1) rest))
 unfolding squares
 piece_taken f piece at is lt =
     let size = is.size in
@@ -123,7 +124,12 @@ piece_taken f piece at is lt =
     let here = 81 - 9 * f.ranks - f.left in
     let more : 81 - 9 * f.ranks - (f.left - 1) ≡ here + 1 = omega arith in
     let fits : nat_lt 0 f.left ≡ true = lt-ltb 0 f.left lt in
-    let text : take (81 - 9 * f.ranks - (f.left - 1)) (set f.read here (Some piece)) ≡ filled f ++ Some piece ∷ [] = rw more (take_more_set f.read here (Some piece) (omega arith)) in
-    (record { size = length-set f.read here (Some piece) ∙ size; ranks = ranks; left = omega arith;
-        ahead = λ place h. piece_at_is (set f.read here (Some piece)) place ∙ (let apart : place ≡ here → ⊥ = λ e. omega arith in get_or-set_other f.read here place (Some piece) None apart) ∙ sym (piece_at_is f.read place) ∙ is.ahead place (omega arith) },
-     λ end rest. rw (fits, text) (in_front_twice (filled f) (Some piece ∷ []) (squares end f.ranks (f.left - 1) rest)))
+    let text : take (81 - 9 * f.ranks - (f.left - 1)) (set f.read here (Some piece)) ≡ filled f ++ Some piece ∷ [] = rw more (take_more_set f.read here (Some piece) (omega arith)) in (
+      record {
+        size = length-set f.read here (Some piece) ∙ size;
+        ranks = ranks;
+        left = omega arith;
+        ahead = λ place h. piece_at_is (set f.read here (Some piece)) place ∙ (let apart : place ≡ here → ⊥ = λ e. omega arith in get_or-set_other f.read here place (Some piece) None apart) ∙ sym (piece_at_is f.read place) ∙ is.ahead place (omega arith);
+      },
+      λ end rest. rw (fits, text) (in_front_twice (filled f) (Some piece ∷ []) (squares end f.ranks (f.left - 1) rest)),
+    )

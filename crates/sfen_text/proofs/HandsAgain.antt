@@ -55,9 +55,9 @@ count_or_one_same n le = elim (eqb_tells n 0) [ inl t ↦ absurd (omega (arith, 
 item_again : (at n : ℕ) (side : Side) (kind : Kind) (text : List ℕ) → 1 ≤ n → n ≤ 18 → kind ≢ King
     → (next : ℕ) × (letter : ℕ) × (items at 0 at ((count_text n ++ letter_of side kind ∷ []) ++ text) ≡ item letter n side kind (items next 0 next text))
 item_again at n side kind text from to h = elim (eqb_tells n 1) [
-    | inl one ↦ (at + 1, at, rw one.0 (letter_step at 0 at side kind text h ∙ ap (λ (k : ℕ). item at k side kind (items (at + 1) 0 (at + 1) text)) (sym one.1)))
-    | inr many ↦ several at n side kind text from to h many.0 (λ e. many.1 e)
-  ] where
+  | inl one ↦ (at + 1, at, rw one.0 (letter_step at 0 at side kind text h ∙ ap (λ (k : ℕ). item at k side kind (items (at + 1) 0 (at + 1) text)) (sym one.1)))
+  | inr many ↦ several at n side kind text from to h many.0 (λ e. many.1 e)
+] where
   several : (at n : ℕ) (side : Side) (kind : Kind) (text : List ℕ) → 1 ≤ n → n ≤ 18 → kind ≢ King → eqb n 1 ≡ false → n ≢ 1
       → (next : ℕ) × (letter : ℕ) × (items at 0 at ((count_text n ++ letter_of side kind ∷ []) ++ text) ≡ item letter n side kind (items next 0 next text))
   several at n side kind text from to h e apart = go (ltb n 10) refl where

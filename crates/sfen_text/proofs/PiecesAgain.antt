@@ -19,10 +19,10 @@ promotes_same b k = hlevel Bool-set
 
 pub piece_same : (p q : Piece) → p.kind ≡ q.kind → p.promoted ≡ q.promoted → p.side ≡ q.side → p ≡ q
 piece_same p q kind promoted side = λ i. record {
-    kind = kind i;
-    promoted = promoted i;
-    side = side i;
-    promotes = is_prop→PathP (λ j. promoted j ≡ true → can_promote (kind j) ≡ true) (λ j. promotes_same (promoted j) (kind j)) p.promotes q.promotes i;
+  kind = kind i;
+  promoted = promoted i;
+  side = side i;
+  promotes = is_prop→PathP (λ j. promoted j ≡ true → can_promote (kind j) ≡ true) (λ j. promotes_same (promoted j) (kind j)) p.promotes q.promotes i;
 }
 
 pub letter_again : (side : Side) (kind : Kind) → piece_of (letter_of side kind) ≡ Some (plain_piece side kind)
@@ -135,6 +135,7 @@ pub piece_sign : (p : Piece) (at : ℕ) (text : List ℕ) → signs at (piece_te
 piece_sign p at text = go p.promoted refl where
   Read : Bool → Type 0
   Read b = signs at ((plus_text b ++ letter_of p.side p.kind ∷ []) ++ text) ≡ sign at (Stands p) (signs (at + length (plus_text b ++ letter_of p.side p.kind ∷ [])) text)
+
   go : (b : Bool) → p.promoted ≡ b → Read p.promoted
   go true e = subst Read (sym e) (sign_promoted p e at text)
   go false e = subst Read (sym e) (sign_plain p e at text)

@@ -111,6 +111,7 @@ unfolding row_of
 cells_again cells size = sym (all_cells cells read size each) where
   read : List (Option Piece)
   read = flat_map (row_of cells) (range_with_len 1 9)
+
   each : (k : ℕ) → k < 81 → get_or cells k None ≡ piece_at read (reading_place k)
   each k lt =
       let square : square_on (9 - (8 - k / 9)) (1 + k % 9) ≡ k = omega arith in

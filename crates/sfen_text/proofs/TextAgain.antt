@@ -134,14 +134,14 @@ fields_again b at kept =
     let three = field (end_of two + 1) hands [] in
     let four = field (end_of three + 0) [] [] in
     all_good at (sfen_of b) one two three four b.cells b.side (b.black, b.white)
-      (board_field at (board_text b.cells) (32 ∷ side_letter b.side ∷ 32 ∷ hands) (board_two b.cells) refl)
-      (cells_field b.cells at kept.cells)
-      (sym (field_behind (end_of one) (side_letter b.side) [] (32 ∷ hands) (side_solid b.side) refl))
-      (side_again b.side two.at)
-      (last_field (end_of two) hands (hands_begun b.black b.white (small_black b kept) (small_white b kept)))
-      (hands_field b.black b.white three.at kept.black kept.white (small_black b kept) (small_white b kept))
-      (nothing_behind three.at hands)
-      (end_again four.at)
+    (board_field at (board_text b.cells) (32 ∷ side_letter b.side ∷ 32 ∷ hands) (board_two b.cells) refl)
+    (cells_field b.cells at kept.cells)
+    (sym (field_behind (end_of one) (side_letter b.side) [] (32 ∷ hands) (side_solid b.side) refl))
+    (side_again b.side two.at)
+    (last_field (end_of two) hands (hands_begun b.black b.white (small_black b kept) (small_white b kept)))
+    (hands_field b.black b.white three.at kept.black kept.white (small_black b kept) (small_white b kept))
+    (nothing_behind three.at hands)
+    (end_again four.at)
 
 drop_none : (xs : List ℕ) → drop 0 xs ≡ xs
 drop_none [] = refl

@@ -37,7 +37,7 @@ unfoldable pub items : ℕ → ℕ → ℕ → List ℕ → Items
 items start count at [] = if count == 0 then none else broken start
 items start count at (byte ∷ text) =
     if is_digit byte then
-      (if nat_lt 0 (10 * count + (byte - 48)) && nat_le (10 * count + (byte - 48)) 18 then items start (10 * count + (byte - 48)) (at + 1) text else broken start)
+    (if nat_lt 0 (10 * count + (byte - 48)) && nat_le (10 * count + (byte - 48)) 18 then items start (10 * count + (byte - 48)) (at + 1) text else broken start)
     else lettered start at (count_or_one count) (piece_of byte) (items (at + 1) 0 (at + 1) text)
 
 -- The hands with these items added to them, Black's first; or the first fault.

@@ -46,7 +46,12 @@ fn write_bad_position<W: Write>(bad: BadPosition, f: &mut fmt::Formatter<W>) -> 
         BadPosition::TooMany(kind) => write!(f, "too many {}", letter(kind)),
         BadPosition::NoDefenderKing => write!(f, "no defender king"),
         BadPosition::TwoKings => write!(f, "two kings"),
-        BadPosition::DeadPiece(square) => write!(f, "dead piece at {}{}", square.file(), rank_letter(square)),
+        BadPosition::DeadPiece(square) => write!(
+            f,
+            "dead piece at {}{}",
+            square.file(),
+            rank_letter(square)
+        ),
         BadPosition::TwoPawns(file) => write!(f, "two pawns on file {file}"),
     }
 }

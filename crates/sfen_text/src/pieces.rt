@@ -7,7 +7,11 @@ use board_core::{Kind, Piece, Side};
 fn side_of_letter(byte: u8) -> Side
     ensures { result ≡ side_of_letter byte }
 {
-    if byte >= b'a' { Side::White } else { Side::Black }
+    if byte >= b'a' {
+        Side::White
+    } else {
+        Side::Black
+    }
 }
 
 fn capital_of(byte: u8) -> u8

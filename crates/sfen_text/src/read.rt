@@ -31,7 +31,10 @@ fn blanks_at_end(text: &[u8]) -> usize
     ensures count { result ≡ leading is_blank (reverse text.now) }
     ensures within { result ≤ length text.now }
 {
-    text.iter().rev().take_while(|byte| is_blank(**byte)).count()
+    text.iter()
+        .rev()
+        .take_while(|byte| is_blank(**byte))
+        .count()
 }
 
 #[tactic(auto, unfolding(crate::specs::Reading::leading))]

@@ -1,0 +1,7 @@
+use Rattle.std.proofs.Common.{◌≡◌, ◌++◌, length, take, codes}
+use Rattle.std.specs.List.{flat_map}
+use Rattle.cert_text.specs.Text.{head_text, mate_entry_text}
+use Rattle.cert_text.proofs.write.mate_text.Given as goal
+
+abbrev pub invariant-loop-entry : goal.invariant-loop-entry
+invariant-loop-entry l = l.text.items ≡ head_text (codes "mate") (length l.entries) l.certificate.problem ++ flat_map mate_entry_text (take l.entry-index l.entries)
