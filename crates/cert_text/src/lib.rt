@@ -7,7 +7,13 @@
 #![tactic(auto)]
 
 mod certificate;
+mod fault;
+mod head;
+mod parts;
+mod read;
 mod write;
 
 pub use certificate::{Certificate, EscapeCertificate, MateCertificate};
+pub use fault::{CertEnd, CertFault};
+pub use read::read_cert;
 pub use write::write_cert;

@@ -1,4 +1,4 @@
-use Rattle.std.proofs.Common.{◌≡◌, sym, subst, arith, List}
+use Rattle.std.proofs.Common.{sym, subst, arith, List}
 use Rattle.std.specs.Prelude.{Contains}
 use Rattle.board_core.specs.declared.moves.MateEntry.{MateEntry}
 use Rattle.cert_text.proofs.write.mate_text.Goals as goal

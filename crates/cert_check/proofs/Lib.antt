@@ -1,0 +1,5 @@
+pub mod Listing
+pub mod Rising
+pub mod Entries
+pub mod Verdicts
+pub mod Finding

@@ -1,0 +1,257 @@
+-- The verdict, from what was found out about each entry, and what it shows.
+use Rattle.std.proofs.Common.{◌≡◌, ◌<◌, ◌≤◌, ◌⊎◌, inl, inr, ◌↔◌, ℕ, zero, suc, List, [], ◌∷◌, get_or, length, Contains, arith, sym, refl, subst}
+use Rattle.std.specs.Prelude.{Some, None, Option, slice_get, IsSomeAnd, Result, Ok, Err, IfOk}
+use Rattle.std.proofs.Math.ListN.{length-map}
+use Rattle.std.proofs.lemmas.Option.{slice_get_read, slice_get_within, get_or_from_slice_get}
+use Rattle.board_core.specs.declared.piece.Side.{Side}
+use Rattle.board_core.specs.declared.moves.MateEntry.{MateEntry}
+use Rattle.board_core.specs.Board.{Board}
+use Rattle.shogi_rules.specs.Rules.{IsQuiet}
+use Rattle.mate_def.specs.Mate.{RankAtMost, IsClosed, Escapes, EscapeIsNoMate}
+use Rattle.cert_text.specs.declared.certificate.Certificate.{Certificate}
+use Rattle.cert_text.specs.declared.certificate.Certificate.TheVariants.{Mate, Escape}
+use Rattle.cert_text.specs.Certificate.{Mating, Escaping, IsMating, IsEscaping, positions_of}
+use Rattle.cert_check.specs.Valid.{IsBorneOut, ValidMate, ValidEscape, IsValid, ShowsMate, Shows, problem_of, positions_in, IsKeptBy}
+use Rattle.cert_check.specs.Reasons.{MateReason, EscapeReason, IsHeld, RootReason, EntryReason, EntryHolds, HasReason, IsFirstReason, IsSooner, IsVerdict, reason_order}
+use Rattle.cert_check.specs.declared.verdict.Why.{Why}
+use Rattle.cert_check.specs.declared.verdict.Why.TheVariants.{RootMissing, NotACheck, AnswerOutside, RankNotLower, CheckUnanswered}
+use Rattle.cert_check.specs.declared.verdict.Verdict.{Verdict}
+use Rattle.cert_check.specs.declared.verdict.Verdict.TheVariants.{Accepted, Refused}
+use Rattle.cert_check.proofs.Rising.{listed_at}
+
+-- 1. From an entry to its place.
+
+pub judged_at : {X : Type 0} (xs : List X) (place : ℕ) (x : X) (H : X → Type 0) (R : X → Why → Type 0) (o : Option Why)
+    → place < length xs → x ≡ get_or xs place x → IsFirstReason (H x) (R x) o
+    → IsFirstReason (IsSomeAnd (slice_get xs place) H) (λ why. IsSomeAnd (slice_get xs place) (λ y. R y why)) o
+judged_at {X} xs place x H R o h is j =
+    subst (λ (s : Option X). IsFirstReason (IsSomeAnd s H) (λ why. IsSomeAnd s (λ y. R y why)) o)
+    (sym (slice_get_read xs (length xs) place x refl h is)) j
+
+pub turned : {T E : Type 0} (P Q : T → Type 0) → ((x : T) → P x → Q x) → (r : Result T E) → IfOk r P → IfOk r Q
+turned P Q turn (Ok x) h = turn x h
+turned P Q turn (Err e) h = h
+
+abbrev position_of : MateEntry → Board
+position_of entry = entry.at
+
+mate_place : (c : Certificate) (m : Mating) (entries : List MateEntry) (place : ℕ) → c ≡ Mate m → entries ≡ m.entries
+    → place < length (positions_in c) → place < length entries
+mate_place c m entries place e f h =
+    let g : place < length (positions_of m.entries) = subst (λ (d : Certificate). place < length (positions_in d)) e h in
+    let n = length-map m.entries position_of in
+    subst (λ (es : List MateEntry). place < length es) (sym f) (omega arith)
+
+pub mate_judged : {E : Type 0} (c : Certificate) (m : Mating) (attacker : Side) (entries : List MateEntry) (place : ℕ) (entry : MateEntry)
+    (r : Result (Option Why) E) → c ≡ Mate m → entries ≡ m.entries → place < length (positions_in c) → entry ≡ get_or entries place entry
+    → IfOk r (λ reason. IsFirstReason (IsBorneOut entries attacker entry) (MateReason entries attacker entry) reason)
+    → IfOk r (λ reason. IsFirstReason (EntryHolds c attacker place) (EntryReason c attacker place) reason)
+mate_judged {E} c m attacker entries place entry r e f h is j =
+    subst (λ (d : Certificate). IfOk r (λ reason. IsFirstReason (EntryHolds d attacker place) (EntryReason d attacker place) reason)) (sym e)
+    (subst (λ (es : List MateEntry). place < length es → entry ≡ get_or es place entry
+    → IfOk r (λ reason. IsFirstReason (IsBorneOut es attacker entry) (MateReason es attacker entry) reason)
+    → IfOk r (λ reason. IsFirstReason (EntryHolds (Mate m) attacker place) (EntryReason (Mate m) attacker place) reason)) (sym f)
+    (λ h2 is2 j2. turned _ _ (λ o. judged_at m.entries place entry (IsBorneOut m.entries attacker) (MateReason m.entries attacker) o h2 is2) r j2)
+    (mate_place c m entries place e f h) is j)
+
+pub mate_quiet : (c : Certificate) (m : Mating) (entries : List MateEntry) (place : ℕ) (entry : MateEntry) → c ≡ Mate m → entries ≡ m.entries
+    → place < length (positions_in c) → entry ≡ get_or entries place entry → IsMating m → IsQuiet entry.at
+mate_quiet c m entries place entry e f h is kept =
+    let there = subst (λ (es : List MateEntry). Contains es entry) f (place, mate_place c m entries place e f h, sym is) in
+    (kept.problems entry there).is_problem.quiet
+
+escape_place : (c : Certificate) (m : Escaping) (entries : List Board) (place : ℕ) → c ≡ Escape m → entries ≡ m.entries
+    → place < length (positions_in c) → place < length entries
+escape_place c m entries place e f h =
+    let g : place < length m.entries = subst (λ (d : Certificate). place < length (positions_in d)) e h in
+    subst (λ (es : List Board). place < length es) (sym f) g
+
+pub escape_judged : {E : Type 0} (c : Certificate) (m : Escaping) (attacker : Side) (entries : List Board) (place : ℕ) (b : Board)
+    (r : Result (Option Why) E) → c ≡ Escape m → entries ≡ m.entries → place < length (positions_in c) → b ≡ get_or entries place b
+    → IfOk r (λ reason. IsFirstReason (IsHeld m.entries attacker b) (EscapeReason m.entries attacker b) reason)
+    → IfOk r (λ reason. IsFirstReason (EntryHolds c attacker place) (EntryReason c attacker place) reason)
+escape_judged {E} c m attacker entries place b r e f h is j =
+    subst (λ (d : Certificate). IfOk r (λ reason. IsFirstReason (EntryHolds d attacker place) (EntryReason d attacker place) reason)) (sym e)
+    (turned _ _
+    (λ o. judged_at m.entries place b (IsHeld m.entries attacker) (EscapeReason m.entries attacker) o
+    (subst (λ (es : List Board). place < length es) f (escape_place c m entries place e f h))
+    (subst (λ (es : List Board). b ≡ get_or es place b) f is)) r j)
+
+pub escape_quiet : (c : Certificate) (m : Escaping) (entries : List Board) (place : ℕ) (b : Board) → c ≡ Escape m → entries ≡ m.entries
+    → place < length (positions_in c) → b ≡ get_or entries place b → IsEscaping m → IsQuiet b
+escape_quiet c m entries place b e f h is kept =
+    let there = subst (λ (es : List Board). Contains es b) f (place, escape_place c m entries place e f h, sym is) in
+    (kept.problems b there).is_problem.quiet
+
+-- 2. What holds has no reason against it.
+
+borne_out_stands : (entries : List MateEntry) (attacker : Side) (entry : MateEntry) (why : Why) → IsBorneOut entries attacker entry
+    → MateReason entries attacker entry why → ⊥
+borne_out_stands entries attacker entry RootMissing b r = r
+borne_out_stands entries attacker entry (NotACheck m) b r = r.1 b.check
+borne_out_stands entries attacker entry (AnswerOutside a) b r =
+    let l = b.answers a r.0 in r.1 (subst (Contains (positions_of entries)) l.same (listed_at entries l.entry l.listed))
+borne_out_stands entries attacker entry (RankNotLower a) b r = r.1.not_lower (b.answers a r.0)
+borne_out_stands entries attacker entry (CheckUnanswered m) b r = r
+
+held_stands : (positions : List Board) (attacker : Side) (b : Board) (why : Why) → IsHeld positions attacker b
+    → EscapeReason positions attacker b why → ⊥
+held_stands positions attacker b RootMissing h r = r
+held_stands positions attacker b (NotACheck m) h r = r
+held_stands positions attacker b (AnswerOutside m) h r = r
+held_stands positions attacker b (RankNotLower m) h r = r
+held_stands positions attacker b (CheckUnanswered m) h r = r.1 (h m r.0)
+
+some_both : {X : Type 0} (o : Option X) (P Q : X → Type 0) → ((x : X) → P x → Q x → ⊥) → IsSomeAnd o P → IsSomeAnd o Q → ⊥
+some_both None P Q apart p q = p
+some_both (Some x) P Q apart p q = apart x p q
+
+pub holds_stands : (c : Certificate) (attacker : Side) (place : ℕ) (why : Why) → EntryHolds c attacker place → EntryReason c attacker place why → ⊥
+holds_stands (Mate c) attacker place why h r =
+    some_both (slice_get c.entries place) _ _ (λ entry. borne_out_stands c.entries attacker entry why) h r
+holds_stands (Escape c) attacker place why h r =
+    some_both (slice_get c.entries place) _ _ (λ b. held_stands c.entries attacker b why) h r
+
+-- 3. The first refusal.
+
+root_stands : (c : Certificate) (p : Board) (why : Why) → problem_of c ≡ p → Contains (positions_in c) p → RootReason c p why → ⊥
+root_stands c p RootMissing about listed (inl r) = r about
+root_stands c p RootMissing about listed (inr r) = r listed
+root_stands c p (NotACheck m) about listed r = r
+root_stands c p (AnswerOutside m) about listed r = r
+root_stands c p (RankNotLower m) about listed r = r
+root_stands c p (CheckUnanswered m) about listed r = r
+
+none_sooner : (c : Certificate) (p : Board) (place : ℕ) (why : Why) → problem_of c ≡ p → Contains (positions_in c) p
+    → ((k : ℕ) → k < place → EntryHolds c p.side k)
+    → ((sooner : Why) → reason_order sooner < reason_order why → EntryReason c p.side place sooner → ⊥)
+    → (entry : ℕ) (sooner : Why) → IsSooner entry sooner (suc place) why → HasReason c p entry sooner → ⊥
+none_sooner c p place why about listed below here zero sooner s r = root_stands c p sooner about listed r
+none_sooner c p place why about listed below here (suc k) sooner (inl lt) r = holds_stands c p.side k sooner (below k (omega arith)) r
+none_sooner c p place why about listed below here (suc k) sooner (inr s) r =
+    let e = s.0 in
+    let same : k ≡ place = omega arith in
+    here sooner s.1 (subst (λ (n : ℕ). EntryReason c p.side n sooner) same r)
+
+pub refused_at : (c : Certificate) (p : Board) (place number : ℕ) (why : Why) → number ≡ suc place
+    → (problem_of c ≡ p) × Contains (positions_in c) p
+    → ((k : ℕ) → k < place → EntryHolds c p.side k)
+    → IsFirstReason (EntryHolds c p.side place) (EntryReason c p.side place) (Some why)
+    → IsVerdict c p (Refused number why)
+refused_at c p place number why e root below first =
+    subst (λ (n : ℕ). IsVerdict c p (Refused n why)) (sym e)
+    (record { reason = first.0; first = none_sooner c p place why root.0 root.1 below first.1 })
+
+none_before_root : (c : Certificate) (p : Board) (entry : ℕ) (sooner : Why) → IsSooner entry sooner 0 RootMissing → HasReason c p entry sooner → ⊥
+none_before_root c p entry sooner (inl lt) r = absurd (omega arith)
+none_before_root c p entry sooner (inr s) r = let w = s.1 in absurd (omega arith)
+
+pub refused_root : (c : Certificate) (p : Board) → RootReason c p RootMissing → IsVerdict c p (Refused 0 RootMissing)
+refused_root c p r = record { reason = r; first = none_before_root c p }
+
+-- 4. Accepted.
+
+at_entry : {X : Type 0} (xs : List X) (H : X → Type 0) (x : X) (place : ℕ) → place < length xs → get_or xs place x ≡ x
+    → IsSomeAnd (slice_get xs place) H → H x
+at_entry {X} xs H x place h e held =
+    subst (λ (s : Option X). IsSomeAnd s H) (slice_get_read xs (length xs) place x refl h (sym e)) held
+
+pub accepted : (c : Certificate) (p : Board) (n : ℕ) → (problem_of c ≡ p) × Contains (positions_in c) p → length (positions_in c) ≤ n
+    → ((k : ℕ) → k < n → EntryHolds c p.side k) → IsVerdict c p Accepted
+accepted (Mate c) p n root h below = record {
+  problem = root.0;
+  listed = root.1;
+  entries = λ entry there.
+      let w = there.1 in
+      let e = length-map c.entries position_of in
+      at_entry c.entries (IsBorneOut c.entries p.side) entry there.0 there.1 there.2 (below there.0 (omega arith));
+}
+accepted (Escape c) p n root h below = record {
+  problem = root.0;
+  listed = root.1;
+  closed = λ b check there is_check.
+      let w = there.1 in
+      let held = at_entry c.entries (IsHeld c.entries p.side) b there.0 there.1 there.2 (below there.0 (omega arith)) in
+      let into = held check is_check in
+      (into.answer, into.is_answer, inl into.listed);
+}
+
+-- 5. A valid certificate has no reason against it.
+
+valid_root : (c : Certificate) (p : Board) → IsValid c p → (problem_of c ≡ p) × Contains (positions_in c) p
+valid_root (Mate c) p v = (v.problem, v.listed)
+valid_root (Escape c) p v = (v.problem, v.listed)
+
+some_there : {X : Type 0} (xs : List X) (place : ℕ) (P Q : X → Type 0) → ((x : X) → Contains xs x → P x → Q x)
+    → (o : Option X) → slice_get xs place ≡ o → IsSomeAnd o P → IsSomeAnd o Q
+some_there xs place P Q turn None e p = p
+some_there xs place P Q turn (Some x) e p = turn x (place, slice_get_within xs place x e, get_or_from_slice_get xs place x x e) p
+
+in_first : (s : List Board) (b : Board) → Contains s b ⊎ Contains [] b → Contains s b
+in_first s b (inl h) = h
+in_first s b (inr h) = let w = h.1 in absurd (omega arith)
+
+closed_held : (s : List Board) (attacker : Side) (b : Board) → IsClosed attacker s [] → Contains s b → IsHeld s attacker b
+closed_held s attacker b closed member check is_check =
+    let e = closed b check member is_check in
+    record { answer = e.0; is_answer = e.1; listed = in_first s _ e.2 }
+
+valid_entry : (c : Certificate) (p : Board) (place : ℕ) (why : Why) → IsValid c p → EntryReason c p.side place why → ⊥
+valid_entry (Mate c) p place why v r =
+    some_both (slice_get c.entries place) _ (λ entry. IsBorneOut c.entries p.side entry)
+    (λ entry q b. borne_out_stands c.entries p.side entry why b q) r
+    (some_there c.entries place (λ entry. MateReason c.entries p.side entry why) (λ entry. IsBorneOut c.entries p.side entry)
+    (λ entry there q. v.entries entry there) (slice_get c.entries place) refl r)
+valid_entry (Escape c) p place why v r =
+    some_both (slice_get c.entries place) _ (λ b. IsHeld c.entries p.side b)
+    (λ b q h. held_stands c.entries p.side b why h q) r
+    (some_there c.entries place (λ b. EscapeReason c.entries p.side b why) (λ b. IsHeld c.entries p.side b)
+    (λ b there q. closed_held c.entries p.side b v.closed there) (slice_get c.entries place) refl r)
+
+pub valid_stands : (c : Certificate) (p : Board) (entry : ℕ) (why : Why) → IsValid c p → HasReason c p entry why → ⊥
+valid_stands c p zero why v r = let root = valid_root c p v in root_stands c p why root.0 root.1 r
+valid_stands c p (suc place) why v r = valid_entry c p place why v r
+
+pub accepted_iff : (c : Certificate) (p : Board) (v : Verdict) → IsVerdict c p v → (v ≡ Accepted) ↔ IsValid c p
+accepted_iff c p Accepted h = ((λ e. h), (λ w. refl))
+accepted_iff c p (Refused entry why) h = ((λ e. absurd (cc)), (λ w. absurd (valid_stands c p entry why w h.reason)))
+
+-- 6. What a valid certificate shows.
+
+-- each listed position is a mate within any number not below its rank
+rank_holds : (c : Mating) (p : Board) → ValidMate c p → IsMating c → (n : ℕ) (entry : MateEntry) → Contains c.entries entry → entry.rank ≤ n
+    → RankAtMost p.side n entry.at
+rank_holds c p v k zero entry there up = let w = k.ranks entry there in absurd (omega arith)
+rank_holds c p v k (suc n) entry there up =
+    let b = v.entries entry there in (
+      entry.by,
+      b.check,
+      λ answer is_answer.
+          let l = b.answers answer is_answer in
+          let w = l.lower in
+          subst (RankAtMost p.side n) l.same (rank_holds c p v k n l.entry l.listed (omega arith)),
+    )
+
+entry_at_place : (entries : List MateEntry) (p : Board) (k : ℕ) → k < length (positions_of entries) → get_or (positions_of entries) k p ≡ p
+    → (entry : MateEntry) × Contains entries entry × (entry.at ≡ p)
+entry_at_place [] p k h e = absurd (omega arith)
+entry_at_place (x ∷ xs) p zero h e = (x, (0, omega arith, refl), e)
+entry_at_place (x ∷ xs) p (suc k) h e =
+    let r = entry_at_place xs p k (omega arith) e in
+    let w = r.1.1 in
+    (r.0, (suc r.1.0, omega arith, r.1.2), r.2)
+
+mate_shown : (c : Mating) (p : Board) → ValidMate c p → IsMating c → ShowsMate c p
+mate_shown c p v k =
+    let e = entry_at_place c.entries p v.listed.0 v.listed.1 v.listed.2 in
+    record {
+      mate = (e.0.rank, subst (RankAtMost p.side e.0.rank) e.2 (rank_holds c p v k e.0.rank e.0 e.1 (omega arith)));
+      ranks = λ entry there. rank_holds c p v k entry.rank entry there (omega arith);
+    }
+
+escapes : (c : Escaping) (p : Board) → ValidEscape c p → Escapes p.side p
+escapes c p v = (c.entries, v.listed, v.closed)
+
+pub shown : (c : Certificate) (p : Board) → EscapeIsNoMate → IsKeptBy c → IsValid c p → Shows c p
+shown (Mate c) p law k v = mate_shown c p v k
+shown (Escape c) p law k v = record { escape = escapes c p v; no_mate = law p.side p (escapes c p v) }

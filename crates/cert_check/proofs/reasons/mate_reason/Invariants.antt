@@ -1,0 +1,9 @@
+use Rattle.std.proofs.Common.{◌≡◌, ◌<◌, ℕ, get_or}
+use Rattle.board_core.specs.declared.moves.Move.{Move}
+use Rattle.shogi_rules.specs.Rules.{after}
+use Rattle.cert_check.specs.Valid.{IsListedBelow}
+use Rattle.cert_check.proofs.reasons.mate_reason.Given as goal
+
+abbrev pub invariant-loop-answer : goal.invariant-loop-answer
+invariant-loop-answer l = (k : ℕ) (a : Move) → k < l.answer-index → get_or l.answer-items k a ≡ a
+    → IsListedBelow l.entries l.entry.rank (after l.checked a)

@@ -1,0 +1,3 @@
+pub mod Valid
+pub mod Reasons
+pub mod Places

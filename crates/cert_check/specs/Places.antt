@@ -1,0 +1,33 @@
+-- Where a position stands in a list, and how it is found there by its key.
+use Rattle.std.specs.Prelude.{◌≡◌, ℕ, List, Option, Some, None, IsSome, Contains, slice_get}
+use Rattle.std.specs.Ordering.{nat_cmp}
+use Rattle.std.specs.declared.cmp.Ordering.{Ordering}
+use Rattle.std.specs.Cmp.Lexicographic.{slice_cmp}
+use Rattle.std.specs.BTreeMap.{get}
+use Rattle.board_core.specs.declared.keys.Key.{Key}
+use Rattle.board_core.specs.Board.{Board}
+use Rattle.board_core.specs.Kept.{IsKept}
+use Rattle.board_core.specs.Key.{key_of}
+use Rattle.cert_check.specs.declared.places.Places.{Places}
+
+-- The order of keys: by their words.
+abbrev pub key_cmp : Key → Key → Ordering
+key_cmp a b = slice_cmp nat_cmp a.0 b.0
+
+-- A position of the list stands at the place, and has the key.
+pub record StandsAt (positions : List Board) (place : ℕ) (key : Key) : Type 0 where
+  pub position : Board
+  pub there : slice_get positions place ≡ Some position
+  pub has_key : key_of position ≡ key.0
+
+-- The places are those of the positions of this list: each key has the place of a position that has it, and the key of each
+-- position is there.
+pub record ArePlacesOf (places : Places) (positions : List Board) : Type 0 where
+  pub kept : (position : Board) → Contains positions position → IsKept position
+  pub right : (key : Key) (place : ℕ) → get key_cmp places.by_key key ≡ Some place → StandsAt positions place key
+  pub all : (key : Key) (position : Board) → Contains positions position → key_of position ≡ key.0 → IsSome (get key_cmp places.by_key key)
+
+-- A place of the position in the list, or none where it isn't listed.
+abbrev pub IsPlace : List Board → Board → Option ℕ → Type 0
+IsPlace positions position None = ¬ Contains positions position
+IsPlace positions position (Some place) = slice_get positions place ≡ Some position

@@ -1,0 +1,47 @@
+// Finding a position among those of a certificate.
+ghost use Rattle.std.specs.Prelude.{◌≡◌, ◌++◌, ◌∷◌, [], ◌↔◌, List, length, OnOk, IsTrue, Contains};
+ghost use Rattle.board_core.specs.Board.{Board};
+ghost use Rattle.cert_check.specs.Places.{ArePlacesOf, IsPlace};
+
+use board_core::{Key, NoMemory, Position, key};
+use std::alloc::Global;
+use std::collections::BTreeMap;
+
+/// Where each position of a list stands, by its key.
+#[derive(Drop)]
+pub(crate) struct Places {
+    by_key: BTreeMap<Key, usize>,
+}
+
+impl Places {
+    /// The places of no position.
+    pub(crate) fn new(alloc: Global) -> Places
+        ensures { ArePlacesOf result [] }
+    {
+        Places {
+            by_key: BTreeMap::new(alloc),
+        }
+    }
+
+    /// Takes one more position, behind the others: its place is how many there are.
+    pub(crate) fn add(&mut self, position: &Position, place: usize) -> Result<(), NoMemory>
+        ensures { OnOk result ((positions : List Board) → ArePlacesOf self.old positions → place ≡ length positions → ArePlacesOf self.new (positions ++ position.now ∷ [])) }
+    {
+        self.by_key.insert(key(position), place)?;
+        Ok(())
+    }
+
+    /// Whether the position is listed.
+    pub(crate) fn holds(&self, position: &Position) -> bool
+        ensures { (positions : List Board) → ArePlacesOf self.now positions → IsTrue result ↔ Contains positions position.now }
+    {
+        self.find(position).is_some()
+    }
+
+    /// The place of the position, where it is listed.
+    pub(crate) fn find(&self, position: &Position) -> Option<usize>
+        ensures { (positions : List Board) → ArePlacesOf self.now positions → IsPlace positions position.now result }
+    {
+        self.by_key.get(&key(position)).copied()
+    }
+}

@@ -1,0 +1,163 @@
+// The verdict on a certificate.
+ghost use Rattle.std.specs.Prelude.{◌≡◌, ◌<◌, ◌↔◌, ℕ, length, IfOk, IsTrue, Contains, false};
+ghost use Rattle.cert_check.specs.Places.{ArePlacesOf};
+ghost use Rattle.cert_check.specs.Valid.{IsValid, Shows, problem_of, positions_in, IsKeptBy};
+ghost use Rattle.cert_check.specs.Reasons.{RootReason, EntryReason, EntryHolds, IsFirstReason, IsVerdict};
+ghost use Rattle.cert_check.specs.declared.verdict.Why.TheVariants.{RootMissing};
+ghost use Rattle.cert_check.specs.declared.verdict.Verdict.TheVariants.{Accepted};
+
+use crate::places::Places;
+use crate::reasons::{escape_reason, mate_reason};
+use board_core::{Move, NoMemory};
+use cert_text::Certificate;
+use mate_def::escape_is_no_mate;
+use shogi_rules::Problem;
+use std::alloc::Global;
+
+/// Why a certificate is refused.
+#[derive(Clone, Copy, PartialEq, Eq, Debug)]
+pub enum Why {
+    /// The problem's position isn't listed, or the certificate is about another problem.
+    RootMissing,
+    /// The move of a mate's entry, this one, isn't a check of its position.
+    NotACheck(Move),
+    /// After the entry's move, this answer leads to a position that isn't listed.
+    AnswerOutside(Move),
+    /// After the entry's move, this answer leads to a position that is listed, but not with a lower rank.
+    RankNotLower(Move),
+    /// In an escape, no answer to this check of the entry's position leads to a listed position.
+    CheckUnanswered(Move),
+}
+
+/// What the checker says of a certificate.
+#[derive(Clone, Copy, PartialEq, Eq, Debug)]
+pub enum Verdict {
+    /// The certificate is valid for the problem.
+    Accepted,
+    /// It isn't.
+    Refused {
+        /// The first entry that something speaks against, counted from 1; 0 for [`Why::RootMissing`].
+        entry: u64,
+        /// The first reason against it, in the order of moves.
+        why: Why,
+    },
+}
+
+// Where each position of the certificate stands.
+fn places_of(alloc: Global, certificate: &Certificate) -> Result<Places, NoMemory>
+    ensures places { IfOk result (λ places. ArePlacesOf places (positions_in certificate.now)) }
+    ensures kept { IsKeptBy certificate.now }
+{
+    let mut places = Places::new(alloc);
+    match certificate {
+        Certificate::Mate(mate) => {
+            for (place, entry) in mate.entries().iter().enumerate() {
+                places.add(&entry.at, place)?;
+            }
+        }
+        Certificate::Escape(escape) => {
+            for (place, position) in escape.entries().iter().enumerate() {
+                places.add(position, place)?;
+            }
+        }
+    }
+    Ok(places)
+}
+
+fn is_about(certificate: &Certificate, problem: &Problem) -> bool
+    ensures { IsTrue result ↔ (problem_of certificate.now ≡ problem.now.position) }
+{
+    match certificate {
+        Certificate::Mate(mate) => mate.problem().position.is_same(&problem.position),
+        Certificate::Escape(escape) => escape.problem().position.is_same(&problem.position),
+    }
+}
+
+fn count_of(certificate: &Certificate) -> usize
+    ensures { result ≡ length (positions_in certificate.now) }
+{
+    match certificate {
+        Certificate::Mate(mate) => mate.entries().len(),
+        Certificate::Escape(escape) => escape.entries().len(),
+    }
+}
+
+// The first reason against the entry at a place, counted from 0.
+fn reason_at(
+    alloc: Global,
+    problem: &Problem,
+    certificate: &Certificate,
+    places: &Places,
+    place: usize,
+) -> Result<Option<Why>, NoMemory>
+    requires place { place < length (positions_in certificate.now) }
+    requires places { ArePlacesOf places.now (positions_in certificate.now) }
+    ensures { IfOk result (λ reason. IsFirstReason (EntryHolds certificate.now problem.now.position.side place) (EntryReason certificate.now problem.now.position.side place) reason) }
+{
+    match certificate {
+        Certificate::Mate(mate) => {
+            let entries = mate.entries();
+            mate_reason(alloc, problem, entries, places, &entries[place])
+        }
+        Certificate::Escape(escape) => {
+            escape_reason(alloc, problem, places, &escape.entries()[place])
+        }
+    }
+}
+
+// Whether the certificate is about the problem and lists its position.
+fn lists_root(certificate: &Certificate, problem: &Problem, places: &Places) -> bool
+    requires { ArePlacesOf places.now (positions_in certificate.now) }
+    ensures yes { IsTrue result → (problem_of certificate.now ≡ problem.now.position) × Contains (positions_in certificate.now) problem.now.position }
+    ensures no { result ≡ false → RootReason certificate.now problem.now.position RootMissing }
+{
+    if !is_about(certificate, problem) {
+        return false;
+    }
+    places.holds(&problem.position)
+}
+
+fn verdict_on(
+    alloc: Global,
+    problem: &Problem,
+    certificate: &Certificate,
+) -> Result<Verdict, NoMemory>
+    ensures verdict { IfOk result (λ verdict. IsVerdict certificate.now problem.now.position verdict) }
+    ensures kept { IsKeptBy certificate.now }
+{
+    let places = places_of(alloc, certificate)?;
+    if !lists_root(certificate, problem, &places) {
+        return Ok(Verdict::Refused {
+            entry: 0,
+            why: Why::RootMissing,
+        });
+    }
+    for place in 0..count_of(certificate) {
+        if let Some(why) = reason_at(alloc, problem, certificate, &places, place)? {
+            return Ok(Verdict::Refused {
+                entry: place as u64 + 1,
+                why,
+            });
+        }
+    }
+    Ok(Verdict::Accepted)
+}
+
+/// Whether the certificate is valid for the problem; else the first reason against it. Errors: want of memory alone.
+///
+/// What is accepted is so, whoever wrote the certificate: an accepted mate is a mate, an accepted escape is none.
+pub fn check(
+    alloc: Global,
+    problem: &Problem,
+    certificate: &Certificate,
+) -> Result<Verdict, NoMemory>
+    // Accepted exactly where the certificate is valid, refused exactly with the first reason against it.
+    ensures verdict { IfOk result (λ verdict. IsVerdict certificate.now problem.now.position verdict) }
+    ensures accepted { IfOk result (λ verdict. (verdict ≡ Accepted) ↔ IsValid certificate.now problem.now.position) }
+
+    // What is accepted as a mate is one, and what is accepted as an escape is no mate.
+    ensures shows { IfOk result (λ verdict. verdict ≡ Accepted → Shows certificate.now problem.now.position) }
+{
+    escape_is_no_mate();
+    verdict_on(alloc, problem, certificate)
+}

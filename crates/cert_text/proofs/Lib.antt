@@ -1,0 +1,5 @@
+pub mod Cuts
+pub mod Heads
+pub mod Entries
+pub mod Bodies
+pub mod Again

@@ -1,0 +1,135 @@
+// Heads of certificates.
+ghost use Rattle.std.specs.Prelude.{◌≡◌, ◌↔◌, ℕ, List, IfSome, IfNone, IsTrue};
+ghost use Rattle.cert_text.specs.declared.head.Claim.{Claim};
+ghost use Rattle.cert_text.specs.Reading.{Lacks, AreMoves, IsFront, IsReadCount, claim_text, headed, IsHead};
+
+use crate::parts::{behind, cut, number_of};
+use usi_text::read_move;
+
+// What a certificate claims of its problem.
+#[derive(Clone, Copy, PartialEq, Eq, Debug)]
+pub(crate) enum Claim {
+    // It is a mate.
+    Mate,
+    // It is none.
+    Escape,
+}
+
+impl Claim {
+    fn is_same(self, with: Claim) -> bool
+        ensures { IsTrue result ↔ (self ≡ with) }
+    {
+        self == with
+    }
+}
+
+// The two lines of a certificate's head, and what stands behind them.
+#[derive(Clone, Copy)]
+pub(crate) struct Head<'a> {
+    pub(crate) claim: Claim,
+    pub(crate) count: u32,
+    // The SFEN text of the problem.
+    pub(crate) sfen: &'a [u8],
+    pub(crate) rest: &'a [u8],
+}
+
+// Whether these are moves, a space before each.
+fn are_moves(text: &[u8]) -> bool
+    ensures { IsTrue result ↔ AreMoves text.now }
+{
+    let Some(mut rest) = behind(text, b" ") else {
+        return false;
+    };
+    while let Some((word, more)) = cut(rest, b' ') {
+        if read_move(word).is_none() {
+            return false;
+        }
+        rest = more;
+    }
+    read_move(rest).is_some()
+}
+
+// What the certificate behind this line claims, where it is a line that may stand in front of one.
+fn front_of(text: &[u8]) -> Option<Claim>
+    ensures found { IfSome result (λ claim. IsFront claim text.now) }
+    ensures none { IfNone result ((claim : Claim) → IsFront claim text.now → ⊥) }
+{
+    let Some(rest) = behind(text, b"checkmate") else {
+        return None;
+    };
+    if rest == b" nomate".as_slice() {
+        return Some(Claim::Escape);
+    }
+    if are_moves(rest) {
+        return Some(Claim::Mate);
+    }
+    None
+}
+
+// The claim and the number of entries in a first line.
+fn claim_of(text: &[u8]) -> Option<(Claim, u32)>
+    ensures count { IfSome result (λ found. IsReadCount found.1) }
+    ensures text { IfSome result (λ found. text.now ≡ claim_text found.0 found.1) }
+    ensures none { IfNone result ((claim : Claim) (count : ℕ) → IsReadCount count → text.now ≡ claim_text claim count → ⊥) }
+{
+    if let Some(digits) = behind(text, b"certificate 1 mate ") {
+        let Some(count) = number_of(digits, 1_400_000) else {
+            return None;
+        };
+        return Some((Claim::Mate, count));
+    }
+    let Some(digits) = behind(text, b"certificate 1 escape ") else {
+        return None;
+    };
+    let Some(count) = number_of(digits, 1_400_000) else {
+        return None;
+    };
+    Some((Claim::Escape, count))
+}
+
+// The head at the front of a text without a front line.
+fn bare_head_of(text: &[u8]) -> Option<Head<'_>>
+    ensures count { IfSome result (λ head. IsReadCount head.count) }
+    ensures sfen { IfSome result (λ head. Lacks 10 head.sfen.now) }
+    ensures text { IfSome result (λ head. text.now ≡ headed head.claim head.count head.sfen.now head.rest.now) }
+    ensures none { IfNone result ((claim : Claim) (count : ℕ) (sfen rest : List ℕ) → IsReadCount count → Lacks 10 sfen → text.now ≡ headed claim count sfen rest → ⊥) }
+{
+    let Some((first, more)) = cut(text, b'\n') else {
+        return None;
+    };
+    let Some((claim, count)) = claim_of(first) else {
+        return None;
+    };
+    let Some((second, rest)) = cut(more, b'\n') else {
+        return None;
+    };
+    let Some(sfen) = behind(second, b"problem ") else {
+        return None;
+    };
+    Some(Head {
+        claim,
+        count,
+        sfen,
+        rest,
+    })
+}
+
+// The head at the front of a text, perhaps behind a front line.
+pub(crate) fn head_of(text: &[u8]) -> Option<Head<'_>>
+    ensures found { IfSome result (λ head. IsHead head.claim head.count head.sfen.now head.rest.now text.now) }
+    ensures none { IfNone result ((claim : Claim) (count : ℕ) (sfen rest : List ℕ) → IsHead claim count sfen rest text.now → ⊥) }
+{
+    let Some((first, more)) = cut(text, b'\n') else {
+        return None;
+    };
+    let Some(claim) = front_of(first) else {
+        return bare_head_of(text);
+    };
+    let Some(head) = bare_head_of(more) else {
+        return None;
+    };
+    if !head.claim.is_same(claim) {
+        return None;
+    }
+    Some(head)
+}
