@@ -2,7 +2,7 @@
 ghost use Rattle.std.specs.Prelude.{◌≡◌, ◌≢◌, ◌≤◌, ◌+◌, List, ℕ, [], ◌∷◌, length};
 ghost use Rattle.board_core.specs.Square.{file_of, rank_of};
 ghost use Rattle.board_core.specs.declared.moves.Move.{Move};
-ghost use Rattle.usi_text.specs.MoveText.{kind_letter, move_text, HasText};
+ghost use Rattle.usi_text.specs.MoveText.{kind_letter, move_text};
 
 use board_core::{Kind, Move, Square};
 use std::fmt::{self, Write};
@@ -108,10 +108,9 @@ fn text_of(m: Move) -> MoveText
 /// The text of a move: origin and destination, each as the digit of its file and the letter of its rank, and a plus where
 /// it promotes, as `8h2b+`; or the letter of the dropped kind, a star and the square, as `G*5b` (USI protocol: moves).
 ///
-/// The move has a text: it is no board move to where it began, and no drop of a king. No other move has the same text.
-/// Takes no memory.
+/// No other move has the same text. A board move to where it began and a drop of a king have no text in the protocol: what
+/// is written for one is read as no move. Takes no memory.
 pub fn write_move(m: Move) -> MoveText
-    requires { HasText m }
     ensures text { result ≡ move_text m }
     ensures apart { (other : Move) → move_text other ≡ result → other ≡ m }
 {
