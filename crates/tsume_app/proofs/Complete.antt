@@ -12,10 +12,13 @@ use Rattle.sfen_text.specs.declared.fault.TextFault.TheVariants.{BadRow, BadPiec
 use Rattle.sfen_text.specs.Reading.{reading, IsAnswer}
 use Rattle.tsume_app.specs.declared.answer.Answer.{Answer}
 use Rattle.tsume_app.specs.declared.fault.Fault.{Fault}
-use Rattle.tsume_app.specs.declared.fault.Fault.TheVariants.{Words, TooLong, Text, NotBuilt, Read, Write, NoMemory}
+use Rattle.tsume_app.specs.declared.fault.Fault.TheVariants.{Words, TooLong, Text, Cert, NotBuilt, Read, Write, NoMemory}
 use Rattle.tsume_app.specs.Input.{StandsFor, Continues}
 use Rattle.tsume_app.specs.FirstMate.{IsFirstMate}
-use Rattle.tsume_app.specs.Run.{Outside, IsEnded, IsWellPosed, AreRefused}
+use Rattle.tsume_app.specs.declared.command.Command.{Command}
+use Rattle.tsume_app.specs.declared.command.Command.TheVariants.{Solve, Check}
+use Rattle.cert_text.specs.Reading.{IsTextOf}
+use Rattle.tsume_app.specs.Run.{Outside, IsEnded, IsWellPosed}
 
 -- the position that was read, of a text that is a problem
 pub record ReadAs (given : Result Board TextFault) (p : Board) : Type 0 where
@@ -68,23 +71,32 @@ took_it None left_after input told is took = absurd (cc)
 took_it (Some before) None input told is took = absurd took
 took_it (Some before) (Some after) input told is took = let same : before ≡ told = cc in took.0 ∙ same
 
-pub complete_of : (o : Outside) (answer : Option Answer) (fault : Option Fault) → IsEnded o answer fault → ¬ AreRefused fault
-    → IsWellPosed o.left → ¬ Rose o.source_faults o.source_faults_after → ¬ Rose o.sink_faults o.sink_faults_after
+pub complete_of : (command : Command) (o : Outside) (answer : Option Answer) (fault : Option Fault) → IsEnded command o answer fault
+    → IsWellPosed command o.left → ¬ Rose o.source_faults o.source_faults_after → ¬ Rose o.sink_faults o.sink_faults_after
     → (fault ≡ None) ⊎ (fault ≡ Some NoMemory)
-complete_of o answer None ended words posed source sink = inl refl
-complete_of o (Some a) (Some Write) ended words posed source sink = absurd (sink ended.rose)
-complete_of o None (Some Write) ended words posed source sink = absurd ended
-complete_of o answer (Some (Words w)) ended words posed source sink = absurd (words tt)
-complete_of o answer (Some NoMemory) ended words posed source sink = inr refl
-complete_of o answer (Some Read) ended words posed source sink = absurd (source ended.2)
-complete_of o answer (Some TooLong) ended words posed source sink =
+complete_of command o answer None ended posed source sink = inl refl
+complete_of command o (Some a) (Some Write) ended posed source sink = absurd (sink ended.rose)
+complete_of command o None (Some Write) ended posed source sink = absurd ended
+complete_of command o answer (Some (Words w)) ended posed source sink = absurd ended
+complete_of command o answer (Some NoMemory) ended posed source sink = inr refl
+complete_of command o answer (Some Read) ended posed source sink = absurd (source ended.2)
+complete_of Solve o answer (Some TooLong) ended posed source sink =
     let more = rw posed.told at ended.2 in let short = posed.short in absurd (omega arith)
-complete_of o answer (Some (Text f)) ended words posed source sink =
+complete_of Check o answer (Some TooLong) ended posed source sink =
+    let more = rw posed.told at ended.2 in let short = posed.short in absurd (omega arith)
+complete_of Solve o answer (Some (Text f)) ended posed source sink =
     let d = ended.2 in
     let same = took_it o.left o.left_after d.input posed.input posed.told d.took in
     absurd (problem_has_no_fault posed.input posed.problem f posed.stands_for (subst (λ (i : List ℕ). StandsFor i (Err f)) same d.answered))
-complete_of o answer (Some NotBuilt) ended words posed source sink =
+complete_of Check o answer (Some (Text f)) ended posed source sink = absurd (ended.2.answered)
+complete_of Solve o answer (Some (Cert f)) ended posed source sink = absurd (ended.2.answered)
+complete_of Check o answer (Some (Cert f)) ended posed source sink =
+    let d = ended.2 in
+    let same = took_it o.left o.left_after d.input posed.input posed.told d.took in
+    absurd (d.answered.1 posed.certificate posed.readable (subst (λ (i : List ℕ). IsTextOf posed.certificate i) (sym same) posed.text))
+complete_of Solve o answer (Some NotBuilt) ended posed source sink =
     let d = ended.2 in
     let same = took_it o.left o.left_after d.input posed.input posed.told d.took in
     let one = one_problem posed.input d.answered.problem posed.problem (subst (λ (i : List ℕ). StandsFor i (Ok d.answered.problem)) same d.answered.stands_for) posed.stands_for in
     absurd (posed.mate_in_one (subst (λ (q : Board). IsFirstMate q.side q None) one d.answered.no_mate_in_one))
+complete_of Check o answer (Some NotBuilt) ended posed source sink = absurd (ended.2.answered)

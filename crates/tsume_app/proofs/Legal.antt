@@ -15,6 +15,7 @@ use Rattle.shogi_rules.specs.Tsume.{IsProblem}
 use Rattle.mate_def.specs.Mate.{IsMate}
 use Rattle.usi_text.specs.MoveText.{HasText}
 use Rattle.cert_text.specs.Certificate.{Mating, IsMating, IsEntry}
+use Rattle.cert_check.specs.Valid.{IsBorneOut, ValidMate}
 use Rattle.tsume_app.specs.FirstMate.{MatesAtOnce}
 
 pub legal_has_text : (b : Board) (m : Move) → IsLegal b m → order_of m < 13689 → HasText m
@@ -44,4 +45,18 @@ one_entry_keeps p m accepted text =
       problems = λ e h. subst (λ (x : MateEntry). IsEntry p x.at) (only_entry entry e h) (record { is_problem = accepted; side = refl });
       ranks = λ e h. subst (λ (x : MateEntry). 1 ≤ x.rank) (only_entry entry e h) (omega arith);
       texts = λ e h. subst (λ (x : MateEntry). HasText x.by) (only_entry entry e h) text;
+    }
+
+-- the certificate of that one entry is valid
+pub one_entry_valid : (p : Board) (m : Move) → MatesAtOnce p.side p m
+    → ValidMate (record { problem = p; entries = record { rank = 1; by = m; at = p } ∷ [] }) p
+one_entry_valid p m mates =
+    let entry : MateEntry = record { rank = 1; by = m; at = p } in
+    record {
+      problem = refl;
+      listed = (0, omega arith, refl);
+      entries = λ e h. subst (λ (x : MateEntry). IsBorneOut (entry ∷ []) p.side x) (only_entry entry e h) (record {
+        check = mates.check;
+        answers = λ a answer. absurd (mates.no_answer a answer);
+      });
     }

@@ -1,4 +1,5 @@
 pub mod Input
 pub mod FirstMate
+pub mod Command
 pub mod Answer
 pub mod Run

@@ -1,5 +1,6 @@
 // What the program finds.
 use board_core::Move;
+use cert_check::Why;
 use cert_text::Certificate;
 use std::marker::Model;
 
@@ -36,9 +37,23 @@ impl MainLine {
     }
 }
 
-/// What was found out about a problem.
+/// What was found out about a problem or a certificate.
 #[derive(Drop)]
 pub enum Answer {
     /// It is a mate: its certificate, of a mate, and the main line.
     Mate(Certificate, MainLine),
+    /// The certificate is valid for its own problem.
+    Accepted {
+        /// Whether it is a mate's; else it is an escape's.
+        mate: bool,
+        /// The number of its entries.
+        entries: u64,
+    },
+    /// The certificate isn't valid for its own problem.
+    Refused {
+        /// The first entry that something speaks against, counted from 1; 0 for the certificate as a whole.
+        entry: u64,
+        /// The first reason against it.
+        why: Why,
+    },
 }

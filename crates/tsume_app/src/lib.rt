@@ -5,8 +5,10 @@
 #![tactic(auto)]
 
 mod answer;
+mod command;
 mod fault;
 mod first_mate;
+mod judgement;
 mod program;
 mod shown;
 mod text;
