@@ -27,16 +27,16 @@ pub returns-in-Black-clause-one_less : goal.returns-in-Black-clause-one_less
 returns-in-Black-clause-one_less c =
     let before : Board = record { cells = c.self.inside.cells; black = c.self.inside.black; white = c.self.inside.white; side = c.self.inside.side } in
     let some : 0 < held before.black c.args.kind =
-        subst (λ (b : Board). 0 < held (hand_of b Black) c.args.kind) (sym c.self.view_is) (rw c.in-Black.is at c.requires) in
+    subst (λ (b : Board). 0 < held (hand_of b Black) c.args.kind) (sym c.self.view_is) (rw c.in-Black.is at c.requires) in
     rw (c.in-Black.is, c.minus-self-inside.ensures)
     (subst (λ (b : Board). held (with_less before.black c.args.kind) c.args.kind + 1 ≡ held (hand_of b Black) c.args.kind) c.self.view_is
-      (held_less before Black c.args.kind c.self.invariant (no_king_held before.black c.args.kind c.self.invariant.black some) some))
+    (held_less before Black c.args.kind c.self.invariant (no_king_held before.black c.args.kind c.self.invariant.black some) some))
 
 pub returns-in-White-clause-one_less : goal.returns-in-White-clause-one_less
 returns-in-White-clause-one_less c =
     let before : Board = record { cells = c.self.inside.cells; black = c.self.inside.black; white = c.self.inside.white; side = c.self.inside.side } in
     let some : 0 < held before.white c.args.kind =
-        subst (λ (b : Board). 0 < held (hand_of b White) c.args.kind) (sym c.self.view_is) (rw c.in-White.is at c.requires) in
+    subst (λ (b : Board). 0 < held (hand_of b White) c.args.kind) (sym c.self.view_is) (rw c.in-White.is at c.requires) in
     rw (c.in-White.is, c.minus-self-inside-in-White.ensures)
     (subst (λ (b : Board). held (with_less before.white c.args.kind) c.args.kind + 1 ≡ held (hand_of b White) c.args.kind) c.self.view_is
-      (held_less before White c.args.kind c.self.invariant (no_king_held before.white c.args.kind c.self.invariant.white some) some))
+    (held_less before White c.args.kind c.self.invariant (no_king_held before.white c.args.kind c.self.invariant.white some) some))
