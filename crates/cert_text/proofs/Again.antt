@@ -1,5 +1,5 @@
 -- A text is that of one certificate at most, and then it has no fault.
-use Rattle.std.proofs.Common.{inl, inr, ◌≡◌, ◌≢◌, ◌≤◌, false, ℕ, List, [], ◌∷◌, ◌++◌, length, map, Result, Ok, Err, refl, sym, ap, subst, ◌∙◌, append_assoc, arith}
+use Rattle.std.proofs.Common.{◌+◌, ◌⊎◌, inl, inr, ◌≡◌, ◌≢◌, ◌≤◌, false, ℕ, List, [], ◌∷◌, ◌++◌, length, map, Result, Ok, Err, refl, sym, ap, subst, ◌∙◌, append_assoc, arith}
 use Rattle.std.specs.Prelude.{codes}
 use Rattle.std.specs.List.{AllByRecursion}
 use Rattle.std.specs.Fmt.{decimal}
@@ -21,7 +21,7 @@ use Rattle.cert_text.specs.declared.certificate.Certificate.{Certificate}
 use Rattle.cert_text.specs.declared.certificate.Certificate.TheVariants as certificates
 use Rattle.cert_text.specs.declared.head.Claim.{Claim}
 use Rattle.cert_text.specs.declared.head.Claim.TheVariants.{Mate, Escape}
-use Rattle.cert_text.specs.Reading.{Lacks, Form, FitsMate, mate_form, escape_form, AreGood, texts_of, end_line, Ends, HasFault, HasFaultBehind, HasLaterFault, IsHead, IsReadable, IsTextOf, IsCertificateAnswer, IsReadAs}
+use Rattle.cert_text.specs.Reading.{Lacks, Form, FitsMate, mate_form, escape_form, AreGood, texts_of, end_line, Ends, HasFault, HasFaultBehind, HasLaterFault, HasFirstFault, IsFaultAs, IsHead, IsReadable, IsTextOf, IsCertificateAnswer, IsReadAs}
 use Rattle.cert_text.proofs.Cuts.{lacks_both, not_lacks, cut_same, has, lacks_by, decimal_lacks, move_lacks, sfen_lacks}
 use Rattle.cert_text.proofs.Entries.{entry_fields, line_same}
 use Rattle.cert_text.proofs.Heads.{one_head}
@@ -182,6 +182,100 @@ module _ {Entry : Type 0} (form : Form Entry) (told : AreTold form) where
   ]
   no_fault entries count bytes faults.WrongCount h n k = k.2 (ap length (sym (one_ends entries k.0 bytes h k.1)) ∙ n)
 
+  -- What stands where the good entries end, by the fault.
+  abbrev AtStop : List Entry → List ℕ → CertFault → Type 0
+  AtStop entries text faults.BadHead = ⊥
+  AtStop entries text (faults.BadLine number) = (number ≡ length entries + 1) × (bad : List ℕ) × (more : List ℕ) × Lacks 10 bad × (bad ≢ codes "end") × ((entry : Entry) → form.Fits entry → form.text_of entry ≡ line bad → ⊥) × (text ≡ line bad ++ more)
+  AtStop entries text (faults.NotRising number) = (number ≡ length entries + 1) × (next : Entry) × (more : List ℕ) × form.Fits next × (text ≡ form.text_of next ++ more)
+  AtStop entries text faults.NoEnd = Lacks 10 text ⊎ ((behind : List ℕ) × (behind ≢ []) × (text ≡ end_line ++ behind))
+  AtStop entries text faults.WrongCount = text ≡ end_line
+
+  -- Good entries, and behind them what no entry can follow.
+  record Stopped (bytes : List ℕ) (fault : CertFault) : Type 0 where
+    entries : List Entry
+    good : AreGood form entries
+    rest : List ℕ
+    text : bytes ≡ texts_of form entries ++ rest
+    stops : Stops entries rest
+    at : AtStop entries rest fault
+
+  stopped : (count : ℕ) (bytes : List ℕ) (fault : CertFault) → HasFault form count bytes fault → Stopped bytes fault
+  stopped count bytes faults.BadHead k = absurd k
+  stopped count bytes (faults.BadLine number) k = record {
+    entries = k.entries;
+    good = k.good;
+    rest = line k.bad ++ k.rest;
+    text = k.text;
+    stops = bad_stops k.entries k.bad k.rest k.is_line k.no_entry;
+    at = (k.number_is, k.bad, k.rest, k.is_line, k.no_end, k.no_entry, refl);
+  }
+  stopped count bytes (faults.NotRising number) k = record {
+    entries = k.entries;
+    good = k.good;
+    rest = form.text_of k.next ++ k.rest;
+    text = k.text;
+    stops = fall_stops k.entries k.next k.rest k.fits k.falls;
+    at = (k.number_is, k.next, k.rest, k.fits, refl);
+  }
+  stopped count bytes faults.NoEnd k = record {
+    entries = k.entries;
+    good = k.good;
+    rest = k.rest;
+    text = k.text;
+    stops = elim k.open_end [ inl lack ↦ lacks_stops k.entries k.rest lack | inr more ↦ end_stops k.entries k.rest more.0 more.2 ];
+    at = k.open_end;
+  }
+  stopped count bytes faults.WrongCount k = record {
+    entries = k.0;
+    good = k.1.good;
+    rest = end_line;
+    text = k.1.text;
+    stops = end_stops k.0 end_line [] refl;
+    at = refl;
+  }
+
+  line_not_open : (text bad more : List ℕ) → Lacks 10 bad → bad ≢ codes "end" → text ≡ line bad ++ more → Lacks 10 text ⊎ ((behind : List ℕ) × (behind ≢ []) × (text ≡ end_line ++ behind)) → ⊥
+  line_not_open text bad more lack no_end e (inl none) = not_lacks 10 bad more (subst (Lacks 10) (e ∙ append_assoc bad (10 ∷ []) more) none)
+  line_not_open text bad more lack no_end e (inr some) = no_end (line_cut bad (codes "end") more some.0 lack (end_lacks 10 refl) (sym e ∙ some.2)).0
+
+  entry_not_open : (text more : List ℕ) (next : Entry) → form.Fits next → text ≡ form.text_of next ++ more → Lacks 10 text ⊎ ((behind : List ℕ) × (behind ≢ []) × (text ≡ end_line ++ behind)) → ⊥
+  entry_not_open text more next fits e (inl none) = lacks_stops [] text none next more fits e tt
+  entry_not_open text more next fits e (inr some) = no_entry_at_end next some.0 more fits (sym some.2 ∙ e)
+
+  end_not_open : (text : List ℕ) → text ≡ end_line → Lacks 10 text ⊎ ((behind : List ℕ) × (behind ≢ []) × (text ≡ end_line ++ behind)) → ⊥
+  end_not_open text e (inl none) = not_lacks 10 (codes "end") [] (subst (Lacks 10) e none)
+  end_not_open text e (inr some) = let none : [] ≡ some.0 = append_cancel_left end_line [] some.0 (sym e ∙ some.2) in some.1 (sym none)
+
+  same_stop : (entries : List Entry) (text : List ℕ) (one two : CertFault) → AtStop entries text one → AtStop entries text two → one ≡ two
+  same_stop entries text faults.BadHead two p q = absurd p
+  same_stop entries text (faults.BadLine m) faults.BadHead p q = absurd q
+  same_stop entries text (faults.NotRising m) faults.BadHead p q = absurd q
+  same_stop entries text faults.NoEnd faults.BadHead p q = absurd q
+  same_stop entries text faults.WrongCount faults.BadHead p q = absurd q
+  same_stop entries text (faults.BadLine m) (faults.BadLine n) p q = ap (λ (k : ℕ). faults.BadLine k) (p.0 ∙ sym q.0)
+  same_stop entries text (faults.BadLine m) (faults.NotRising n) p q = absurd (bad_stops [] p.1 p.2 p.3 p.5 q.1 q.2 q.3 (sym p.6 ∙ q.4) tt)
+  same_stop entries text (faults.BadLine m) faults.NoEnd p q = absurd (line_not_open text p.1 p.2 p.3 p.4 p.6 q)
+  same_stop entries text (faults.BadLine m) faults.WrongCount p q = absurd (p.4 (line_cut p.1 (codes "end") p.2 [] p.3 (end_lacks 10 refl) (sym p.6 ∙ q)).0)
+  same_stop entries text (faults.NotRising m) (faults.NotRising n) p q = ap (λ (k : ℕ). faults.NotRising k) (p.0 ∙ sym q.0)
+  same_stop entries text (faults.NotRising m) (faults.BadLine n) p q = absurd (bad_stops [] q.1 q.2 q.3 q.5 p.1 p.2 p.3 (sym q.6 ∙ p.4) tt)
+  same_stop entries text (faults.NotRising m) faults.NoEnd p q = absurd (entry_not_open text p.2 p.1 p.3 p.4 q)
+  same_stop entries text (faults.NotRising m) faults.WrongCount p q = absurd (no_entry_at_end p.1 [] p.2 p.3 (sym q ∙ p.4))
+  same_stop entries text faults.NoEnd faults.NoEnd p q = refl
+  same_stop entries text faults.NoEnd (faults.BadLine n) p q = absurd (line_not_open text q.1 q.2 q.3 q.4 q.6 p)
+  same_stop entries text faults.NoEnd (faults.NotRising n) p q = absurd (entry_not_open text q.2 q.1 q.3 q.4 p)
+  same_stop entries text faults.NoEnd faults.WrongCount p q = absurd (end_not_open text q p)
+  same_stop entries text faults.WrongCount faults.WrongCount p q = refl
+  same_stop entries text faults.WrongCount (faults.BadLine n) p q = absurd (q.4 (line_cut q.1 (codes "end") q.2 [] q.3 (end_lacks 10 refl) (sym q.6 ∙ p)).0)
+  same_stop entries text faults.WrongCount (faults.NotRising n) p q = absurd (no_entry_at_end q.1 [] q.2 q.3 (sym p ∙ q.4))
+  same_stop entries text faults.WrongCount faults.NoEnd p q = absurd (end_not_open text p q)
+
+  one_fault : (count : ℕ) (bytes : List ℕ) (one two : CertFault) → HasFault form count bytes one → HasFault form count bytes two → one ≡ two
+  one_fault count bytes one two h k =
+      let a = stopped count bytes one h in
+      let b = stopped count bytes two k in
+      let same = same_entries [] b.entries a.entries b.rest a.rest b.good.fit a.good.fit b.good.rising a.good.rising (sym b.text ∙ a.text) b.stops a.stops in
+      same_stop a.entries a.rest one two a.at (subst (λ (es : List Entry). AtStop es a.rest two) same.0 (subst (λ (t : List ℕ). AtStop b.entries t two) same.1 b.at))
+
 -- ---- certificates
 
 mate_head : (c : Mating) (bytes : List ℕ) → IsReadable (certificates.Mate c) → IsTextOf (certificates.Mate c) bytes → IsHead Mate (length c.entries) (sfen_of c.problem) (texts_of (mate_form c.problem) c.entries ++ end_line) bytes
@@ -262,3 +356,38 @@ read_again (certificates.Escape c) bytes (Err (ends.Fault (faults.BadLine n))) r
 read_again (certificates.Escape c) bytes (Err (ends.Fault (faults.NotRising n))) r t h = escape_no_fault c bytes (faults.NotRising n) r t h
 read_again (certificates.Escape c) bytes (Err (ends.Fault faults.WrongCount)) r t h = escape_no_fault c bytes faults.WrongCount r t h
 read_again (certificates.Escape c) bytes (Err (ends.Fault faults.NoEnd)) r t h = escape_no_fault c bytes faults.NoEnd r t h
+
+-- ---- faults
+
+behind_same : (claim : Claim) (count : ℕ) (problem : Board) (rest : List ℕ) (one two : CertFault) → HasFaultBehind claim count problem rest one → HasFaultBehind claim count problem rest two → one ≡ two
+behind_same Mate count problem rest one two h k = one_fault (mate_form problem) (mate_told problem) count rest one two h k
+behind_same Escape count problem rest one two h k = one_fault (escape_form problem) (escape_told problem) count rest one two h k
+
+later_same : (bytes : List ℕ) (one two : CertFault) → HasLaterFault bytes one → HasLaterFault bytes two → one ≡ two
+later_same bytes one two h k =
+    let heads = one_head k.claim h.claim k.count h.count (sfen_of k.problem) (sfen_of h.problem) k.rest h.rest bytes k.begins.head h.begins.head in
+    behind_same h.claim h.count h.problem h.rest one two h.later
+    (moved k.claim h.claim k.count h.count k.problem h.problem k.rest h.rest two heads.0 heads.1 (texts_apart k.problem h.problem k.begins.kept h.begins.kept heads.2) heads.3 k.later)
+
+later_of : (bytes : List ℕ) (fault : CertFault) → HasFirstFault bytes fault → (fault ≡ faults.BadHead) ⊎ HasLaterFault bytes fault
+later_of bytes faults.BadHead h = inl refl
+later_of bytes (faults.BadLine n) h = inr h
+later_of bytes (faults.NotRising n) h = inr h
+later_of bytes faults.WrongCount h = inr h
+later_of bytes faults.NoEnd h = inr h
+
+no_head_later : (bytes : List ℕ) (one two : CertFault) → HasFirstFault bytes one → one ≡ faults.BadHead → HasLaterFault bytes two → ⊥
+no_head_later bytes one two h e k = (subst (HasFirstFault bytes) e h) k.claim k.count k.problem k.rest k.begins
+
+-- A text has one first fault at most.
+first_same : (bytes : List ℕ) (one two : CertFault) → HasFirstFault bytes one → HasFirstFault bytes two → one ≡ two
+first_same bytes one two h k = elim (later_of bytes one h) [
+  | inl head ↦ elim (later_of bytes two k) [ inl other ↦ head ∙ sym other | inr later ↦ absurd (no_head_later bytes one two h head later) ]
+  | inr mine ↦ elim (later_of bytes two k) [ inl other ↦ absurd (no_head_later bytes two one k other mine) | inr later ↦ later_same bytes one two mine later ]
+]
+
+-- A fault that is a text's first one is the answer to it.
+pub read_fault : (fault : CertFault) (bytes : List ℕ) (answer : Result Certificate CertEnd) → HasFirstFault bytes fault → IsCertificateAnswer bytes answer → IsFaultAs fault answer
+read_fault fault bytes (Ok c) first h = read_again c bytes (Err (ends.Fault fault)) h.0 h.1 first
+read_fault fault bytes (Err (ends.Fault found)) first h = first_same bytes found fault h first
+read_fault fault bytes (Err ends.NoMemory) first h = tt

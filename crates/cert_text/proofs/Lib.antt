@@ -3,3 +3,4 @@ pub mod Heads
 pub mod Entries
 pub mod Bodies
 pub mod Again
+pub mod Readable

@@ -231,6 +231,12 @@ IsReadAs c (Ok found) = found ≡ c
 IsReadAs c (Err (ends.Fault fault)) = ⊥
 IsReadAs c (Err ends.NoMemory) = Unit {0}
 
+-- The answer is this fault, or want of memory.
+abbrev pub IsFaultAs : CertFault → Result Certificate CertEnd → Type 0
+IsFaultAs fault (Ok c) = ⊥
+IsFaultAs fault (Err (ends.Fault found)) = found ≡ fault
+IsFaultAs fault (Err ends.NoMemory) = Unit {0}
+
 -- A certificate is small enough to be read: it has 1 to 1,400,000 entries, and ranks up to 999,999,999.
 abbrev pub IsWithinLimits : Certificate → Type 0
 IsWithinLimits (certificates.Mate c) = IsReadCount (length c.entries) × AllByRecursion (λ entry. entry.rank ≤ 999999999) c.entries

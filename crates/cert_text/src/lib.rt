@@ -17,3 +17,6 @@ pub use certificate::{Certificate, EscapeCertificate, MateCertificate};
 pub use fault::{CertEnd, CertFault};
 pub use read::read_cert;
 pub use write::write_cert;
+
+#[cfg(test)]
+mod tests;

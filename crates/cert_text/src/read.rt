@@ -3,9 +3,10 @@ ghost use Rattle.std.specs.Prelude.{◌≡◌, ◌≢◌, ◌≤◌, ◌++◌, �
 ghost use Rattle.board_core.specs.declared.moves.MateEntry.{MateEntry};
 ghost use Rattle.board_core.specs.Board.{Board};
 ghost use Rattle.sfen_text.specs.Spelling.{sfen_of};
+ghost use Rattle.cert_text.specs.declared.fault.CertFault.{CertFault};
 ghost use Rattle.cert_text.specs.declared.certificate.Certificate.{Certificate};
 ghost use Rattle.cert_text.specs.Text.{line, mate_entry_text, escape_entry_text};
-ghost use Rattle.cert_text.specs.Reading.{FitsMate, FitsEscape, mate_form, escape_form, IsEntriesAnswer, IsCertificateAnswer, IsEndFault, IsReadable, IsTextOf, IsReadAs};
+ghost use Rattle.cert_text.specs.Reading.{FitsMate, FitsEscape, mate_form, escape_form, IsEntriesAnswer, IsCertificateAnswer, IsEndFault, IsReadable, IsTextOf, IsReadAs, HasFirstFault, IsFaultAs};
 
 use crate::head::{Claim, head_of};
 use crate::parts::{cut, is_before, number_of, position_of, problem_of};
@@ -177,6 +178,8 @@ pub fn read_cert(alloc: Global, bytes: &[u8]) -> Result<Certificate, CertEnd>
     ensures exact { IsCertificateAnswer bytes.now result }
     // Each certificate that can be read is, from its text.
     ensures again { (c : Certificate) → IsReadable c → IsTextOf c bytes.now → IsReadAs c result }
+    // No text has two first faults, or one and a certificate.
+    ensures only { (fault : CertFault) → HasFirstFault bytes.now fault → IsFaultAs fault result }
 {
     certificate_of(alloc, bytes)
 }

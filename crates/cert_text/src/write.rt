@@ -1,11 +1,14 @@
 // Certificates as texts.
-ghost use Rattle.std.specs.Prelude.{◌≡◌, ◌≤◌, ◌++◌, ◌∷◌, [], List, ℕ, length, IfOk, OnOk, codes};
+ghost use Rattle.std.specs.Prelude.{◌≡◌, ◌≤◌, ◌++◌, ◌∷◌, [], List, ℕ, length, IfOk, IsOk, OnOk, codes};
 ghost use Rattle.std.specs.List.{flat_map};
 ghost use Rattle.std.specs.Fmt.{decimal};
 ghost use Rattle.board_core.specs.Board.{Board};
+ghost use Rattle.board_core.specs.Kept.{IsKept};
 ghost use Rattle.usi_text.specs.MoveText.{HasText, move_text};
 ghost use Rattle.sfen_text.specs.Spelling.{sfen_of};
 ghost use Rattle.cert_text.specs.Text.{first_line, problem_line, head_text, mate_entry_text, escape_entry_text, mate_certificate_text, escape_certificate_text, certificate_text};
+ghost use Rattle.cert_text.specs.declared.certificate.Certificate.TheVariants as certificates;
+ghost use Rattle.cert_text.specs.Reading.{IsWithinLimits, IsReadable};
 
 use crate::{Certificate, EscapeCertificate, MateCertificate};
 use board_core::{MateEntry, NoMemory, Position};
@@ -58,8 +61,10 @@ fn head_of(
     count: usize,
     problem: &Position,
 ) -> Result<Vec<u8>, NoMemory>
-    ensures { IfOk result (λ text. text.items ≡ head_text kind.now count problem.now) }
+    ensures text { IfOk result (λ text. text.items ≡ head_text kind.now count problem.now) }
+    ensures kept { IsKept problem.now }
 {
+    problem.cells();
     let mut text = Vec::new(alloc);
     put_first_line(&mut text, kind, count)?;
     put_problem_line(alloc, &mut text, problem)?;
@@ -68,8 +73,10 @@ fn head_of(
 
 fn put_mate_entry(alloc: Global, out: &mut Vec<u8>, entry: &MateEntry) -> Result<(), NoMemory>
     requires { HasText entry.now.by }
-    ensures { OnOk result (out.new.items ≡ out.old.items ++ mate_entry_text entry.now) }
+    ensures text { OnOk result (out.new.items ≡ out.old.items ++ mate_entry_text entry.now) }
+    ensures kept { IsKept entry.now.at }
 {
+    entry.at.cells();
     put_number(out, u64::from(entry.rank))?;
     out.push(b' ')?;
     out.extend_from_slice(write_move(entry.by).as_bytes())?;
@@ -80,15 +87,18 @@ fn put_mate_entry(alloc: Global, out: &mut Vec<u8>, entry: &MateEntry) -> Result
 }
 
 fn put_escape_entry(alloc: Global, out: &mut Vec<u8>, position: &Position) -> Result<(), NoMemory>
-    ensures { OnOk result (out.new.items ≡ out.old.items ++ escape_entry_text position.now) }
+    ensures text { OnOk result (out.new.items ≡ out.old.items ++ escape_entry_text position.now) }
+    ensures kept { IsKept position.now }
 {
+    position.cells();
     put_position(alloc, out, position)?;
     out.push(b'\n')?;
     Ok(())
 }
 
 fn mate_text(alloc: Global, certificate: &MateCertificate) -> Result<Vec<u8>, NoMemory>
-    ensures { IfOk result (λ text. text.items ≡ mate_certificate_text certificate.now) }
+    ensures text { IfOk result (λ text. text.items ≡ mate_certificate_text certificate.now) }
+    ensures readable { IsOk result → IsWithinLimits (certificates.Mate certificate.now) → IsReadable (certificates.Mate certificate.now) }
 {
     let entries = certificate.entries();
     let problem = &certificate.problem().position;
@@ -101,7 +111,8 @@ fn mate_text(alloc: Global, certificate: &MateCertificate) -> Result<Vec<u8>, No
 }
 
 fn escape_text(alloc: Global, certificate: &EscapeCertificate) -> Result<Vec<u8>, NoMemory>
-    ensures { IfOk result (λ text. text.items ≡ escape_certificate_text certificate.now) }
+    ensures text { IfOk result (λ text. text.items ≡ escape_certificate_text certificate.now) }
+    ensures readable { IsOk result → IsWithinLimits (certificates.Escape certificate.now) → IsReadable (certificates.Escape certificate.now) }
 {
     let entries = certificate.entries();
     let problem = &certificate.problem().position;
@@ -118,7 +129,9 @@ fn escape_text(alloc: Global, certificate: &EscapeCertificate) -> Result<Vec<u8>
 /// the line `end`. Each line ends with a line feed. Positions are written as [`write_sfen`] does, moves as
 /// [`write_move`] does. Answers `NoMemory` only where the memory ends.
 pub fn write_cert(alloc: Global, certificate: &Certificate) -> Result<Vec<u8>, NoMemory>
-    ensures { IfOk result (λ text. text.items ≡ certificate_text certificate.now) }
+    ensures text { IfOk result (λ text. text.items ≡ certificate_text certificate.now) }
+    // What is written is read again, where it is within the limits: see `again` of `read_cert`.
+    ensures readable { IsOk result → IsWithinLimits certificate.now → IsReadable certificate.now }
 {
     match certificate {
         Certificate::Mate(mate) => mate_text(alloc, mate),
