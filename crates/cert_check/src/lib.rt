@@ -7,6 +7,8 @@
 
 mod places;
 mod reasons;
+#[cfg(test)]
+mod tests;
 mod verdict;
 
 pub use verdict::{Verdict, Why, check};
