@@ -1,6 +1,6 @@
 // Answers as lines.
-ghost use Rattle.std.specs.Prelude.{◌≡◌, IfSome};
-ghost use Rattle.usi_text.specs.MoveText.{move_text};
+ghost use Rattle.std.specs.Prelude.{◌≡◌, IfSome, IsSome};
+ghost use Rattle.usi_text.specs.MoveText.{move_text, HasText};
 
 use crate::answer::Answer;
 use board_core::{Kind, Move, Position};
@@ -16,7 +16,8 @@ pub fn no_memory() -> io::Error {
 
 // The text of a move; none for a move that has no text, as no legal move is.
 fn text_of(by: Move) -> Option<MoveText>
-    ensures { IfSome result (λ text. text ≡ move_text by) }
+    ensures text { IfSome result (λ text. text ≡ move_text by) }
+    ensures some { HasText by → IsSome result }
 {
     match by {
         Move::Board { from, to, .. } if from.number == to.number => None,
