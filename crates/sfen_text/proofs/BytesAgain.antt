@@ -22,10 +22,10 @@ pub both_plain : (xs ys : List ℕ) → ArePlain xs → ArePlain ys → ArePlain
 both_plain [] ys p q = q
 both_plain (x ∷ xs) ys p q = (p.0, both_plain xs ys p.1 q)
 
-low_plain : (n : ℕ) → 43 ≤ n → n ≤ 58 → n ≢ 45 → IsPlain n
+pub low_plain : (n : ℕ) → 43 ≤ n → n ≤ 58 → n ≢ 45 → IsPlain n
 low_plain n from to dash = record { above = from; not_dash = dash; not_o = λ e. omega arith; not_f = λ e. omega arith }
 
-run_plain : (run : ℕ) → run ≤ 9 → ArePlain (run_text run)
+pub run_plain : (run : ℕ) → run ≤ 9 → ArePlain (run_text run)
 run_plain zero le = tt
 run_plain (suc n) le = (low_plain (48 + suc n) (omega arith) (omega arith) (λ e. omega arith), tt)
 
@@ -33,7 +33,7 @@ plus_plain : (b : Bool) → ArePlain (plus_text b)
 plus_plain true = (low_plain 43 (omega arith) (omega arith) (λ e. omega arith), tt)
 plus_plain false = tt
 
-piece_plain : (p : Piece) → ArePlain (piece_text p)
+pub piece_plain : (p : Piece) → ArePlain (piece_text p)
 piece_plain p = both_plain (plus_text p.promoted) (letter_of p.side p.kind ∷ []) (plus_plain p.promoted) ((letter_plain p.side p.kind).0, tt)
 
 row_plain : (xs : List (Option Piece)) (run : ℕ) → run + length xs ≤ 9 → ArePlain (row_text run xs)

@@ -14,11 +14,11 @@ pub leading_none : (test : ℕ → Bool) (x : ℕ) (xs : List ℕ) → test x �
 unfolding leading
 leading_none test x xs e = rw (take_while-cons test x xs, e) refl
 
-leading_more : (test : ℕ → Bool) (x : ℕ) (xs : List ℕ) → test x ≡ true → leading test (x ∷ xs) ≡ suc (leading test xs)
+pub leading_more : (test : ℕ → Bool) (x : ℕ) (xs : List ℕ) → test x ≡ true → leading test (x ∷ xs) ≡ suc (leading test xs)
 unfolding leading
 leading_more test x xs e = rw (take_while-cons test x xs, e) refl
 
-leading_nil : (test : ℕ → Bool) → leading test [] ≡ 0
+pub leading_nil : (test : ℕ → Bool) → leading test [] ≡ 0
 unfolding leading
 leading_nil test = refl
 
@@ -36,16 +36,16 @@ pub solid_from_plain : (xs : List ℕ) → ArePlain xs → AreSolid xs
 solid_from_plain [] h = tt
 solid_from_plain (x ∷ xs) h = (h.0.above, solid_from_plain xs h.1)
 
-no_space : (x : ℕ) → 43 ≤ x → is_space x ≡ false
+pub no_space : (x : ℕ) → 43 ≤ x → is_space x ≡ false
 no_space x h = elim (eqb_tells x 32) [ inl t ↦ absurd (omega (arith, t.1)) | inr f ↦ f.0 ]
 
 pub no_blank : (x : ℕ) → 43 ≤ x → is_blank x ≡ false
 no_blank x h = grind (arith, nat_tests)
 
-abbrev in_field : ℕ → Bool
+abbrev pub in_field : ℕ → Bool
 in_field byte = not (is_space byte)
 
-field_size : (xs rest : List ℕ) → AreSolid xs → Ends rest → leading in_field (xs ++ rest) ≡ length xs
+pub field_size : (xs rest : List ℕ) → AreSolid xs → Ends rest → leading in_field (xs ++ rest) ≡ length xs
 field_size [] [] solid ends = leading_nil in_field
 field_size [] (x ∷ rest) solid ends = leading_none in_field x rest (rw ends refl)
 field_size (x ∷ xs) rest solid ends = leading_more in_field x (xs ++ rest) (rw (no_space x solid.0) refl) ∙ ap suc (field_size xs rest solid.1 ends)
@@ -76,7 +76,7 @@ no_field at = refl
 
 -- ---- both ends
 
-last_solid : (xs : List ℕ) (x : ℕ) → AreSolid (x ∷ xs) → (front : List ℕ) × (last : ℕ) × (x ∷ xs ≡ front ++ last ∷ []) × (43 ≤ last)
+pub last_solid : (xs : List ℕ) (x : ℕ) → AreSolid (x ∷ xs) → (front : List ℕ) × (last : ℕ) × (x ∷ xs ≡ front ++ last ∷ []) × (43 ≤ last)
 last_solid [] x solid = ([], x, refl, solid.0)
 last_solid (y ∷ xs) x solid =
     let more = last_solid xs y solid.1 in

@@ -22,13 +22,13 @@ digit_is d le = grind (arith, nat_tests)
 in_count : (n : ℕ) → 1 ≤ n → n ≤ 18 → (nat_lt 0 n && nat_le n 18) ≡ true
 in_count n from to = grind (arith, nat_tests)
 
-digit_step : (start count at d n : ℕ) (text : List ℕ) → d ≤ 9 → 10 * count + d ≡ n → 1 ≤ n → n ≤ 18 → items start count at ((48 + d) ∷ text) ≡ items start n (at + 1) text
+pub digit_step : (start count at d n : ℕ) (text : List ℕ) → d ≤ 9 → 10 * count + d ≡ n → 1 ≤ n → n ≤ 18 → items start count at ((48 + d) ∷ text) ≡ items start n (at + 1) text
 unfolding items
 digit_step start count at d n text le e from to =
     let value : 10 * count + (48 + d - 48) ≡ n = omega arith in
     rw (digit_is d le, value, in_count n from to) refl
 
-letter_step : (start count at : ℕ) (side : Side) (kind : Kind) (text : List ℕ) → kind ≢ King → items start count at (letter_of side kind ∷ text) ≡ item at (count_or_one count) side kind (items (at + 1) 0 (at + 1) text)
+pub letter_step : (start count at : ℕ) (side : Side) (kind : Kind) (text : List ℕ) → kind ≢ King → items start count at (letter_of side kind ∷ text) ≡ item at (count_or_one count) side kind (items (at + 1) 0 (at + 1) text)
 unfolding items
 letter_step start count at Black Pawn text h = rw (letter_again Black Pawn) refl
 letter_step start count at Black Lance text h = rw (letter_again Black Lance) refl
@@ -47,7 +47,7 @@ letter_step start count at White Bishop text h = rw (letter_again White Bishop) 
 letter_step start count at White Rook text h = rw (letter_again White Rook) refl
 letter_step start count at White King text h = absurd (h refl)
 
-count_or_one_same : (n : ℕ) → 1 ≤ n → count_or_one n ≡ n
+pub count_or_one_same : (n : ℕ) → 1 ≤ n → count_or_one n ≡ n
 count_or_one_same n le = elim (eqb_tells n 0) [ inl t ↦ absurd (omega (arith, t.1)) | inr f ↦ rw f.0 refl ]
 
 -- An item that is written is read as that item.

@@ -7,3 +7,7 @@ pub mod HandsAgain
 pub mod BytesAgain
 pub mod FieldsAgain
 pub mod TextAgain
+pub mod BoardSpelled
+pub mod HandsSpelled
+pub mod FieldsSpelled
+pub mod TextSpelled

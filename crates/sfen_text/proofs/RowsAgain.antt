@@ -15,14 +15,14 @@ use Rattle.sfen_text.specs.Signs.{plain_sign, signs, in_front, squares, reading_
 use Rattle.sfen_text.proofs.Filling.{signs_one, in_front_twice, in_front_none, le_passes, all_cells, piece_at_is}
 use Rattle.sfen_text.proofs.PiecesAgain.{piece_sign}
 
-run_sign : (n : ℕ) → 1 ≤ n → n ≤ 9 → plain_sign (48 + n) ≡ Run n
+pub run_sign : (n : ℕ) → 1 ≤ n → n ≤ 9 → plain_sign (48 + n) ≡ Run n
 run_sign n from to =
     let slash : eqb (48 + n) 47 ≡ false = elim (eqb_tells (48 + n) 47) [ inl t ↦ absurd (omega (arith, t.1)) | inr f ↦ f.0 ] in
     let digit : (nat_le 49 (48 + n) && nat_le (48 + n) 57) ≡ true = rw (le_passes 49 (48 + n) (omega arith), le_passes (48 + n) 57 (omega arith)) refl in
     let value : 48 + n - 48 ≡ n = omega arith in
     rw (slash, digit, value) refl
 
-run_again : (run left ranks end at : ℕ) (text : List ℕ) → run ≤ left → run ≤ 9
+pub run_again : (run left ranks end at : ℕ) (text : List ℕ) → run ≤ left → run ≤ 9
     → squares end ranks left (signs at (run_text run ++ text)) ≡ in_front (replicate run None) (squares end ranks (left - run) (signs (at + length (run_text run)) text))
 unfolding squares
 run_again zero left ranks end at text le nine =
@@ -33,7 +33,7 @@ run_again (suc n) left ranks end at text le nine =
     let one = signs_one at (48 + suc n) text (inr (λ e. omega arith)) in
     rw (one, run_sign (suc n) (omega arith) nine, le_passes (suc n) left le) refl
 
-piece_again : (p : Piece) (left ranks end at : ℕ) (text : List ℕ) → 0 < left
+pub piece_again : (p : Piece) (left ranks end at : ℕ) (text : List ℕ) → 0 < left
     → squares end ranks left (signs at (piece_text p ++ text)) ≡ in_front (Some p ∷ []) (squares end ranks (left - 1) (signs (at + length (piece_text p)) text))
 unfolding squares
 piece_again p left ranks end at text lt = let some : nat_lt 0 left ≡ true = lt-ltb 0 left lt in rw (piece_sign p at text, some) refl
@@ -87,7 +87,7 @@ pub board_again : (cells : List (Option Piece)) (end at : ℕ) → squares end 8
 board_again cells end at =
     rw (whole_row cells 1 8 end at (flat_map (slashed_row cells) (range_with_len 2 8)), rows_again 8 cells 2 end (at + length (row_text 0 (row_of cells 1)))) refl
 
-at_file : (n c : ℕ) (cells : List (Option Piece)) (rank : ℕ) → c < n → get_or (row_from cells rank n) c None ≡ piece_at cells (square_on (n - c) rank)
+pub at_file : (n c : ℕ) (cells : List (Option Piece)) (rank : ℕ) → c < n → get_or (row_from cells rank n) c None ≡ piece_at cells (square_on (n - c) rank)
 at_file zero c cells rank lt = absurd (omega arith)
 at_file (suc n) zero cells rank lt = let e : suc n - 0 ≡ suc n = omega arith in rw e refl
 at_file (suc n) (suc c) cells rank lt = let e : suc n - suc c ≡ n - c = omega arith in rw e (at_file n c cells rank (omega arith))

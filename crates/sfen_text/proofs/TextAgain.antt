@@ -27,12 +27,12 @@ use Rattle.sfen_text.proofs.FieldsAgain.{Ends, AreSolid, solid_from_plain, no_bl
 
 -- ---- the fields
 
-side_again : (side : Side) (at : ℕ) → side_at at (side_letter side ∷ []) ≡ Ok side
+pub side_again : (side : Side) (at : ℕ) → side_at at (side_letter side ∷ []) ≡ Ok side
 unfolding side_at
 side_again Black at = refl
 side_again White at = refl
 
-side_solid : (side : Side) → AreSolid (side_letter side ∷ [])
+pub side_solid : (side : Side) → AreSolid (side_letter side ∷ [])
 side_solid Black = (omega arith, tt)
 side_solid White = (omega arith, tt)
 
@@ -40,11 +40,11 @@ cells_field : (cells : List (Option Piece)) (at : ℕ) → length cells ≡ 81 �
 unfolding cells_at
 cells_field cells at size = rw (board_again cells (at + length (board_text cells)) at, cells_again cells size) refl
 
-not_dash : (x : ℕ) (xs : List ℕ) → x ≢ 45 → is_byte 45 (x ∷ xs) ≡ false
+pub not_dash : (x : ℕ) (xs : List ℕ) → x ≢ 45 → is_byte 45 (x ∷ xs) ≡ false
 not_dash x [] h = elim (eqb_tells x 45) [ inl t ↦ absurd (h t.1) | inr f ↦ f.0 ]
 not_dash x (y ∷ xs) h = refl
 
-dash_again : (text : List ℕ) (at : ℕ) (hands : List ℕ × List ℕ) → ArePlain text → hands_with empty_hand empty_hand (items at 0 at text) ≡ Ok hands → hands_of at (or_dash text) ≡ Ok hands
+pub dash_again : (text : List ℕ) (at : ℕ) (hands : List ℕ × List ℕ) → ArePlain text → hands_with empty_hand empty_hand (items at 0 at text) ≡ Ok hands → hands_of at (or_dash text) ≡ Ok hands
 unfolding hands_of items hands_with
 dash_again [] at hands plain e = e
 dash_again (x ∷ xs) at hands plain e = rw (eqb-suc-zero (length xs), not_dash x xs plain.0.not_dash) e
@@ -54,36 +54,36 @@ hands_field black white at b7 w7 bs ws =
     dash_again (hand_text Black black ++ hand_text White white) at (black, white) (both_plain (hand_text Black black) (hand_text White white) (hand_plain Black black bs) (hand_plain White white ws)) (both_again black white at b7 w7 bs ws)
 
 -- A text that isn't empty, by its first byte.
-record Begun (text : List ℕ) : Type 0 where
-  first : ℕ
-  others : List ℕ
-  parts : text ≡ first ∷ others
-  solid : AreSolid (first ∷ others)
+pub record Begun (text : List ℕ) : Type 0 where
+  pub first : ℕ
+  pub others : List ℕ
+  pub parts : text ≡ first ∷ others
+  pub solid : AreSolid (first ∷ others)
 
-dash_begun : (text : List ℕ) → ArePlain text → Begun (or_dash text)
+pub dash_begun : (text : List ℕ) → ArePlain text → Begun (or_dash text)
 dash_begun [] plain = record { first = 45; others = []; parts = refl; solid = (omega arith, tt) }
 dash_begun (x ∷ xs) plain = record { first = x; others = xs; parts = refl; solid = solid_from_plain (x ∷ xs) plain }
 
 hands_begun : (black white : List ℕ) → IsSmall black → IsSmall white → Begun (hands_text black white)
 hands_begun black white bs ws = dash_begun (hand_text Black black ++ hand_text White white) (both_plain (hand_text Black black) (hand_text White white) (hand_plain Black black bs) (hand_plain White white ws))
 
-record Two (text : List ℕ) : Type 0 where
-  first : ℕ
-  second : ℕ
-  others : List ℕ
-  parts : text ≡ first ∷ second ∷ others
-  plain : ArePlain (first ∷ second ∷ others)
+pub record Two (text : List ℕ) : Type 0 where
+  pub first : ℕ
+  pub second : ℕ
+  pub others : List ℕ
+  pub parts : text ≡ first ∷ second ∷ others
+  pub plain : ArePlain (first ∷ second ∷ others)
 
-two_of : (text : List ℕ) → ArePlain text → 2 ≤ length text → Two text
+pub two_of : (text : List ℕ) → ArePlain text → 2 ≤ length text → Two text
 two_of [] plain le = absurd (omega arith)
 two_of (x ∷ []) plain le = absurd (omega arith)
 two_of (x ∷ y ∷ text) plain le = record { first = x; second = y; others = text; parts = refl; plain = plain }
 
-end_again : (at : ℕ) → ended (field at [] []) ≡ Ok (field at [] [])
+pub end_again : (at : ℕ) → ended (field at [] []) ≡ Ok (field at [] [])
 unfolding ended field_of leading
 end_again at = refl
 
-nothing_behind : (at : ℕ) (text : List ℕ) → field (at + length text + 0) [] [] ≡ next_of (field at text [])
+pub nothing_behind : (at : ℕ) (text : List ℕ) → field (at + length text + 0) [] [] ≡ next_of (field at text [])
 unfolding field_of leading
 nothing_behind at text = refl
 
@@ -145,7 +145,7 @@ drop_none (x ∷ xs) = refl
 no_blanks : (text rest : List ℕ) → Two text → leading is_blank (text ++ rest) ≡ 0
 no_blanks text rest two = rw two.parts (leading_none is_blank two.first ((two.second ∷ two.others) ++ rest) (no_blank two.first two.plain.0.above))
 
-no_words : (text rest : List ℕ) → Two text → front_len (text ++ rest) ≡ 0
+pub no_words : (text rest : List ℕ) → Two text → front_len (text ++ rest) ≡ 0
 no_words text rest two = rw two.parts (no_front two.first two.second (two.others ++ rest) two.plain.1.0)
 
 no_end_of : (front text : List ℕ) → Begun text → without_end_blanks (front ++ text) ≡ front ++ text

@@ -1,9 +1,10 @@
 // Texts as positions.
-ghost use Rattle.std.specs.Prelude.{◌≡◌, ◌≤◌, ◌<◌, ◌+◌, ◌-◌, ◌^◌, ◌∷◌, ℕ, List, length, take, drop, reverse, take_while, not, Ok};
+ghost use Rattle.std.specs.Prelude.{◌≡◌, ◌≤◌, ◌<◌, ◌+◌, ◌-◌, ◌^◌, ◌∷◌, ℕ, List, length, take, drop, reverse, take_while, not, Ok, IfOk};
 ghost use Rattle.std.specs.List.{list_all};
 ghost use Rattle.board_core.specs.Board.{Board};
 ghost use Rattle.board_core.specs.Kept.{IsKept};
 ghost use Rattle.sfen_text.specs.Spelling.{sfen_of};
+ghost use Rattle.sfen_text.specs.Spells.{Spells};
 ghost use Rattle.sfen_text.specs.Reading.{is_space, is_blank, leading, without_end_blanks, front_len, field, field_of, next_of, end_of, cells_at, side_at, is_number, ended, fields_at, reading, IsAnswer, HasDefender, Gives};
 ghost use Rattle.sfen_text.specs.Hands.{hands_of, is_digit};
 
@@ -210,6 +211,11 @@ fn answer_of(input: &[u8]) -> Result<Position, TextFault>
 /// from file 9 to file 1; the side to move; the hands; perhaps a move number of one to nine digits, which isn't used.
 pub fn read_sfen(input: &[u8]) -> Result<Position, TextFault>
     ensures exact { IsAnswer (reading input.now) result }
+    // The text spells the position that is read.
+    ensures spelled { IfOk result (λ p. Spells input.now p) }
+    // A position that the text spells is read, where it keeps what every position keeps and the side that isn't to move has
+    // a king.
+    ensures read { (p : Board) → Spells input.now p → IsKept p → HasDefender p → result ≡ Ok p }
     // What is written for a position is read as it.
     ensures again { (p : Board) → IsKept p → HasDefender p → input.now ≡ sfen_of p → result ≡ Ok p }
 {
