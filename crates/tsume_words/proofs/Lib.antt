@@ -1,0 +1,6 @@
+pub mod Builds
+pub mod Ends
+pub mod Powers
+pub mod Rows
+pub mod Taken
+pub mod Texts

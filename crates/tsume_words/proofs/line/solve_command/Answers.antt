@@ -1,0 +1,29 @@
+use Rattle.std.proofs.Common.{◌∙◌, ap, ap₂}
+use Rattle.std.proofs.lemmas.Result.{IfOk-weaker}
+use Rattle.clap.specs.Words.{with_rule}
+use Rattle.tsume_words.proofs.Builds.{same_app, same_app_after, stays_local}
+use Rattle.tsume_words.proofs.line.solve_command.Goals as goal
+
+pub returns : goal.returns
+returns c =
+    let bare = same_app_after _ _ _ c.after_help.ensures ∙ (same_app _ _ _ c.about.ensures ∙ c.new.ensures.app) in
+    let w = c.workers_option-workers.ensures in
+    let e = c.number_option-expansions.ensures in
+    let n = c.number_option-room.ensures in
+    let r = c.number_option-rows.ensures in
+    let s = c.number_option-shards.ensures in
+    let one = c.in_ok-arg.ensures.shape w.local ∙ ap₂ with_rule bare w.rule in
+    let two = c.in_ok-arg-2.ensures.shape e.local ∙ ap₂ with_rule one e.rule in
+    let three = c.in_ok-arg-3.ensures.shape n.local ∙ ap₂ with_rule two n.rule in
+    let four = c.in_ok-arg-4.ensures.shape r.local ∙ ap₂ with_rule three r.rule in
+    let five = c.in_ok-arg-5.ensures.shape s.local ∙ ap₂ with_rule four s.rule in
+    let no_0 = ap (λ f. f.has_globals) c.after_help.ensures ∙ (ap (λ f. f.has_globals) c.about.ensures ∙ c.new.ensures.local) in
+    let no_1 = stays_local _ _ _ c.in_ok-arg.ensures.globals no_0 w.local in
+    let no_2 = stays_local _ _ _ c.in_ok-arg-2.ensures.globals no_1 e.local in
+    let no_3 = stays_local _ _ _ c.in_ok-arg-3.ensures.globals no_2 n.local in
+    let no_4 = stays_local _ _ _ c.in_ok-arg-4.ensures.globals no_3 r.local in
+    let no_5 = stays_local _ _ _ c.in_ok-arg-5.ensures.globals no_4 s.local in
+    record {
+      app = IfOk-weaker c.arg-6.result _ _ (λ r adds. adds.shape c.rest_flag.ensures.local ∙ ap₂ with_rule five c.rest_flag.ensures.rule) c.arg-6.ensures;
+      local = IfOk-weaker c.arg-6.result _ _ (λ r adds. stays_local _ _ _ adds.globals no_5 c.rest_flag.ensures.local) c.arg-6.ensures;
+    }

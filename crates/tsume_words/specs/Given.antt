@@ -1,0 +1,95 @@
+-- What clap gives for the words of the command line, by its own meaning of the command.
+use Rattle.std.specs.Prelude.{◌≡◌, ◌<◌, ◌^◌, ℕ, Bool, false, List, [], ◌∷◌, Option, Some, None, codes}
+use Rattle.std.specs.Prelude.{◌⊎◌, IsSomeAnd, option_and_then, if◌then◌else◌}
+use Rattle.std.specs.Option.{option_map_or}
+use Rattle.std.specs.Str.{bytes_eq}
+use Rattle.std.specs.Str.Parse.{IsNumeral, digits_value, without_leading_plus}
+use Rattle.clap.specs.Kinds.{Kinds}
+use Rattle.clap.specs.Words.{IsUnsignedIn, Row, Text, fault_of, one_of, subcommand_of}
+use Rattle.tsume_words.specs.Line.{tsume_line}
+
+-- The words that clap reads are the program's name and then the user's.
+abbrev pub all_words : List Text → List Text
+all_words words = codes "tsume" ∷ words
+
+-- The faults that clap finds in the words: none where it takes them.
+abbrev pub clap_faults : List Text → Kinds
+clap_faults words = fault_of tsume_line (all_words words)
+
+-- Clap takes the words.
+abbrev pub IsTaken : List Text → Type 0
+IsTaken words = clap_faults words ≡ []
+
+-- The number that clap gives for an option: the one that the option's first text writes.
+abbrev pub number_of : Text → List Row → ℕ
+number_of name rows = option_map_or (λ text. digits_value 10 (without_leading_plus text)) (one_of name rows) 0
+
+-- Whether clap found a flag among the words.
+abbrev pub is_flagged : Text → List Row → Bool
+is_flagged name rows = option_map_or (λ text. bytes_eq text (codes "true")) (one_of name rows) false
+
+-- The five numbers of a search.
+pub record Numbers : Type 0 where
+  pub workers : ℕ
+  pub expansions : ℕ
+  pub room : ℕ
+  pub rows : ℕ
+  pub shards : ℕ
+
+-- What a command asks for: to solve, with its numbers and whether the rest is given to the defender; or to check, with
+-- its workers.
+pub data Wish : Type 0 where
+  to_solve : Numbers → Bool → Wish
+  to_check : ℕ → Wish
+
+-- The five numbers that clap gives for `solve`.
+abbrev pub numbers_of : List Row → Numbers
+numbers_of found = record {
+  workers = number_of (codes "workers") found;
+  expansions = number_of (codes "expansions") found;
+  room = number_of (codes "room") found;
+  rows = number_of (codes "rows") found;
+  shards = number_of (codes "shards") found;
+}
+
+-- What a command of this name asks for, by what clap found for it.
+abbrev pub wish_named : Text × List Row → Option Wish
+wish_named p =
+    if bytes_eq p.0 (codes "solve") then Some (to_solve (numbers_of p.1) (is_flagged (codes "rest") p.1))
+    else (if bytes_eq p.0 (codes "check") then Some (to_check (number_of (codes "workers") p.1)) else None)
+
+-- A wish stands where clap found no fault.
+abbrev pub unless_faulty : Kinds → Option Wish → Option Wish
+unless_faulty [] wish = wish
+unless_faulty (fault ∷ faults) wish = None
+
+-- What the words ask for, before the tests of one number against another: none where clap refuses them.
+abbrev pub given_of : List Text → Option Wish
+given_of words =
+    unless_faulty (clap_faults words) (option_and_then wish_named (subcommand_of tsume_line (all_words words)))
+
+-- Clap gives a number from low to high for the option of this name.
+abbrev pub HasNumber : Text → ℕ → ℕ → List Row → Type 0
+HasNumber name low high found = IsSomeAnd (one_of name found) (IsUnsignedIn low high)
+
+-- Clap gives a number of 64 bits for the option of this name.
+abbrev pub IsReadable : Text → List Row → Type 0
+IsReadable name found = IsSomeAnd (one_of name found) (λ text. IsNumeral 10 (without_leading_plus text)
+    × (digits_value 10 (without_leading_plus text) < 2 ^ 64))
+
+-- Clap says of the flag of this name whether it was found.
+abbrev pub HasFlag : Text → List Row → Type 0
+HasFlag name found = (one_of name found ≡ Some (codes "true")) ⊎ (one_of name found ≡ Some (codes "false"))
+
+-- What clap gives for `solve`, each number in its range.
+pub record IsForSolve (found : List Row) : Type 0 where
+  pub workers : HasNumber (codes "workers") 1 64 found
+  pub expansions : HasNumber (codes "expansions") 1 1000000000 found
+  pub room : HasNumber (codes "room") 1 1400000 found
+  pub rows : HasNumber (codes "rows") 16 1048576 found
+  pub shards : HasNumber (codes "shards") 1 64 found
+  pub rest : HasFlag (codes "rest") found
+
+-- What clap gives for one of the two commands, each number in its range.
+abbrev pub IsForCommand : Text × List Row → Type 0
+IsForCommand p = ((p.0 ≡ codes "solve") × IsForSolve p.1) ⊎ ((p.0 ≡ codes "check") × HasNumber (codes "workers") 1 64 p.1)

@@ -1,0 +1,4 @@
+pub mod Given
+pub mod Line
+pub mod Meaning
+pub mod Sizes

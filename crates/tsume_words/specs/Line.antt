@@ -1,0 +1,72 @@
+-- The command line that clap is given, in clap's own terms.
+use Rattle.std.specs.Prelude.{ℕ, [], ◌∷◌, Some, codes, true}
+use Rattle.clap.specs.Words.{App, Rule, Text, new_app, new_rule, with_rule, with_subcommand}
+use Rattle.clap.specs.declared.builder.action.ArgAction.TheVariants.{Set, SetTrue}
+use Rattle.clap.specs.declared.builder.value_parser.ValueParser.TheVariants.{Unsigned}
+
+-- An option `--name N` takes a number from low to high, and has its default where it isn't given.
+abbrev pub number_option : Text → ℕ → ℕ → Text → Rule
+number_option name low high default = record (new_rule name) {
+  long = Some name;
+  action = Some Set;
+  value_names = 1;
+  defaults = default ∷ [];
+  parser = Some (Unsigned low high);
+}
+
+-- The workers are 1 to 64, and 1 where nothing is said.
+abbrev pub workers_option : Rule
+workers_option = number_option (codes "workers") 1 64 (codes "1")
+
+-- The expansions are 1 to 1,000,000,000, and 1,000,000 where nothing is said.
+abbrev pub expansions_option : Rule
+expansions_option = number_option (codes "expansions") 1 1000000000 (codes "1000000")
+
+-- The room is 1 to 1,400,000 facts, and 1,048,576 where nothing is said.
+abbrev pub room_option : Rule
+room_option = number_option (codes "room") 1 1400000 (codes "1048576")
+
+-- The rows are 16 to 1,048,576, and 16,384 where nothing is said.
+abbrev pub rows_option : Rule
+rows_option = number_option (codes "rows") 16 1048576 (codes "16384")
+
+-- The shards are 1 to 64, and 16 where nothing is said.
+abbrev pub shards_option : Rule
+shards_option = number_option (codes "shards") 1 64 (codes "16")
+
+-- The flag `--rest` takes no value.
+abbrev pub rest_flag : Rule
+rest_flag = record (new_rule (codes "rest")) {
+  long = Some (codes "rest");
+  action = Some SetTrue;
+}
+
+-- `solve` has the five numbers and the flag.
+abbrev pub solve_line : App
+solve_line = with_rule
+    (with_rule
+    (with_rule
+    (with_rule
+    (with_rule (with_rule (new_app (codes "solve")) workers_option) expansions_option)
+    room_option)
+    rows_option)
+    shards_option)
+    rest_flag
+
+-- `check` has the workers alone.
+abbrev pub check_line : App
+check_line = with_rule (new_app (codes "check")) workers_option
+
+-- The program wants one of its two commands, and shows its help where there are no words.
+abbrev pub bare_line : App
+bare_line = let made = new_app (codes "tsume") in record made {
+  top = record made.top {
+    disable_help_subcommand = true;
+    subcommand_required = true;
+    arg_required_else_help = true;
+  };
+}
+
+-- The whole command line: the program and its two commands.
+unfoldable pub tsume_line : App
+tsume_line = with_subcommand (with_subcommand bare_line solve_line.top) check_line.top

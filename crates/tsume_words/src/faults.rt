@@ -1,0 +1,68 @@
+// Why words are refused.
+ghost use Rattle.std.specs.Prelude.{◌≡◌};
+
+use std::alloc::{AllocError, AllocFailed};
+use std::error::Error;
+use std::fmt;
+
+/// Which size of the transposition table.
+#[derive(Clone, Copy, Debug, PartialEq, Eq)]
+pub enum Size {
+    /// The rows.
+    Rows,
+    /// The shards.
+    Shards,
+}
+
+/// Why words are refused. It prints as the text for the user, with no line feed at the end: the caller adds one.
+#[derive(Debug, Drop)]
+pub enum WordFault {
+    /// Clap refuses the words, or they ask for help: its text, as it made it.
+    Clap(String),
+    /// The size is no power of two.
+    NotPowerOfTwo(Size),
+    /// There are more shards than rows.
+    MoreShardsThanRows,
+}
+
+impl fmt::Display for WordFault {
+    fn fmt<W: fmt::Write>(&self, f: &mut fmt::Formatter<W>) -> fmt::Result {
+        f.write_str(match self {
+            WordFault::Clap(text) => text.as_str().trim_end(),
+            WordFault::NotPowerOfTwo(Size::Rows) => "rows is no power of two",
+            WordFault::NotPowerOfTwo(Size::Shards) => "shards is no power of two",
+            WordFault::MoreShardsThanRows => "more shards than rows",
+        })
+    }
+}
+
+impl Error for WordFault {}
+
+/// Why the words gave no command.
+#[derive(Debug, Drop)]
+pub enum WordsEnd {
+    /// The words are refused.
+    Fault(WordFault),
+    /// Memory was wanted and not there.
+    NoMemory,
+}
+
+impl From<AllocError> for WordsEnd {
+    ghost use Rattle.tsume_words.specs.declared.faults.WordsEnd.TheVariants.{NoMemory};
+
+    ghost from_gives = { λ _ end. end ≡ NoMemory };
+
+    fn from(_error: AllocError) -> WordsEnd {
+        WordsEnd::NoMemory
+    }
+}
+
+impl<T: Drop> From<AllocFailed<T>> for WordsEnd {
+    ghost use Rattle.tsume_words.specs.declared.faults.WordsEnd.TheVariants.{NoMemory};
+
+    ghost from_gives = { λ _ end. end ≡ NoMemory };
+
+    fn from(_error: AllocFailed<T>) -> WordsEnd {
+        WordsEnd::NoMemory
+    }
+}

@@ -1,0 +1,21 @@
+//! What the words of the command line mean.
+//!
+//! [`read_words`] hands the words to clap and answers the [`Command`] that they ask for: to solve, with its
+//! [`Settings`], or to check. Which words clap takes, and what it gives for them, is clap's own meaning of the command
+//! line; three tests follow it: the rows and the shards are powers of two, and there are no more shards than rows.
+//! Words that are refused, and a request for help, are a [`WordFault`] with the text for the user.
+#![tactic(auto)]
+
+mod command;
+mod faults;
+mod line;
+mod reading;
+mod settings;
+
+pub use command::Command;
+pub use faults::{Size, WordFault, WordsEnd};
+pub use reading::read_words;
+pub use settings::Settings;
+
+#[cfg(test)]
+mod tests;

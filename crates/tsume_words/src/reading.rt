@@ -1,0 +1,151 @@
+// The reading of the words.
+ghost use Rattle.std.specs.Prelude.{◌≡◌, ◌⊎◌, ◌↔◌, IfOk, IfErr, IsOkAnd, IsSomeAnd, IsTrue, codes, map};
+ghost use Rattle.std.specs.Prelude.{option_and_then};
+ghost use Rattle.std.specs.Int.{IsPowerOfTwo, is_power_of_two};
+ghost use Rattle.clap.specs.Words.{found_of, kind_of, rows_of, subcommand_rows_of};
+ghost use Rattle.tsume_words.specs.Given.{HasFlag, HasNumber, IsForCommand, IsForSolve, IsReadable, Wish};
+ghost use Rattle.tsume_words.specs.Given.{all_words, is_flagged, number_of, numbers_of, wish_named};
+ghost use Rattle.tsume_words.specs.Given.Wish.{to_solve};
+ghost use Rattle.tsume_words.specs.Meaning.{Answers, FailsFirst, IsClapsOrMemory, Refuses, command_of};
+ghost use Rattle.tsume_words.specs.Meaning.{texts_of, wish_of};
+ghost use Rattle.tsume_words.specs.declared.faults.WordFault.{WordFault};
+
+use crate::line::command_line;
+use crate::{Command, Settings, Size, WordFault, WordsEnd};
+use clap::ArgMatches;
+use clap::error::ErrorKind;
+use std::alloc::{AllocError, Global};
+
+/// The command that the words ask for; they are the words after the program's name.
+///
+/// Words that clap refuses, a request for help too, are `Clap` with clap's text. Then come, in this order, the tests
+/// that the rows and the shards are powers of two and that there are no more shards than rows. A number is what clap
+/// takes for one of its type, `+5` and `05` too. Want of memory is `NoMemory`.
+pub fn read_words(alloc: Global, words: Vec<String>) -> Result<Command, WordsEnd>
+    ensures command { IfOk result (λ command. command_of (texts_of words.items) ≡ Some (wish_of command)) }
+
+    // Clap's fault comes only where clap refuses the words, each other only where its test is the first to fail.
+    ensures refused { IfErr result (Refuses (texts_of words.items)) }
+
+    // And each comes where its test is the first to fail, but for want of memory.
+    ensures stopped { (fault : WordFault) → FailsFirst (texts_of words.items) fault
+        → (result ≡ Err (WordsEnd.Fault fault)) ⊎ (result ≡ Err WordsEnd.NoMemory) }
+
+    // Words that ask for something are not refused, but for want of memory.
+    ensures complete { (wish : Wish) → command_of (texts_of words.items) ≡ Some wish
+        → IsOkAnd result (λ command. wish_of command ≡ wish) ⊎ (result ≡ Err WordsEnd.NoMemory) }
+{
+    let texts = with_program(alloc, &words)?;
+    match command_line(alloc)?.try_get_matches_from(texts.as_slice()) {
+        Ok(matches) => asked(&matches),
+        Err(error) => Err(refusal(alloc, &error)),
+    }
+}
+
+// The words that clap reads.
+fn with_program<'a>(alloc: Global, words: &'a Vec<String>) -> Result<Vec<&'a str>, AllocError>
+    ensures { IfOk result (λ texts. map (λ text. text.now) texts.items ≡ all_words (texts_of words.entry.now.items)) }
+{
+    let mut texts = vec![in alloc; "tsume"]?;
+    for word in words {
+        texts.push(word.as_str())?;
+    }
+    Ok(texts)
+}
+
+// Clap's error as ours: its text, or want of memory.
+fn refusal(alloc: Global, error: &clap::Error) -> WordsEnd
+    ensures memory { kind_of error.now ≡ ErrorKind.OutOfMemory → result ≡ WordsEnd.NoMemory }
+    ensures text { IsClapsOrMemory result }
+{
+    if error.kind() == ErrorKind::OutOfMemory {
+        return WordsEnd::NoMemory;
+    }
+    match format!(in alloc; "{error}") {
+        Ok(text) => WordsEnd::Fault(WordFault::Clap(text)),
+        Err(_) => WordsEnd::NoMemory,
+    }
+}
+
+// The command that clap found, tested.
+fn asked(matches: &ArgMatches<'_>) -> Result<Command, WordsEnd>
+    requires { IsSomeAnd (subcommand_rows_of matches.now) IsForCommand }
+    ensures { IsSomeAnd (option_and_then wish_named (subcommand_rows_of matches.now))
+        (λ wish. Answers wish result) }
+{
+    match matches.subcommand_matches("solve") {
+        Some(given) => solve(given),
+        None => Ok(Command::Check {
+            workers: workers(matches.subcommand_matches("check").unwrap()),
+        }),
+    }
+}
+
+// The number that clap gives for the option of this name.
+fn number(given: &ArgMatches<'_>, name: &str) -> u64
+    requires { IsReadable name.now (rows_of (found_of given.now)) }
+    ensures { result ≡ number_of name.now (rows_of (found_of given.now)) }
+{
+    given.get_one::<u64>(name).unwrap()
+}
+
+fn workers(given: &ArgMatches<'_>) -> u32
+    requires { HasNumber (codes "workers") 1 64 (rows_of (found_of given.now)) }
+    ensures { result ≡ number_of (codes "workers") (rows_of (found_of given.now)) }
+{
+    number(given, "workers") as u32
+}
+
+fn room(given: &ArgMatches<'_>) -> u32
+    requires { HasNumber (codes "room") 1 1400000 (rows_of (found_of given.now)) }
+    ensures { result ≡ number_of (codes "room") (rows_of (found_of given.now)) }
+{
+    number(given, "room") as u32
+}
+
+// Whether clap found `--rest`.
+fn is_rest(given: &ArgMatches<'_>) -> bool
+    requires { HasFlag (codes "rest") (rows_of (found_of given.now)) }
+    ensures { result ≡ is_flagged (codes "rest") (rows_of (found_of given.now)) }
+{
+    given.get_flag("rest")
+}
+
+// Whether a number is a power of two.
+fn is_power_of_two(number: u64) -> bool
+    ensures test { result ≡ is_power_of_two number }
+    ensures fact { IsTrue result ↔ IsPowerOfTwo number }
+{
+    number.is_power_of_two()
+}
+
+// What clap gives for `solve`, tested.
+fn solve(given: &ArgMatches<'_>) -> Result<Command, WordsEnd>
+    requires { IsForSolve (rows_of (found_of given.now)) }
+    ensures { let found = rows_of (found_of given.now) in
+        Answers (to_solve (numbers_of found) (is_flagged (codes "rest") found)) result }
+{
+    let workers = workers(given);
+    let expansions = number(given, "expansions");
+    let room = room(given);
+    let rows = number(given, "rows");
+    let shards = number(given, "shards");
+    let rest = is_rest(given);
+    if !is_power_of_two(rows) {
+        return Err(WordsEnd::Fault(WordFault::NotPowerOfTwo(Size::Rows)));
+    }
+    if !is_power_of_two(shards) {
+        return Err(WordsEnd::Fault(WordFault::NotPowerOfTwo(Size::Shards)));
+    }
+    if shards > rows {
+        return Err(WordsEnd::Fault(WordFault::MoreShardsThanRows));
+    }
+    let settings = Settings {
+        workers,
+        expansions,
+        room,
+        rows,
+        shards,
+    };
+    Ok(Command::Solve { settings, rest })
+}
