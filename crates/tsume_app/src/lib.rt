@@ -16,3 +16,6 @@ mod text;
 pub use answer::{Answer, MainLine};
 pub use fault::{Fault, WordFault};
 pub use program::{Ended, run};
+
+#[cfg(test)]
+mod tests;
