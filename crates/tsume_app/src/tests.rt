@@ -117,6 +117,28 @@ fn a_run_ends_as_it_should(rt: HostRuntime) -> Result<(), Fail> {
 }
 
 #[test]
+fn a_printed_mate_is_accepted(rt: HostRuntime) -> Result<(), Fail> {
+    let problems = [
+        GOLD,
+        "9/9/9/9/9/9/4p4/9/4K4 w g 1\n",
+        "4k4/9/4P4/4L4/9/9/9/9/9 b G 1\n",
+        "position sfen 4k4/9/22P4/9/9/9/9/9/9 b 1G",
+    ];
+    for problem in problems {
+        let solved = seen_of(rt.alloc(), "solve", problem, (7, 0), (11, 0))?;
+        assert_eq!(rt; solved.status, 0, "{problem}");
+        let text = String::from_utf8(solved.kept)?;
+        let checked = seen_of(rt.alloc(), "check", text.as_str(), (5, 0), (3, 0))?;
+        assert_eq!(rt; checked.status, 0, "{problem}");
+        assert!(rt;
+            checked.kept.as_slice() == b"accepted mate 1\n".as_slice(),
+            "{problem}"
+        );
+    }
+    Ok(())
+}
+
+#[test]
 fn a_failing_outside_is_told(rt: HostRuntime) -> Result<(), Fail> {
     // The source's failing call, the sink's piece and failing call; the status, the fault, and what is kept.
     let table = [
