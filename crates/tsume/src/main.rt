@@ -1,9 +1,8 @@
 //! The program `tsume`: the library's `run` over the standard input and output.
 #![tactic(auto)]
 
-use std::env;
-use std::io;
 use std::process::ExitCode;
+use std::{env, io};
 use tsume_app::{Fault, run};
 use tsume_io::{OpenGate, StdSink, StdSource};
 

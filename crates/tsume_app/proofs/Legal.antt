@@ -1,8 +1,6 @@
 -- Legal moves have texts; a mate in one is a mate, and makes a certificate of one entry.
-use Rattle.std.proofs.Common.{◌≡◌, ◌≢◌, ◌<◌, ◌≤◌, ◌+◌, ◌*◌, ℕ, zero, suc, List, [], ◌∷◌, Contains, length, get_or, arith, refl, sym, subst, ap}
+use Rattle.std.proofs.Common.{◌≡◌, ◌<◌, ◌≤◌, ℕ, zero, suc, [], ◌∷◌, Contains, get_or, arith, refl, subst, ap}
 use Rattle.board_core.specs.declared.piece.Side.{Side}
-use Rattle.board_core.specs.declared.piece.Kind.{Kind}
-use Rattle.board_core.specs.declared.piece.Kind.TheVariants.{King}
 use Rattle.board_core.specs.declared.moves.Move.{Move}
 use Rattle.board_core.specs.declared.moves.Move.TheVariants as moves
 use Rattle.board_core.specs.declared.moves.MateEntry.{MateEntry}
@@ -14,7 +12,7 @@ use Rattle.shogi_rules.specs.Rules.{IsLegal, IsOwn}
 use Rattle.shogi_rules.specs.Tsume.{IsProblem}
 use Rattle.mate_def.specs.Mate.{IsMate}
 use Rattle.usi_text.specs.MoveText.{HasText}
-use Rattle.cert_text.specs.Certificate.{Mating, IsMating, IsEntry}
+use Rattle.cert_text.specs.Certificate.{IsMating, IsEntry}
 use Rattle.cert_check.specs.Valid.{IsBorneOut, ValidMate}
 use Rattle.tsume_app.specs.FirstMate.{MatesAtOnce}
 

@@ -1,5 +1,5 @@
 -- What reading, text and work come to.
-use Rattle.std.proofs.Common.{◌≡◌, ◌<◌, ◌≤◌, ℕ, List, [], ◌∷◌, Option, Some, None, Result, Ok, Err, length, arith, refl, sym, ap, subst}
+use Rattle.std.proofs.Common.{◌≡◌, ◌<◌, ◌≤◌, ℕ, List, [], ◌∷◌, Option, Result, Ok, Err, length, arith, refl, sym, ap, subst}
 use Rattle.board_core.specs.declared.build.BadPosition.TheVariants.{NoDefenderKing}
 use Rattle.board_core.specs.Kind.{other}
 use Rattle.board_core.specs.Board.{Board, kings_of}

@@ -13,7 +13,7 @@ use Rattle.tsume_app.specs.declared.command.Command.{Command}
 use Rattle.tsume_app.specs.declared.command.Command.TheVariants.{Solve, Check}
 use Rattle.tsume_app.specs.declared.fault.Fault.{Fault}
 use Rattle.tsume_app.specs.declared.fault.Fault.TheVariants.{Words, TooLong, Text, Cert, NotBuilt, Read, Write, NoMemory}
-use Rattle.tsume_app.specs.Command.{AsksFor, limit_of}
+use Rattle.tsume_app.specs.Command.{limit_of}
 use Rattle.tsume_app.specs.Input.{StandsFor}
 use Rattle.tsume_app.specs.FirstMate.{IsFirstMate}
 use Rattle.tsume_app.specs.Answer.{answer_text, IsTrueOf, IsTrueOfCertificate}

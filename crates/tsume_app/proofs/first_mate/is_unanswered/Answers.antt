@@ -1,7 +1,6 @@
-use Rattle.std.proofs.Common.{◌≡◌, ℕ, zero, suc, List, [], ◌∷◌, Bool, true, Contains, length, get_or, refl, arith, rules, ◌==◌, IsTrue, vec_len}
+use Rattle.std.proofs.Common.{◌≡◌, List, [], ◌∷◌, true, length, refl, arith, rules, ◌==◌, vec_len}
 use Rattle.std.proofs.lemmas.Bool.Decides.{eqb_tells}
 use Rattle.board_core.specs.declared.moves.Move.{Move}
-use Rattle.board_core.specs.Board.{Board}
 use Rattle.board_core.specs.Order.{Lists}
 use Rattle.shogi_rules.specs.Tsume.{IsAnswer}
 use Rattle.tsume_app.proofs.Legal.{legal_has_text}

@@ -1,4 +1,4 @@
-use Rattle.std.proofs.Common.{sym, subst, map, string_bytes}
+use Rattle.std.proofs.Common.{subst, map, string_bytes}
 use Rattle.tsume_app.specs.declared.command.Command.{Command}
 use Rattle.tsume_app.specs.Run.{IsWellPosed}
 use Rattle.tsume_app.proofs.Complete.{complete_of}

@@ -1,5 +1,4 @@
-use Rattle.std.proofs.Common.{◌≡◌, ◌∙◌, ◌++◌, List, [], ◌∷◌, refl, sym, ap, subst}
-use Rattle.board_core.specs.declared.moves.Move.{Move}
+use Rattle.std.proofs.Common.{◌≡◌, ◌∙◌, ◌++◌, List, [], ◌∷◌, sym, ap, subst}
 use Rattle.board_core.specs.declared.moves.MateEntry.{MateEntry}
 use Rattle.cert_text.specs.Certificate.{Mating}
 use Rattle.cert_check.specs.Valid.{ValidMate}
