@@ -1,5 +1,5 @@
 -- What a move on the board needs and keeps.
-use Rattle.std.proofs.Common.{◌≡◌, ◌≢◌, ◌<◌, ◌≤◌, ◌+◌, ◌/◌, ◌⊎◌, inl, inr, ◌||◌, ◌&&◌, ◌==◌, ℕ, zero, suc, List, [], ◌∷◌, Option, Some, None, Bool, true, false, slice_set, IsTrue, arith, ap, sym, refl, subst}
+use Rattle.std.proofs.Common.{◌≡◌, ◌≢◌, ◌<◌, ◌≤◌, ◌+◌, ◌/◌, ◌⊎◌, inl, inr, ◌||◌, ◌&&◌, ◌==◌, ℕ, zero, suc, List, [], ◌∷◌, Option, Some, None, Bool, true, false, slice_set, IsTrue, IsSome, arith, ap, sym, refl, subst}
 use Rattle.std.specs.Prelude.{not}
 use Rattle.std.proofs.lemmas.Bool.{cases_eq, cases_order}
 use Rattle.std.proofs.lemmas.Bool.Decides.{eqb_tells}
@@ -175,4 +175,45 @@ conserves b t u v w from to promote man k apart there first second third last =
     let one = rw there at (first.counts k) in
     let two = rw (first.elsewhere to (λ e. apart (sym e))) at (second.counts k) in
     let three = rw second.there at (third.counts k) in
+    omega arith
+
+not_the_king : (k : Kind) → k ≢ King → same_kind k King ≡ false
+not_the_king Pawn h = refl
+not_the_king Lance h = refl
+not_the_king Knight h = refl
+not_the_king Silver h = refl
+not_the_king Gold h = refl
+not_the_king Bishop h = refl
+not_the_king Rook h = refl
+not_the_king King h = absurd (h refl)
+
+-- a cell without a king counts for none
+pub no_king_there : (side : Side) (cell : Option Piece) → ((taken : Piece) → cell ≡ Some taken → taken.kind ≢ King) → one_if (is_king_of side cell) ≡ 0
+no_king_there side None free = refl
+no_king_there side (Some taken) free = rw (not_the_king taken.kind (free taken refl)) refl
+
+-- a move on the board keeps the kings
+pub kings_stay : (b t u v w : Board) (from to : ℕ) (promote : Bool) (man : Piece) (side : Side) → from ≢ to → piece_at b.cells from ≡ Some man
+    → one_if (is_king_of side (piece_at b.cells to)) ≡ 0
+    → ChangesCell b t from None → ChangesCell t u to None → ChangesCell u v to (Some (landed promote man))
+    → kings_of w side ≡ kings_of v side → kings_of w side ≡ kings_of b side
+kings_stay b t u v w from to promote man side apart there free first second third last =
+    let one = rw there at (first.kings side) in
+    let two = rw (first.elsewhere to (λ e. apart (sym e))) at (second.kings side) in
+    let three = rw second.there at (third.kings side) in
+    omega arith
+
+same_some : (a b : Piece) → Some a ≡ Some b → a ≡ b
+same_some a b h = cc
+
+pub empty_there : (cell : Option Piece) → ¬ IsSome cell → cell ≡ None
+empty_there None h = refl
+empty_there (Some piece) h = absurd (h refl)
+
+-- a drop of another piece keeps the kings
+pub kings_dropped : (b v : Board) (to : ℕ) (piece : Piece) (side : Side) → piece.kind ≢ King → piece_at b.cells to ≡ None
+    → ChangesCell b v to (Some piece) → kings_of v side ≡ kings_of b side
+kings_dropped b v to piece side king empty change =
+    let one = rw empty at (change.kings side) in
+    let none = no_king_there side (Some piece) (λ taken is k. king (subst (λ (p : Piece). p.kind ≡ King) (sym (same_some piece taken is)) k)) in
     omega arith

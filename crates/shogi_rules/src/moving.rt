@@ -2,10 +2,11 @@
 ghost use Rattle.std.specs.Prelude.{◌≡◌, ◌≢◌, ◌<◌, ◌+◌, Some};
 ghost use Rattle.board_core.specs.declared.piece.Piece.{Piece};
 ghost use Rattle.board_core.specs.declared.piece.Kind.{Kind};
+ghost use Rattle.board_core.specs.declared.piece.Side.{Side};
 ghost use Rattle.board_core.specs.declared.piece.Kind.TheVariants.{King};
 ghost use Rattle.board_core.specs.Kind.{total_of, other};
 ghost use Rattle.board_core.specs.Order.{order_of};
-ghost use Rattle.board_core.specs.Board.{hand_of, with_hand, is_of_kind, count_of, one_if};
+ghost use Rattle.board_core.specs.Board.{hand_of, with_hand, is_of_kind, count_of, kings_of, one_if};
 ghost use Rattle.shogi_rules.specs.Rules.{landed, dropped, gained, after_board, after_drop, IsQuiet, IsOwn, Fits, IsClear, PromotionFits, RefusesDrop, IsLegal, IsDropped, after};
 ghost use Rattle.board_core.specs.declared.square.Square.{Square};
 ghost use Rattle.board_core.specs.declared.moves.Move.TheVariants.{Drop};
@@ -55,6 +56,7 @@ pub(crate) fn move_piece(position: &Position, from: Square, to: Square, promote:
     requires promotion { PromotionFits position.now from.number to.number promote }
     ensures position { result ≡ after_board position.now from.number to.number promote }
     ensures conserved { (kind : Kind) → count_of result kind ≡ count_of position.now kind }
+    ensures kings { (side : Side) → kings_of result side ≡ kings_of position.now side }
 {
     match at(position.cells(), from.number) {
         Some(piece) => {
@@ -79,6 +81,7 @@ pub(crate) fn drop_piece(position: &Position, kind: Kind, to: Square) -> Positio
     requires pawn { ¬ RefusesDrop position.now kind to.number TwoPawns }
     ensures position { result ≡ after_drop position.now kind to.number }
     ensures conserved { (k : Kind) → count_of result k ≡ count_of position.now k }
+    ensures kings { (owner : Side) → kings_of result owner ≡ kings_of position.now owner }
     ensures changes { IsDropped position.now result kind to.number }
     ensures king { kind ≢ King }
 {
@@ -106,6 +109,9 @@ pub fn apply(position: &Position, by: Move) -> Position
 
     // No piece is lost or made: of each kind there are as many as before, on the board and in the hands.
     ensures conserved { (kind : Kind) → count_of result kind ≡ count_of position.now kind }
+
+    // No king is taken: each side has as many as before.
+    ensures kings { (side : Side) → kings_of result side ≡ kings_of position.now side }
 
     // A drop changes one cell and one count of one hand.
     ensures drop { (kind : Kind) (to : Square) → by ≡ Drop kind to → IsDropped position.now result kind to.number }

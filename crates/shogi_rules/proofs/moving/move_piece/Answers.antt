@@ -1,7 +1,7 @@
-use Rattle.std.proofs.Common.{◌≡◌, ◌+◌, ◌∙◌, ℕ, Some, IsTrue, sym, subst}
-use Rattle.board_core.specs.Board.{piece_at, is_of_kind, count_of, one_if}
+use Rattle.std.proofs.Common.{◌≡◌, ◌+◌, ◌∙◌, ℕ, Some, IsTrue, sym, refl, subst}
+use Rattle.board_core.specs.Board.{piece_at, is_of_kind, is_king_of, count_of, kings_of, one_if}
 use Rattle.shogi_rules.specs.Rules.{fits, IsOwn}
-use Rattle.shogi_rules.proofs.Moves.{king_gone, pawn_alone, no_king_taken, taken_left, moved_is, conserves}
+use Rattle.shogi_rules.proofs.Moves.{king_gone, pawn_alone, no_king_taken, taken_left, moved_is, conserves, no_king_there, kings_stay}
 use Rattle.shogi_rules.proofs.moving.move_piece.Goals as goal
 
 pub put-requires-clause-king : goal.put-requires-clause-king
@@ -46,4 +46,18 @@ returns-clause-conserved c = λ kind.
     rw c.pass.ensures caught in
     conserves c.args.position.now c.take.new.self c.take-in-Some.new.self c.put.new.self c.pass.new.self c.args.from.number c.args.to.number c.args.promote c.in-Some.piece kind
     (λ same. c.requires.free (subst (λ (s : ℕ). IsOwn c.args.position.now s) same c.requires.own)) there
+    c.take.ensures.changes c.take-in-Some.ensures.changes (rw c.landed.ensures at c.put.ensures.changes) last
+
+pub returns-clause-kings : goal.returns-clause-kings
+returns-clause-kings c = λ side.
+    let there : piece_at c.args.position.now.cells c.args.from.number ≡ Some c.in-Some.piece = cc in
+    let fit : IsTrue (fits c.in-Some.piece c.args.from.number c.args.to.number) = rw there at c.requires.fits in
+    let owner : c.in-Some.piece.side ≡ c.args.position.now.side = rw there at c.requires.own in
+    let free : one_if (is_king_of side (piece_at c.args.position.now.cells c.args.to.number)) ≡ 0 =
+    no_king_there side (piece_at c.args.position.now.cells c.args.to.number) (λ taken is.
+    no_king_taken c.args.position.now c.args.from.number c.args.to.number c.in-Some.piece taken
+    c.requires.quiet c.args.from.on_board c.args.to.on_board there owner c.requires.free fit c.requires.clear is) in
+    let last : kings_of c.pass.new.self side ≡ kings_of c.put.new.self side = rw (c.pass.ensures, c.capture.ensures.position) refl in
+    kings_stay c.args.position.now c.take.new.self c.take-in-Some.new.self c.put.new.self c.pass.new.self c.args.from.number c.args.to.number c.args.promote c.in-Some.piece side
+    (λ same. c.requires.free (subst (λ (s : ℕ). IsOwn c.args.position.now s) same c.requires.own)) there free
     c.take.ensures.changes c.take-in-Some.ensures.changes (rw c.landed.ensures at c.put.ensures.changes) last
