@@ -11,4 +11,5 @@ mod reasons;
 mod tests;
 mod verdict;
 
-pub use verdict::{Verdict, Why, check};
+pub use places::Places;
+pub use verdict::{Verdict, Why, check, valid_is_accepted};

@@ -1,4 +1,4 @@
-// Finding a position among those of a certificate.
+// Finding a position among those of a list.
 ghost use Rattle.std.specs.Prelude.{◌≡◌, ◌++◌, ◌∷◌, [], ◌↔◌, List, length, OnOk, IsTrue, Contains};
 ghost use Rattle.board_core.specs.Board.{Board};
 ghost use Rattle.cert_check.specs.Places.{ArePlacesOf, IsPlace};
@@ -7,15 +7,15 @@ use board_core::{Key, NoMemory, Position, key};
 use std::alloc::Global;
 use std::collections::BTreeMap;
 
-/// Where each position of a list stands, by its key.
+/// Where each position of a list stands, by its key: found in a time that grows as the logarithm of their number.
 #[derive(Drop)]
-pub(crate) struct Places {
+pub struct Places {
     by_key: BTreeMap<Key, usize>,
 }
 
 impl Places {
-    /// The places of no position.
-    pub(crate) fn new(alloc: Global) -> Places
+    /// The places of no position. Takes no memory.
+    pub fn new(alloc: Global) -> Places
         ensures { ArePlacesOf result [] }
     {
         Places {
@@ -23,8 +23,8 @@ impl Places {
         }
     }
 
-    /// Takes one more position, behind the others: its place is how many there are.
-    pub(crate) fn add(&mut self, position: &Position, place: usize) -> Result<(), NoMemory>
+    /// Takes one more position, behind the others: its place is how many there are. Errors: want of memory alone.
+    pub fn add(&mut self, position: &Position, place: usize) -> Result<(), NoMemory>
         ensures { OnOk result ((positions : List Board) → ArePlacesOf self.old positions → place ≡ length positions → ArePlacesOf self.new (positions ++ position.now ∷ [])) }
     {
         self.by_key.insert(key(position), place)?;
@@ -32,14 +32,14 @@ impl Places {
     }
 
     /// Whether the position is listed.
-    pub(crate) fn holds(&self, position: &Position) -> bool
+    pub fn holds(&self, position: &Position) -> bool
         ensures { (positions : List Board) → ArePlacesOf self.now positions → IsTrue result ↔ Contains positions position.now }
     {
         self.find(position).is_some()
     }
 
     /// The place of the position, where it is listed.
-    pub(crate) fn find(&self, position: &Position) -> Option<usize>
+    pub fn find(&self, position: &Position) -> Option<usize>
         ensures { (positions : List Board) → ArePlacesOf self.now positions → IsPlace positions position.now result }
     {
         self.by_key.get(&key(position)).copied()

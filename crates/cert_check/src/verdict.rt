@@ -4,7 +4,10 @@ ghost use Rattle.cert_check.specs.Places.{ArePlacesOf};
 ghost use Rattle.cert_check.specs.Valid.{IsValid, Shows, problem_of, positions_in, IsKeptBy};
 ghost use Rattle.cert_check.specs.Reasons.{RootReason, EntryReason, EntryHolds, IsFirstReason, IsVerdict};
 ghost use Rattle.cert_check.specs.declared.verdict.Why.TheVariants.{RootMissing};
+ghost use Rattle.cert_check.specs.declared.verdict.Verdict.{Verdict};
 ghost use Rattle.cert_check.specs.declared.verdict.Verdict.TheVariants.{Accepted};
+ghost use Rattle.cert_text.specs.declared.certificate.Certificate.{Certificate};
+ghost use Rattle.board_core.specs.Board.{Board};
 
 use crate::places::Places;
 use crate::reasons::{escape_reason, mate_reason};
@@ -141,6 +144,15 @@ fn verdict_on(
         }
     }
     Ok(Verdict::Accepted)
+}
+
+/// What validity is worth, a law: every verdict on a valid certificate is that it is accepted, and it shows what it says, a
+/// mate or that there is none.
+pub fn valid_is_accepted()
+    ensures accepted { (c : Certificate) (p : Board) (verdict : Verdict) → IsVerdict c p verdict → IsValid c p → verdict ≡ Accepted }
+    ensures shows { (c : Certificate) (p : Board) → IsKeptBy c → IsValid c p → Shows c p }
+{
+    escape_is_no_mate();
 }
 
 /// Whether the certificate is valid for the problem; else the first reason against it. Errors: want of memory alone.
