@@ -1,0 +1,3 @@
+pub mod Listed
+pub mod Defending
+pub mod Following
