@@ -1,0 +1,16 @@
+pub mod Queues
+pub mod Steps
+pub mod Growth
+pub mod Ranking
+pub mod Told
+pub mod Agendas
+pub mod Mates
+pub mod Escapes
+pub mod TextOrder
+pub mod Picked
+pub mod Exact
+pub mod Reached
+pub mod Deciding
+pub mod MoveOrder
+pub mod Held
+pub mod PlainPicked

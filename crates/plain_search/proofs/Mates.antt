@@ -1,0 +1,366 @@
+-- The entries of a mate are borne out: each shows a step to a beaten place, all answers at which lead to listed places.
+use Rattle.std.proofs.Common.{◌≡◌, ◌<◌, ◌≤◌, ◌+◌, ◌⊎◌, inl, inr, ℕ, List, [], ◌∷◌, ◌++◌, false, get_or, length, Contains, arith, ap, sym, refl, ◌∙◌, subst}
+use Rattle.std.specs.Prelude.{Option, Some, None, Bool, slice_get, slice_index}
+use Rattle.std.specs.Option.{option_map}
+use Rattle.std.proofs.lemmas.Bool.{cases_eq}
+use Rattle.std.proofs.lemmas.Option.{same_Some, slice_get-map, slice_get_cases, slice_get_within, slice_get_read, slice_get-get_or}
+use Rattle.std.proofs.lemmas.List.{length_push}
+use Rattle.board_core.specs.declared.piece.Side.{Side}
+use Rattle.board_core.specs.declared.piece.Side.TheVariants.{Black, White}
+use Rattle.board_core.specs.declared.moves.Move.{Move}
+use Rattle.board_core.specs.declared.moves.Move.TheVariants as moves
+use Rattle.board_core.specs.declared.moves.MateEntry.{MateEntry}
+use Rattle.board_core.specs.Kind.{other, place_of}
+use Rattle.board_core.specs.Board.{Board, kings_of}
+use Rattle.board_core.specs.Kept.{IsKept}
+use Rattle.board_core.specs.Order.{order_of, RisesFrom}
+use Rattle.shogi_rules.specs.declared.illegal.Illegal.TheVariants.{NotThere, OwnPiece}
+use Rattle.shogi_rules.specs.Rules.{IsLegal, IsOwn, after}
+use Rattle.shogi_rules.specs.Tsume.{IsCheck, IsAnswer}
+use Rattle.mate_def.specs.Mate.{after_both}
+use Rattle.usi_text.specs.MoveText.{HasText}
+use Rattle.cert_text.specs.Certificate.{IsEntry, positions_of}
+use Rattle.cert_check.specs.Valid.{IsListedBelow}
+use Rattle.plain_search.specs.declared.graph.Step.{Step}
+use Rattle.plain_search.specs.declared.graph.Graph.{Graph}
+use Rattle.plain_search.specs.Queue.{IsStep}
+use Rattle.plain_search.specs.Graph.{AreApart, AreSteps, IsGraph, moves_of, steps_at, units_of}
+use Rattle.plain_search.specs.Ranks.{IsRanked, IsBeaten, IsWon, AreRanks}
+use Rattle.plain_search.specs.Agenda.{AreListed}
+use Rattle.plain_search.specs.Entries.{AreMateEntries}
+use Rattle.plain_search.proofs.Agendas.{Grows, at_place, contained, get_cases, grows_contains, grows_more, grows_none, added_cases}
+
+-- 1. Steps and positions.
+
+abbrev pub met : Graph → List Board
+met graph = graph.queue.positions.items
+
+-- a move of steps is that of one of them
+pub record IsStepBy (steps : List Step) (move : Move) : Type 0 where
+  pub step : Step
+  pub is_step : Contains steps step
+  pub by : step.by ≡ move
+
+some_step : (move : Move) (o : Option Step) → option_map (λ (s : Step). s.by) o ≡ Some move → (s : Step) × (o ≡ Some s) × (s.by ≡ move)
+some_step move None e = absurd (cc)
+some_step move (Some s) e = (s, refl, same_Some s.by move e)
+
+pub step_by : (steps : List Step) (move : Move) → Contains (moves_of steps) move → IsStepBy steps move
+step_by steps move c =
+    let e = sym (slice_get-map (λ (s : Step). s.by) steps c.0) ∙ at_place (moves_of steps) move c in
+    let s = some_step move (slice_get steps c.0) e in
+    record { step = s.0; is_step = contained steps c.0 s.0 s.1; by = s.2 }
+
+-- the move of a step is listed
+pub by_of : (steps : List Step) (step : Step) → Contains steps step → Contains (moves_of steps) step.by
+by_of steps step c =
+    let e = slice_get-map (λ (s : Step). s.by) steps c.0 ∙ ap (option_map (λ (s : Step). s.by)) (at_place steps step c) in
+    contained (moves_of steps) c.0 step.by e
+
+some_entry : (b : Board) (o : Option MateEntry) → option_map (λ (e : MateEntry). e.at) o ≡ Some b → (e : MateEntry) × (o ≡ Some e) × (e.at ≡ b)
+some_entry b None e = absurd (cc)
+some_entry b (Some x) e = (x, refl, same_Some x.at b e)
+
+entry_at : (entries : List MateEntry) (k : ℕ) (b : Board) → slice_get (positions_of entries) k ≡ Some b
+    → (e : MateEntry) × (slice_get entries k ≡ Some e) × (e.at ≡ b)
+entry_at entries k b h = some_entry b (slice_get entries k) (sym (slice_get-map (λ (e : MateEntry). e.at) entries k) ∙ h)
+
+at_of : (entries : List MateEntry) (entry : MateEntry) → Contains entries entry → Contains (positions_of entries) entry.at
+at_of entries entry c =
+    let e = slice_get-map (λ (x : MateEntry). x.at) entries c.0 ∙ ap (option_map (λ (x : MateEntry). x.at)) (at_place entries entry c) in
+    contained (positions_of entries) c.0 entry.at e
+
+pub other_side : (s : Side) → s ≡ other s → ⊥
+other_side Black e = cc
+other_side White e = cc
+
+-- a step of the attacker is a check, one of the defender an answer
+pub step_checks : (attacker : Side) (b : Board) (move : Move) → b.side ≡ attacker → IsStep attacker b move → IsCheck attacker b move
+step_checks attacker b move side h = elim h [
+  | inl check ↦ check
+  | inr answer ↦ absurd (other_side attacker (sym side ∙ answer.mover))
+]
+
+pub step_answers : (attacker : Side) (b : Board) (move : Move) → b.side ≡ other attacker → IsStep attacker b move → IsAnswer attacker b move
+step_answers attacker b move side h = elim h [
+  | inl check ↦ absurd (other_side attacker (sym check.mover ∙ side))
+  | inr answer ↦ answer
+]
+
+pub legal_has_text : (b : Board) (m : Move) → IsLegal b m → order_of m < 13689 → HasText m
+legal_has_text b (moves.Board from to promote) legal listed =
+    λ same. legal NotThere (λ own. legal OwnPiece (subst (λ (s : ℕ). IsOwn b s) same own))
+legal_has_text b (moves.Drop k to) legal listed = λ king. let seven : place_of k ≡ 7 = ap place_of king in omega arith
+
+-- what play leads to is a problem, where the attacker is to move
+pub in_play_entry : (p : Board) (graph : Graph) (place : ℕ) (b : Board) → IsGraph p graph → slice_get (met graph) place ≡ Some b
+    → b.side ≡ p.side → IsEntry p b
+in_play_entry p graph place b g at side =
+    let h = g.kept.in_play b (contained (met graph) place b at) in
+    record {
+      is_problem = record { has_king = subst (λ (s : Side). 0 < kings_of b (other s)) (sym side) h.king; quiet = h.quiet };
+      side = side;
+    }
+
+pub in_play_kept : (p : Board) (graph : Graph) (place : ℕ) (b : Board) → IsGraph p graph → slice_get (met graph) place ≡ Some b → IsKept b
+in_play_kept p graph place b g at = g.kept.places.kept b (contained (met graph) place b at)
+
+-- 2. What is shown of entries.
+
+-- The entry is that of the place at this place of the agenda, and all answers to its step are on the agenda.
+pub record IsShown (graph : Graph) (ranks places : List ℕ) (k : ℕ) (entry : MateEntry) : Type 0 where
+  pub place : ℕ
+  pub there : slice_get places k ≡ Some place
+  pub at : slice_get (met graph) place ≡ Some entry.at
+  pub rank : entry.rank ≡ slice_index ranks place
+  pub step : Step
+  pub is_step : Contains (steps_at graph place) step
+  pub by : step.by ≡ entry.by
+  pub beaten : IsBeaten false graph ranks (slice_index ranks place) step.to
+  pub answers : (answer : Step) → Contains (steps_at graph step.to) answer → Contains places answer.to
+
+-- What is kept as entries are made: the first place is listed, all listed ones have ranks, and the entries are shown.
+pub record AreShown (graph : Graph) (ranks places : List ℕ) (entries : List MateEntry) : Type 0 where
+  pub within : length entries ≤ length places
+  pub first : Contains places 0
+  pub ranked : (place : ℕ) → Contains places place → 0 < slice_index ranks place
+  pub shown : (k : ℕ) (entry : MateEntry) → slice_get entries k ≡ Some entry → IsShown graph ranks places k entry
+
+-- What is kept as answers are listed.
+pub record AreAnswered (ranks old places : List ℕ) (answers : List Step) (n : ℕ) : Type 0 where
+  pub grows : Grows old places
+  pub ranked : (place : ℕ) → Contains places place → 0 < slice_index ranks place
+  pub listed : (k : ℕ) (answer : Step) → k < n → slice_get answers k ≡ Some answer → Contains places answer.to
+
+pub answer_more : (ranks old places new : List ℕ) (answers : List Step) (n : ℕ) (answer : Step) → AreAnswered ranks old places answers n
+    → slice_get answers n ≡ Some answer → 0 < slice_index ranks answer.to → Contains new answer.to
+    → (new ≡ places) ⊎ (new ≡ places ++ answer.to ∷ []) → AreAnswered ranks old new answers (n + 1)
+answer_more ranks old places new answers n answer so_far is ranked there longer = record {
+  grows = grows_more old places new answer.to so_far.grows longer;
+  ranked = λ place c. elim (added_cases places new answer.to place longer c) [
+    | inl before ↦ so_far.ranked place before
+    | inr same ↦ subst (λ (q : ℕ). 0 < slice_index ranks q) same ranked
+  ];
+  listed = λ k a below e. elim (cases_eq k n) [
+    | inl same ↦
+        let s = same_Some answer a (sym is ∙ subst (λ (q : ℕ). slice_get answers q ≡ Some a) same e) in
+        subst (λ (x : Step). Contains new x.to) s there
+    | inr earlier ↦
+        grows_contains places new a.to (grows_more places places new answer.to (grows_none places) longer) (so_far.listed k a (omega arith) e)
+  ];
+}
+
+still_shown : (graph : Graph) (ranks old new : List ℕ) (k : ℕ) (entry : MateEntry) → Grows old new → IsShown graph ranks old k entry
+    → IsShown graph ranks new k entry
+still_shown graph ranks old new k entry g s = record {
+  place = s.place;
+  there = g.same k s.place s.there;
+  at = s.at;
+  rank = s.rank;
+  step = s.step;
+  is_step = s.is_step;
+  by = s.by;
+  beaten = s.beaten;
+  answers = λ answer c. grows_contains old new answer.to g (s.answers answer c);
+}
+
+pub shown_more : (graph : Graph) (ranks old new : List ℕ) (entries : List MateEntry) (answers : List Step) (n place : ℕ) (step : Step)
+    (entry : MateEntry) → AreShown graph ranks old entries → answers ≡ steps_at graph step.to → AreAnswered ranks old new answers n → length answers ≤ n
+    → slice_get old (length entries) ≡ Some place → slice_get (met graph) place ≡ Some entry.at → entry.rank ≡ slice_index ranks place
+    → Contains (steps_at graph place) step → step.by ≡ entry.by → IsBeaten false graph ranks (slice_index ranks place) step.to
+    → AreShown graph ranks new (entries ++ entry ∷ [])
+shown_more graph ranks old new entries answers n place step entry s same a all there at rank is_step by beaten =
+    let there_still = a.grows.same (length entries) place there in
+    record {
+      within = let inside = slice_get_within new (length entries) place there_still in omega (arith, length_push entries entry);
+      first = grows_contains old new 0 a.grows s.first;
+      ranked = a.ranked;
+      shown = λ k e h. elim (get_cases entries entry k e h) [
+        | inl before ↦ still_shown graph ranks old new k e a.grows (s.shown k e before)
+        | inr last ↦ subst (λ (x : MateEntry). IsShown graph ranks new k x) last.1 (record {
+          place = place;
+          there = subst (λ (q : ℕ). slice_get new q ≡ Some place) (sym last.0) there_still;
+          at = at;
+          rank = rank;
+          step = step;
+          is_step = is_step;
+          by = by;
+          beaten = beaten;
+          answers = λ answer there_too.
+              let c = subst (λ (xs : List Step). Contains xs answer) (sym same) there_too in
+              let inside = c.1 in
+              a.listed c.0 answer (omega arith) (at_place answers answer c);
+        })
+      ];
+    }
+
+-- 3. One more entry.
+
+-- The next place of the agenda is known, and won.
+pub record IsNext (graph : Graph) (ranks places : List ℕ) (n place : ℕ) : Type 0 where
+  pub there : slice_get places n ≡ Some place
+  pub known : place < length ranks
+  pub met_too : place < length (met graph)
+  pub won : IsWon false graph ranks (slice_index ranks place) place
+  pub rises : RisesFrom 0 (moves_of (steps_at graph place))
+
+rises_at : (p : Board) (graph : Graph) (place : ℕ) → IsGraph p graph → place < units_of graph → place < length (met graph)
+    → RisesFrom 0 (moves_of (steps_at graph place))
+rises_at p graph place g known inside = elim (slice_get_cases (met graph) place).1 [
+  | inl e ↦ (g.steps place e.0 known e.2).lists.rises
+  | inr past ↦ let short = past.0 in absurd (omega arith)
+]
+
+won_at : (p : Board) (graph : Graph) (ranks : List ℕ) (place : ℕ) → AreRanks false p graph ranks → place < length ranks
+    → place < length (met graph) → 0 < slice_index ranks place → IsWon false graph ranks (slice_index ranks place) place
+won_at p graph ranks place r known inside ranked = elim (slice_get_cases (met graph) place).1 [
+  | inl e ↦ (r.won place e.0 known e.2 ranked).1
+  | inr past ↦ let short = past.0 in absurd (omega arith)
+]
+
+pub next_place : (p : Board) (graph : Graph) (ranks : List ℕ) (listed : List Bool) (places : List ℕ) (entries : List MateEntry)
+    → IsGraph p graph → AreRanks false p graph ranks → AreListed (length ranks) listed places → AreShown graph ranks places entries
+    → (items : List ℕ) (n : ℕ) → items ≡ places → n ≡ length entries → n < length items
+    → IsNext graph ranks places (length entries) (get_or items n 0)
+next_place p graph ranks listed places entries g r l s items n same last inside =
+    let place = get_or items n 0 in
+    let there : slice_get places (length entries) ≡ Some place =
+    subst (λ (xs : List ℕ). slice_get xs (length entries) ≡ Some place) same
+    (subst (λ (k : ℕ). slice_get items k ≡ Some place) last (slice_get-get_or items n 0 inside)) in
+    let c = contained places (length entries) place there in
+    let known = l.within place c in
+    let inside_too : place < length (met graph) = let a = r.all in let b = g.within in omega arith in
+    record {
+      there = there;
+      known = known;
+      met_too = inside_too;
+      won = won_at p graph ranks place r known inside_too (s.ranked place c);
+      rises = rises_at p graph place g (let a = r.all in omega arith) inside_too;
+    }
+
+-- 4. All entries together.
+
+pub known_beaten : (graph : Graph) (ranks : List ℕ) (below place : ℕ) → IsBeaten false graph ranks below place
+    → (place < length ranks) × ((step : Step) → Contains (steps_at graph place) step → IsRanked false ranks below step.to)
+known_beaten graph ranks below place h = elim h [ inl known ↦ known | inr beyond ↦ absurd (let e = beyond.1 in cc) ]
+
+pub known_ranked : (ranks : List ℕ) (below place : ℕ) → IsRanked false ranks below place
+    → (place < length ranks) × (0 < slice_index ranks place) × (slice_index ranks place < below)
+known_ranked ranks below place h = elim h [ inl known ↦ known | inr beyond ↦ absurd (let e = beyond.1 in cc) ]
+
+-- what an answer to the step leads to is known, and has a rank
+pub answer_at : (graph : Graph) (ranks : List ℕ) (below to : ℕ) → IsBeaten false graph ranks below to → (items : List Step)
+    → items ≡ steps_at graph to → (n : ℕ) (answer : Step) → n < length items → answer ≡ get_or items n answer
+    → (answer.to < length ranks) × (0 < slice_index ranks answer.to) × (slice_get items n ≡ Some answer)
+answer_at graph ranks below to beaten items same n answer inside is =
+    let e = slice_get_read items (length items) n answer refl inside is in
+    let c = subst (λ (xs : List Step). Contains xs answer) same (contained items n answer e) in
+    let ranked = known_ranked ranks below answer.to ((known_beaten graph ranks below to beaten).1 answer c) in
+    (ranked.0, ranked.1, e)
+
+-- An entry of the place is listed.
+record IsEntered (graph : Graph) (ranks : List ℕ) (entries : List MateEntry) (place : ℕ) : Type 0 where
+  entry : MateEntry
+  listed : Contains entries entry
+  at : slice_get (met graph) place ≡ Some entry.at
+  rank : entry.rank ≡ slice_index ranks place
+
+module _ (p : Board) (graph : Graph) (ranks places : List ℕ) (entries : List MateEntry) (g : IsGraph p graph)
+    (r : AreRanks false p graph ranks) (s : AreShown graph ranks places entries) (all : length places ≤ length entries) where
+  entered : (place : ℕ) → Contains places place → IsEntered graph ranks entries place
+  entered place c =
+      let inside = c.1 in
+      elim (slice_get_cases entries c.0).1 [
+        | inl e ↦
+            let h = s.shown c.0 e.0 e.2 in
+            let same = same_Some h.place place (sym h.there ∙ at_place places place c) in
+            record {
+              entry = e.0;
+              listed = contained entries c.0 e.0 e.2;
+              at = subst (λ (q : ℕ). slice_get (met graph) q ≡ Some e.0.at) same h.at;
+              rank = subst (λ (q : ℕ). e.0.rank ≡ slice_index ranks q) same h.rank;
+            }
+        | inr past ↦ let short = past.0 in absurd (omega arith)
+      ]
+
+  steps_of : (place : ℕ) (b : Board) → place < length ranks → slice_get (met graph) place ≡ Some b
+      → AreSteps p.side (met graph) b (steps_at graph place)
+  steps_of place b below at = g.steps place b (let a = r.all in omega arith) at
+
+  shown_side : (count : ℕ) (listed : List Bool) → AreListed count listed places → count ≡ length ranks
+      → (k : ℕ) (entry : MateEntry) (h : IsShown graph ranks places k entry)
+      → (h.place < length ranks) × (entry.at.side ≡ p.side) × (0 < slice_index ranks h.place)
+  shown_side count listed l same k entry h =
+      let c = contained places k h.place h.there in
+      let below : h.place < length ranks = let w = l.within h.place c in omega arith in
+      let ranked = s.ranked h.place c in
+      (below, (r.won h.place entry.at below h.at ranked).0, ranked)
+
+  shown_check : (count : ℕ) (listed : List Bool) → AreListed count listed places → count ≡ length ranks
+      → (k : ℕ) (entry : MateEntry) → IsShown graph ranks places k entry → IsCheck p.side entry.at entry.by × HasText entry.by
+  shown_check count listed l same k entry h =
+      let w = shown_side count listed l same k entry h in
+      let steps = steps_of h.place entry.at w.0 h.at in
+      let is_step : IsStep p.side entry.at h.step.by =
+      steps.lists.sound h.step.by (by_of (steps_at graph h.place) h.step h.is_step) in
+      let check = step_checks p.side entry.at h.step.by w.1 is_step in
+      (subst (IsCheck p.side entry.at) h.by check, subst HasText h.by (legal_has_text entry.at h.step.by check.legal (steps.listed h.step h.is_step)))
+
+  answer_below : (k : ℕ) (entry : MateEntry) → IsShown graph ranks places k entry → (count : ℕ) (listed : List Bool)
+      → AreListed count listed places → count ≡ length ranks → (answer : Move)
+      → IsAnswer p.side (after entry.at entry.by) answer → IsListedBelow entries entry.rank (after_both entry.at entry.by answer)
+  answer_below k entry h count listed l same answer is_answer =
+      let w = shown_side count listed l same k entry h in
+      let beaten = known_beaten graph ranks (slice_index ranks h.place) h.step.to h.beaten in
+      let lead : slice_get (met graph) h.step.to ≡ Some (after entry.at entry.by) =
+      subst (λ (m : Move). slice_get (met graph) h.step.to ≡ Some (after entry.at m)) h.by
+      ((steps_of h.place entry.at w.0 h.at).lead h.step h.is_step) in
+      let next = steps_of h.step.to (after entry.at entry.by) beaten.0 lead in
+      let a = step_by (steps_at graph h.step.to) answer (next.lists.complete answer (inr is_answer)) in
+      let e = entered a.step.to (h.answers a.step a.is_step) in
+      let ranked = known_ranked ranks (slice_index ranks h.place) a.step.to (beaten.1 a.step a.is_step) in
+      let lower = ranked.2 in
+      let rank = e.rank in
+      let top = h.rank in
+      record {
+        entry = e.entry;
+        listed = e.listed;
+        same = same_Some e.entry.at (after_both entry.at entry.by answer)
+            (sym e.at ∙ subst (λ (m : Move). slice_get (met graph) a.step.to ≡ Some (after (after entry.at entry.by) m)) a.by (next.lead a.step a.is_step));
+        lower = omega arith;
+      }
+
+  one_place : (count : ℕ) (listed : List Bool) → AreListed count listed places → AreApart (positions_of entries)
+  one_place count listed l i j b e f =
+      let first = entry_at entries i b e in
+      let second = entry_at entries j b f in
+      let h = s.shown i first.0 first.1 in
+      let k = s.shown j second.0 second.1 in
+      let same = g.kept.apart h.place k.place b
+      (subst (λ (x : Board). slice_get (met graph) h.place ≡ Some x) first.2 h.at)
+      (subst (λ (x : Board). slice_get (met graph) k.place ≡ Some x) second.2 k.at) in
+      l.apart i j h.place h.there (subst (λ (q : ℕ). slice_get places j ≡ Some q) (sym same) k.there)
+
+  pub mate_shown : (listed : List Bool) → AreListed (length ranks) listed places → AreMateEntries p entries
+  mate_shown listed l =
+      let shown : (entry : MateEntry) (c : Contains entries entry) → IsShown graph ranks places c.0 entry =
+      λ entry c. s.shown c.0 entry (at_place entries entry c) in
+      let first = entered 0 s.first in
+      record {
+        listed = subst (Contains (positions_of entries)) (same_Some first.entry.at p (sym first.at ∙ g.begins)) (at_of entries first.entry first.listed);
+        borne_out = λ entry c. record {
+          check = (shown_check (length ranks) listed l refl c.0 entry (shown entry c)).0;
+          answers = answer_below c.0 entry (shown entry c) (length ranks) listed l refl;
+        };
+        problems = λ entry c.
+            let h = shown entry c in
+            in_play_entry p graph h.place entry.at g h.at (shown_side (length ranks) listed l refl c.0 entry h).1;
+        kept = λ entry c. let h = shown entry c in in_play_kept p graph h.place entry.at g h.at;
+        ranks = λ entry c.
+            let h = shown entry c in
+            let above : 0 < slice_index ranks h.place = (shown_side (length ranks) listed l refl c.0 entry h).2 in
+            let rank = h.rank in
+            omega arith;
+        texts = λ entry c. (shown_check (length ranks) listed l refl c.0 entry (shown entry c)).1;
+        apart = one_place (length ranks) listed l;
+      }

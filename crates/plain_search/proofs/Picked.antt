@@ -1,0 +1,204 @@
+-- A list that is picked from another by places, in the order of texts.
+use Rattle.std.proofs.Common.{◌≡◌, ◌<◌, ◌≤◌, ◌+◌, ◌++◌, inl, inr, ℕ, zero, suc, List, [], ◌∷◌, get_or, length, map, take, Contains, arith, ap, sym, refl, ◌∙◌, subst, ⊎_elim}
+use Rattle.std.specs.Prelude.{Some, slice_get}
+use Rattle.std.specs.List.{AllZip}
+use Rattle.std.specs.Option.{option_map}
+use Rattle.std.proofs.lemmas.List.{take_more, take_all, length-map}
+use Rattle.std.proofs.lemmas.List.Elements.{Contains-get_or}
+use Rattle.std.proofs.lemmas.Option.{get_or_from_slice_get, slice_get_within, slice_get-map, slice_get_read}
+use Rattle.board_core.specs.declared.piece.Side.{Side}
+use Rattle.board_core.specs.declared.moves.MateEntry.{MateEntry}
+use Rattle.board_core.specs.Board.{Board}
+use Rattle.shogi_rules.specs.Tsume.{IsProblem}
+use Rattle.mate_def.specs.Mate.{IsClosed}
+use Rattle.cert_text.specs.Certificate.{Mating, Escaping, IsMating, IsEscaping, IsRising, positions_of}
+use Rattle.cert_check.specs.Valid.{IsListedBelow, ValidMate, ValidEscape}
+use Rattle.plain_search.specs.Plain.{IsPlainMate}
+use Rattle.plain_search.specs.Entries.{AreMateEntries, ArePlainEntries, mating_of, AreEscapeEntries, RiseAt, IsTextOrder}
+
+-- 1. The members.
+
+contains_at : {X : Type 0} (xs : List X) (i : ℕ) (x : X) → slice_get xs i ≡ Some x → Contains xs x
+contains_at {X} xs i x e = (i, slice_get_within xs i x e, get_or_from_slice_get xs i x x e)
+
+at_contains : {X : Type 0} (xs : List X) (x : X) (c : Contains xs x) → slice_get xs c.0 ≡ Some x
+at_contains {X} xs x c = slice_get_read xs (length xs) c.0 x refl c.1 (sym c.2)
+
+module _ {X : Type 0} where
+  -- each of the picked stands in the list at its place of the order
+  abbrev pub ArePicked : List X → List ℕ → List X → Type 0
+  ArePicked xs order ys = AllZip (λ i y. slice_get xs i ≡ Some y) order ys
+
+  push_pick : (xs : List X) (order : List ℕ) (ys : List X) (place : ℕ) (y : X) → slice_get xs place ≡ Some y → ArePicked xs order ys
+      → ArePicked xs (order ++ place ∷ []) (ys ++ y ∷ [])
+  push_pick xs [] [] place y e p = (e, tt)
+  push_pick xs [] (z ∷ zs) place y e p = absurd p
+  push_pick xs (o ∷ os) [] place y e p = absurd p
+  push_pick xs (o ∷ os) (z ∷ zs) place y e p = (p.0, push_pick xs os zs place y e p.1)
+
+  pub pick_more : (xs : List X) (order : List ℕ) (ys longer : List X) (i : ℕ) (y : X) → i < length order → get_or order i 0 < length xs
+      → y ≡ get_or xs (get_or order i 0) y → longer ≡ ys ++ y ∷ [] → ArePicked xs (take i order) ys → ArePicked xs (take (i + 1) order) longer
+  pick_more xs order ys longer i y h inside is e p =
+      subst (λ (zs : List X). ArePicked xs (take (i + 1) order) zs) (sym e)
+      (subst (λ (os : List ℕ). ArePicked xs os (ys ++ y ∷ [])) (sym (take_more order i 0 h))
+      (push_pick xs (take i order) ys (get_or order i 0) y (slice_get_read xs (length xs) (get_or order i 0) y refl inside is) p))
+
+  -- at the end of the order all is picked
+  pub all_picked : (xs : List X) (order places : List ℕ) (ys : List X) (i : ℕ) → places ≡ order → length places ≤ i → ArePicked xs (take i places) ys
+      → ArePicked xs order ys
+  all_picked xs order places ys i same h p = subst (λ (os : List ℕ). ArePicked xs os ys) (take_all i places h ∙ same) p
+
+  picked_at : (xs : List X) (order : List ℕ) (ys : List X) → ArePicked xs order ys → (k : ℕ) (y : X) → slice_get ys k ≡ Some y → Contains xs y
+  picked_at xs [] [] p k y e = absurd (cc)
+  picked_at xs [] (z ∷ zs) p k y e = absurd p
+  picked_at xs (o ∷ os) [] p k y e = absurd p
+  picked_at xs (o ∷ os) (z ∷ zs) p zero y e = contains_at xs o y (p.0 ∙ e)
+  picked_at xs (o ∷ os) (z ∷ zs) p (suc k) y e = picked_at xs os zs p.1 k y e
+
+  -- a picked one is of the list
+  pub of_picked : (xs : List X) (order : List ℕ) (ys : List X) → ArePicked xs order ys → (y : X) → Contains ys y → Contains xs y
+  of_picked xs order ys p y c = picked_at xs order ys p c.0 y (at_contains ys y c)
+
+  at_place : (xs : List X) (order : List ℕ) (ys : List X) → ArePicked xs order ys → (k place : ℕ) (x : X) → slice_get order k ≡ Some place
+      → slice_get xs place ≡ Some x → slice_get ys k ≡ Some x
+  at_place xs [] [] p k place x e f = absurd (cc)
+  at_place xs [] (z ∷ zs) p k place x e f = absurd p
+  at_place xs (o ∷ os) [] p k place x e f = absurd p
+  at_place xs (o ∷ os) (z ∷ zs) p zero place x e f = let same : o ≡ place = cc in sym p.0 ∙ (ap (slice_get xs) same ∙ f)
+  at_place xs (o ∷ os) (z ∷ zs) p (suc k) place x e f = at_place xs os zs p.1 k place x e f
+
+  -- where all places are in the order, one of the list is picked
+  pub is_picked : (xs : List X) (order : List ℕ) (ys : List X) → ((place : ℕ) → place < length xs → Contains order place) → ArePicked xs order ys
+      → (x : X) → Contains xs x → Contains ys x
+  is_picked xs order ys all p x c =
+      let o = all c.0 c.1 in
+      contains_at ys o.0 x (at_place xs order ys p o.0 c.0 x (at_contains order c.0 o) (at_contains xs x c))
+
+picked_map : {X Y : Type 0} (f : X → Y) (xs : List X) (order : List ℕ) (ys : List X) → ArePicked xs order ys → ArePicked (map f xs) order (map f ys)
+picked_map {X} {Y} f xs [] [] p = tt
+picked_map {X} {Y} f xs [] (z ∷ zs) p = absurd p
+picked_map {X} {Y} f xs (o ∷ os) [] p = absurd p
+picked_map {X} {Y} f xs (o ∷ os) (z ∷ zs) p = (slice_get-map f xs o ∙ ap (option_map f) p.0, picked_map f xs os zs p.1)
+
+pub rising : (bs : List Board) (order : List ℕ) (cs : List Board) → ArePicked bs order cs → RiseAt bs order → IsRising cs
+rising bs [] [] p r = tt
+rising bs [] (c ∷ cs) p r = absurd p
+rising bs (o ∷ os) [] p r = absurd p
+rising bs (o ∷ []) (c ∷ []) p r = tt
+rising bs (o ∷ []) (c ∷ d ∷ cs) p r = absurd p.1
+rising bs (o ∷ q ∷ os) (c ∷ []) p r = absurd p.1
+rising bs (o ∷ q ∷ os) (c ∷ d ∷ cs) p r = (r.0 c d p.0 p.1.0, rising bs (q ∷ os) (d ∷ cs) p.1 r.1)
+
+-- 2. A mate's entries.
+
+abbrev position_of : MateEntry → Board
+position_of entry = entry.at
+
+at_entry : (entries : List MateEntry) (k : ℕ) (b : Board) → slice_get (positions_of entries) k ≡ Some b
+    → (entry : MateEntry) × (slice_get entries k ≡ Some entry) × (entry.at ≡ b)
+at_entry [] k b e = absurd (cc)
+at_entry (x ∷ xs) zero b e = (x, refl, (cc))
+at_entry (x ∷ xs) (suc k) b e = at_entry xs k b e
+
+-- the positions of all entries
+pub all_positions : (entries : List MateEntry) (n : ℕ) (positions : List Board) → positions ≡ positions_of (take n entries) → length entries ≤ n
+    → positions ≡ positions_of entries
+all_positions entries n positions e h = e ∙ ap positions_of (take_all n entries h)
+
+-- a place of the order is one of the list
+pub within : {X : Type 0} (positions : List Board) (order places : List ℕ) (xs : List X) (i : ℕ) → IsTextOrder positions order → places ≡ order
+    → length positions ≡ length xs → i < length places → get_or places i 0 < length xs
+within {X} positions order places xs i ordered same as_long h =
+    let there : Contains order (get_or places i 0) = subst (λ (os : List ℕ). Contains os (get_or places i 0)) same (Contains-get_or places i 0 h) in
+    let w : get_or places i 0 < length positions = ordered.within (get_or places i 0) there in
+    omega arith
+
+-- what every entry's position has, each listed position has
+pub of_entries : (P : Board → Type 0) (entries : List MateEntry) → ((entry : MateEntry) → Contains entries entry → P entry.at)
+    → (b : Board) → Contains (positions_of entries) b → P b
+of_entries P entries h b c =
+    let found = at_entry entries c.0 b (at_contains (positions_of entries) b c) in
+    subst P found.2 (h found.0 (contains_at entries c.0 found.0 found.1))
+
+pub as_many : (entries : List MateEntry) → length (positions_of entries) ≡ length entries
+as_many entries = length-map entries position_of
+
+pub mating : (p : Board) (entries sorted : List MateEntry) (order : List ℕ) → IsProblem p → AreMateEntries p entries
+    → IsTextOrder (positions_of entries) order → ArePicked entries order sorted → IsMating (record { problem = p; entries = sorted })
+mating p entries sorted order accepted are ordered picked = record {
+  is_problem = accepted;
+  rising = rising (positions_of entries) order (positions_of sorted) (picked_map position_of entries order sorted picked) ordered.rises;
+  problems = λ entry c. are.problems entry (of_picked entries order sorted picked entry c);
+  ranks = λ entry c. are.ranks entry (of_picked entries order sorted picked entry c);
+  texts = λ entry c. are.texts entry (of_picked entries order sorted picked entry c);
+}
+
+all_entries : (entries : List MateEntry) (order : List ℕ) → IsTextOrder (positions_of entries) order → (place : ℕ) → place < length entries → Contains order place
+all_entries entries order ordered place h = ordered.all place (let n = length-map entries position_of in omega arith)
+
+still_below : (entries sorted : List MateEntry) → ((entry : MateEntry) → Contains entries entry → Contains sorted entry) → (rank : ℕ) (b : Board)
+    → IsListedBelow entries rank b → IsListedBelow sorted rank b
+still_below entries sorted kept rank b l = record { entry = l.entry; listed = kept l.entry l.listed; same = l.same; lower = l.lower }
+
+valid_sorted : (p : Board) (entries sorted : List MateEntry) (order : List ℕ) → AreMateEntries p entries
+    → IsTextOrder (positions_of entries) order → ArePicked entries order sorted → ValidMate (record { problem = p; entries = sorted }) p
+valid_sorted p entries sorted order are ordered picked =
+    let kept = λ (entry : MateEntry) (c : Contains entries entry). is_picked entries order sorted (all_entries entries order ordered) picked entry c in
+    record {
+      problem = refl;
+      listed = is_picked (positions_of entries) order (positions_of sorted) ordered.all (picked_map position_of entries order sorted picked) p are.listed;
+      entries = λ entry c.
+          let b = are.borne_out entry (of_picked entries order sorted picked entry c) in
+          record { check = b.check; answers = λ answer h. still_below entries sorted kept entry.rank _ (b.answers answer h) };
+    }
+
+pub valid_mate : (p : Board) (entries sorted : List MateEntry) (order : List ℕ) (certificate : Mating)
+    → certificate ≡ record { problem = p; entries = sorted } → AreMateEntries p entries
+    → IsTextOrder (positions_of entries) order → ArePicked entries order sorted → ValidMate certificate p
+valid_mate p entries sorted order certificate is are ordered picked =
+    subst (λ (c : Mating). ValidMate c p) (sym is) (valid_sorted p entries sorted order are ordered picked)
+
+-- the same entries in another order lead to the same positions
+plain_sorted : (p : Board) (known : List Board) (entries sorted : List MateEntry) → ((entry : MateEntry) → Contains entries entry → Contains sorted entry)
+    → ((entry : MateEntry) → Contains sorted entry → Contains entries entry) → ArePlainEntries p known entries
+    → IsPlainMate p known (mating_of p sorted)
+plain_sorted p known entries sorted kept of plain = record {
+  entries = λ entry c. plain.entries entry (of entry c);
+  reached = λ entry positions c holds. plain.reached entry positions (of entry c) (record {
+    problem = holds.problem;
+    next = λ e answer there held is_answer. holds.next e answer (kept e there) held is_answer;
+  });
+}
+
+pub plain_mate : (p : Board) (entries sorted : List MateEntry) (order : List ℕ) (certificate : Mating)
+    → certificate ≡ record { problem = p; entries = sorted } → IsTextOrder (positions_of entries) order → ArePicked entries order sorted
+    → (known : List Board) → ArePlainEntries p known entries → IsPlainMate p known certificate
+plain_mate p entries sorted order certificate is ordered picked known plain =
+    let kept = λ (entry : MateEntry) (c : Contains entries entry). is_picked entries order sorted (all_entries entries order ordered) picked entry c in
+    let of = λ (entry : MateEntry) (c : Contains sorted entry). of_picked entries order sorted picked entry c in
+    subst (λ (c : Mating). IsPlainMate p known c) (sym is) (plain_sorted p known entries sorted kept of plain)
+
+-- 3. An escape's entries.
+
+pub escaping : (p : Board) (entries sorted : List Board) (order : List ℕ) → IsProblem p → AreEscapeEntries p entries
+    → IsTextOrder entries order → ArePicked entries order sorted → IsEscaping (record { problem = p; entries = sorted })
+escaping p entries sorted order accepted are ordered picked = record {
+  is_problem = accepted;
+  rising = rising entries order sorted picked ordered.rises;
+  problems = λ b c. are.problems b (of_picked entries order sorted picked b c);
+}
+
+closed_sorted : (attacker : Side) (entries sorted : List Board) → ((b : Board) → Contains entries b → Contains sorted b)
+    → ((b : Board) → Contains sorted b → Contains entries b) → IsClosed attacker entries [] → IsClosed attacker sorted []
+closed_sorted attacker entries sorted kept of closed = λ b check c is_check.
+    let a = closed b check (of b c) is_check in
+    (a.0, a.1, ⊎_elim (λ h. inl (kept _ h)) (λ h. inr h) a.2)
+
+pub valid_escape : (p : Board) (entries sorted : List Board) (order : List ℕ) (certificate : Escaping)
+    → certificate ≡ record { problem = p; entries = sorted } → AreEscapeEntries p entries
+    → IsTextOrder entries order → ArePicked entries order sorted → ValidEscape certificate p
+valid_escape p entries sorted order certificate is are ordered picked =
+    let kept = λ (b : Board) (c : Contains entries b). is_picked entries order sorted ordered.all picked b c in
+    let of = λ (b : Board) (c : Contains sorted b). of_picked entries order sorted picked b c in
+    subst (λ (c : Escaping). ValidEscape c p) (sym is)
+    (record { problem = refl; listed = kept p are.listed; closed = closed_sorted p.side entries sorted kept of are.closed })

@@ -1,0 +1,9 @@
+pub mod Queue
+pub mod Within
+pub mod Plain
+pub mod Outcome
+pub mod Decision
+pub mod Graph
+pub mod Ranks
+pub mod Agenda
+pub mod Entries

@@ -1,0 +1,28 @@
+// Positions in the order of their texts.
+ghost use Rattle.std.specs.Prelude.{IfOk, Contains};
+ghost use Rattle.board_core.specs.Board.{Board};
+ghost use Rattle.board_core.specs.Kept.{IsKept};
+ghost use Rattle.plain_search.specs.Graph.{AreApart};
+ghost use Rattle.plain_search.specs.Entries.{IsTextOrder};
+
+use board_core::{NoMemory, Position};
+use sfen_text::write_sfen;
+use std::alloc::Global;
+use std::collections::BTreeMap;
+
+/// The places of positions, of which none stands twice, in the order of the bytes of their SFEN texts.
+pub(crate) fn text_order(alloc: Global, positions: &[Position]) -> Result<Vec<usize>, NoMemory>
+    requires apart { AreApart positions.now }
+    requires kept { (b : Board) → Contains positions.now b → IsKept b }
+    ensures { IfOk result (λ order. IsTextOrder positions.now order.items) }
+{
+    let mut by_text = BTreeMap::new(alloc);
+    for (place, position) in positions.iter().enumerate() {
+        by_text.insert(write_sfen(alloc, position)?, place)?;
+    }
+    let mut order = Vec::new(alloc);
+    for place in by_text.values() {
+        order.push(*place)?;
+    }
+    Ok(order)
+}
