@@ -45,7 +45,7 @@ fn rest_flag<'a>(alloc: Global) -> Arg<'a>
         .long("rest")
         .action(ArgAction::SetTrue)
         .help(
-            "Gives the defender all pieces that are not on the board or in the attacker's hand, as most printed \
+            "Gives the defender all pieces but kings that are neither on the board nor in a hand, as most printed \
              problems mean it",
         )
 }
@@ -92,7 +92,10 @@ fn solve_command<'a>(alloc: Global) -> Result<Command<'a>, AllocError>
         .about(
             "Reads a tsume-shogi problem (SFEN) from standard input and prints a mate or no mate with its certificate",
         )
-        .after_help("Example:\n  echo '4k4/9/4P4/9/9/9/9/9/9 b G 1' | tsume solve")
+        .after_help(
+            "Today's search runs on one thread, and --expansions is its one limit: the other four numbers are checked and not \
+             used yet.\n\nExample:\n  echo '4k4/9/4P4/9/9/9/9/9/9 b G 1' | tsume solve --expansions 100000",
+        )
         .arg(workers)?
         .arg(expansions)?
         .arg(room)?

@@ -139,7 +139,7 @@ static HELP_OF_SOLVE: [&str; 9] = [
     "--rows <N>        Rows of the transposition table, a power of two (16 to 1048576) [default: 16384]",
     "--shards <N>      Parts of the transposition table",
     "a power of two (1 to 64), at most the rows [default: 16]",
-    "--rest            Gives the defender all pieces that are not on the board or in the attacker's hand",
+    "--rest            Gives the defender all pieces but kings that are neither on the board nor in a hand",
     "echo '4k4/9/4P4/9/9/9/9/9/9 b G 1' | tsume solve",
 ];
 
