@@ -1,4 +1,2 @@
-pub mod Listed
-pub mod Legal
 pub mod Running
 pub mod Complete

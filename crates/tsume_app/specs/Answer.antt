@@ -1,22 +1,28 @@
 -- What an answer prints, and what it means.
-use Rattle.std.specs.Prelude.{◌≡◌, ℕ, List, [], ◌∷◌, ◌++◌, Bool, true, false, codes, length, Some}
+use Rattle.std.specs.Prelude.{◌≡◌, ℕ, List, ◌∷◌, ◌++◌, Bool, true, false, codes, length}
 use Rattle.std.specs.Fmt.{decimal}
 use Rattle.board_core.specs.declared.moves.Move.{Move}
 use Rattle.board_core.specs.Board.{Board}
 use Rattle.usi_text.specs.MoveText.{move_text}
-use Rattle.usi_text.specs.Lines.{mate_text, AllHaveText}
+use Rattle.usi_text.specs.Lines.{mate_text, nomate_text, timeout_text, AllHaveText}
 use Rattle.mate_def.specs.Mate.{IsMate}
 use Rattle.cert_text.specs.declared.certificate.Certificate.{Certificate}
 use Rattle.cert_text.specs.declared.certificate.Certificate.TheVariants as certificates
-use Rattle.cert_text.specs.Certificate.{Mating}
+use Rattle.cert_text.specs.Certificate.{Mating, Escaping}
 use Rattle.cert_text.specs.Text.{line, certificate_text}
 use Rattle.cert_check.specs.declared.verdict.Why.{Why}
 use Rattle.cert_check.specs.declared.verdict.Why.TheVariants.{RootMissing, NotACheck, AnswerOutside, RankNotLower, CheckUnanswered}
-use Rattle.cert_check.specs.Valid.{ValidMate, IsValid, Shows, problem_of, positions_in}
-use Rattle.cert_check.specs.Reasons.{IsFirstAgainst}
-use Rattle.tsume_app.specs.FirstMate.{IsFirstMate}
+use Rattle.cert_check.specs.Valid.{IsValid, Shows, problem_of, positions_in}
+use Rattle.cert_check.specs.declared.verdict.Verdict.{Verdict}
+use Rattle.cert_check.specs.declared.verdict.Verdict.TheVariants.{Accepted as CheckAccepted}
+use Rattle.cert_check.specs.Reasons.{IsFirstAgainst, IsVerdict}
+use Rattle.plain_search.specs.Within.{IsUndecided}
+use Rattle.plain_search.specs.Outcome.{IsMateFound, IsEscapeFound}
+use Rattle.play_line.specs.Line.{IsMainLine}
+use Rattle.tsume_app.specs.declared.answer.Cause.{Cause}
+use Rattle.tsume_app.specs.declared.answer.Cause.TheVariants.{Expansions, Room, Height}
 use Rattle.tsume_app.specs.declared.answer.Answer.{Answer}
-use Rattle.tsume_app.specs.declared.answer.Answer.TheVariants.{Mate, Accepted, Refused}
+use Rattle.tsume_app.specs.declared.answer.Answer.TheVariants.{Mate, NoMate, Unknown, Accepted, Refused}
 
 -- A reason against a certificate: a word, and the move that it names.
 abbrev pub why_text : Why → List ℕ
@@ -31,29 +37,56 @@ abbrev pub kind_text : Bool → List ℕ
 kind_text true = codes "mate"
 kind_text false = codes "escape"
 
--- The text of an answer. For a mate the line of the USI protocol with its moves, and the certificate; for an accepted
--- certificate its kind and the number of its entries; for a refused one the entry and the reason.
+-- What was used up.
+abbrev pub cause_text : Cause → List ℕ
+cause_text (Expansions units) = codes "expansions " ++ decimal units
+cause_text (Room facts) = codes "room " ++ decimal facts
+cause_text (Height height) = codes "height " ++ decimal height
+
+-- The text of an answer. For a mate and for none the line of the USI protocol, for a mate with its moves, and the certificate;
+-- for neither the line of the USI protocol, and what was used up; for an accepted certificate its kind and the number of its
+-- entries; for a refused one the entry and the reason.
 abbrev pub answer_text : Answer → List ℕ
 answer_text (Mate certificate moves) = line (mate_text moves) ++ certificate_text certificate
+answer_text (NoMate certificate) = line nomate_text ++ certificate_text certificate
+answer_text (Unknown cause) = line timeout_text ++ line (codes "unknown " ++ cause_text cause)
 answer_text (Accepted mate entries) = line (codes "accepted " ++ kind_text mate ++ 32 ∷ decimal entries)
 answer_text (Refused entry why) = line (codes "refused " ++ decimal entry ++ 32 ∷ why_text why)
 
--- A mate in one is shown: by the first check without an answer, which is the whole line; the certificate's one entry has it,
--- with rank 1, at the problem, and the certificate is valid.
-pub record IsMateShown (p : Board) (c : Mating) (moves : List Move) : Type 0 where
-  pub valid : ValidMate c p
-  pub mate : IsMate p.side p
-  pub by : Move
-  pub first : IsFirstMate p.side p (Some by)
-  pub line : moves ≡ by ∷ []
-  pub entry : c.entries ≡ record { rank = 1; by = by; at = p } ∷ []
+-- The checker accepts the certificate for the position: every verdict that it may come to is that one.
+abbrev pub IsAcceptedFor : Board → Certificate → Type 0
+IsAcceptedFor p certificate = (verdict : Verdict) → IsVerdict certificate p verdict → verdict ≡ CheckAccepted
 
--- An answer is true of a problem: a mate is shown, with its certificate and line.
-abbrev pub IsTrueOf : Board → Answer → Type 0
-IsTrueOf p (Mate (certificates.Mate c) moves) = IsMateShown p c moves
-IsTrueOf p (Mate (certificates.Escape c) moves) = ⊥
-IsTrueOf p (Accepted mate entries) = ⊥
-IsTrueOf p (Refused entry why) = ⊥
+-- A mate is shown: the position is one, a search with so many units at most found the certificate, which is valid for it and
+-- accepted, and the moves are its main line.
+pub record IsMateShown (p : Board) (units : ℕ) (c : Mating) (moves : List Move) : Type 0 where
+  pub mate : IsMate p.side p
+  pub found : IsMateFound p units c
+  pub accepted : IsAcceptedFor p (certificates.Mate c)
+  pub line : IsMainLine c p.side p moves
+
+-- That there is no mate is shown: the position is none, and a search with so many units at most found the certificate, which is
+-- valid for it and accepted.
+pub record IsNoMateShown (p : Board) (units : ℕ) (c : Escaping) : Type 0 where
+  pub no_mate : ¬ IsMate p.side p
+  pub found : IsEscapeFound p units c
+  pub accepted : IsAcceptedFor p (certificates.Escape c)
+
+-- A search gave up for its cause: all its units were used up, and what they list tells neither a mate nor that there is none.
+abbrev pub IsGivenUp : Board → ℕ → Cause → Type 0
+IsGivenUp p units (Expansions used) = (used ≡ units) × IsUndecided p units
+IsGivenUp p units (Room facts) = ⊥
+IsGivenUp p units (Height height) = ⊥
+
+-- An answer is true of a problem that was searched with at most this many units.
+abbrev pub IsTrueOf : Board → ℕ → Answer → Type 0
+IsTrueOf p units (Mate (certificates.Mate c) moves) = IsMateShown p units c moves
+IsTrueOf p units (Mate (certificates.Escape c) moves) = ⊥
+IsTrueOf p units (NoMate (certificates.Escape c)) = IsNoMateShown p units c
+IsTrueOf p units (NoMate (certificates.Mate c)) = ⊥
+IsTrueOf p units (Unknown cause) = IsGivenUp p units cause
+IsTrueOf p units (Accepted mate entries) = ⊥
+IsTrueOf p units (Refused entry why) = ⊥
 
 -- Whether a certificate is a mate's.
 abbrev pub is_mate : Certificate → Bool
@@ -70,11 +103,15 @@ pub record IsAcceptance (c : Certificate) (mate : Bool) (entries : ℕ) : Type 0
 -- An answer is true of a certificate: it was accepted so, or this is the first reason against it for its own problem.
 abbrev pub IsTrueOfCertificate : Certificate → Answer → Type 0
 IsTrueOfCertificate c (Mate certificate moves) = ⊥
+IsTrueOfCertificate c (NoMate certificate) = ⊥
+IsTrueOfCertificate c (Unknown cause) = ⊥
 IsTrueOfCertificate c (Accepted mate entries) = IsAcceptance c mate entries
 IsTrueOfCertificate c (Refused entry why) = IsFirstAgainst c (problem_of c) entry why
 
 -- Every move of an answer's line has a text.
 abbrev pub HasLine : Answer → Type 0
 HasLine (Mate certificate moves) = AllHaveText moves
+HasLine (NoMate certificate) = Unit {0}
+HasLine (Unknown cause) = Unit {0}
 HasLine (Accepted mate entries) = Unit {0}
 HasLine (Refused entry why) = Unit {0}

@@ -1,5 +1,3 @@
 pub mod Input
-pub mod FirstMate
-pub mod Command
 pub mod Answer
 pub mod Run

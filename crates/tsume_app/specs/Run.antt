@@ -1,27 +1,35 @@
 -- What a run of the program did.
-use Rattle.std.specs.Prelude.{◌≡◌, ◌≤◌, ℕ, List, Option, Some, None, Result, Ok, Err, IsSomeAnd, length}
+use Rattle.std.specs.Prelude.{◌≡◌, ◌≤◌, ℕ, List, Bool, Option, Some, None, Result, Ok, Err, IsSomeAnd, length}
 use Rattle.board_core.specs.Board.{Board}
 use Rattle.tsume_io.specs.Faults.{Rose}
-use Rattle.tsume_io.specs.Source.{TookAll, HasMoreThan}
+use Rattle.tsume_io.specs.Source.{TookAll, TookAtMost, TookOneMoreThan, HasMoreThan}
 use Rattle.tsume_io.specs.Sink.{GrewBy, GrewByPrefix}
+use Rattle.tsume_words.specs.Given.{Wish}
+use Rattle.tsume_words.specs.Given.Wish.{to_solve, to_check}
+use Rattle.tsume_words.specs.Meaning.{Refuses}
+use Rattle.tsume_words.specs.declared.faults.WordsEnd.TheVariants as words_ends
+use Rattle.clap.specs.Words.{Text as Word}
 use Rattle.cert_text.specs.declared.certificate.Certificate.{Certificate}
 use Rattle.cert_text.specs.declared.fault.CertEnd.TheVariants as ends
 use Rattle.cert_text.specs.Reading.{IsReadable, IsTextOf, IsCertificateAnswer}
 use Rattle.tsume_app.specs.declared.answer.Answer.{Answer}
-use Rattle.tsume_app.specs.declared.answer.Answer.TheVariants.{Mate, Accepted, Refused}
-use Rattle.tsume_app.specs.declared.command.Command.{Command}
-use Rattle.tsume_app.specs.declared.command.Command.TheVariants.{Solve, Check}
+use Rattle.tsume_app.specs.declared.answer.Answer.TheVariants.{Mate, NoMate, Unknown, Accepted, Refused}
 use Rattle.tsume_app.specs.declared.fault.Fault.{Fault}
-use Rattle.tsume_app.specs.declared.fault.Fault.TheVariants.{Words, TooLong, Text, Cert, NotBuilt, Read, Write, NoMemory}
-use Rattle.tsume_app.specs.Command.{limit_of}
+use Rattle.tsume_app.specs.declared.fault.Fault.TheVariants.{Words, TooLong, Text, Cert, Read, Write, NoMemory}
 use Rattle.tsume_app.specs.Input.{StandsFor}
-use Rattle.tsume_app.specs.FirstMate.{IsFirstMate}
 use Rattle.tsume_app.specs.Answer.{answer_text, IsTrueOf, IsTrueOfCertificate}
 
--- The exit status of an answer: 7 where a certificate is refused, else 0.
+-- The most bytes that the input of a command may have.
+abbrev pub limit_of : Wish → ℕ
+limit_of (to_solve numbers rest) = 65536
+limit_of (to_check workers) = 268435456
+
+-- The exit status of an answer: 1 where a search gave up, 7 where a certificate is refused, else 0.
 abbrev pub answer_status : Option Answer → ℕ
 answer_status None = 0
 answer_status (Some (Mate certificate moves)) = 0
+answer_status (Some (NoMate certificate)) = 0
+answer_status (Some (Unknown cause)) = 1
 answer_status (Some (Accepted mate entries)) = 0
 answer_status (Some (Refused entry why)) = 7
 
@@ -32,7 +40,6 @@ fault_status (Words words) = 2
 fault_status TooLong = 3
 fault_status (Text fault) = 3
 fault_status (Cert fault) = 3
-fault_status NotBuilt = 3
 fault_status Read = 4
 fault_status Write = 5
 fault_status NoMemory = 6
@@ -43,25 +50,18 @@ status_of answer None = answer_status answer
 status_of answer (Some fault) = fault_status fault
 
 -- The bytes of an input are a problem of which the answer is true.
-pub record IsSolution (input : List ℕ) (answer : Answer) : Type 0 where
+pub record IsSolution (rest : Bool) (units : ℕ) (input : List ℕ) (answer : Answer) : Type 0 where
   pub problem : Board
-  pub stands_for : StandsFor input (Ok problem)
-  pub true_of : IsTrueOf problem answer
+  pub stands_for : StandsFor rest input (Ok problem)
+  pub true_of : IsTrueOf problem units answer
 
--- The bytes of an input are a problem without a mate in one.
-pub record IsOpen (input : List ℕ) : Type 0 where
-  pub problem : Board
-  pub stands_for : StandsFor input (Ok problem)
-  pub no_mate_in_one : IsFirstMate problem.side problem None
-
--- What the input of `solve` is answered with: an answer that is true of the problem, its first fault, or that a problem
--- without a mate in one is left open. Want of memory is free.
-abbrev pub IsSolveAnswered : List ℕ → Result Answer Fault → Type 0
-IsSolveAnswered input (Ok answer) = IsSolution input answer
-IsSolveAnswered input (Err (Text fault)) = StandsFor input (Err fault)
-IsSolveAnswered input (Err NotBuilt) = IsOpen input
-IsSolveAnswered input (Err NoMemory) = Unit {0}
-IsSolveAnswered input (Err fault) = ⊥
+-- What the input of `solve` is answered with: an answer that is true of the problem, or its first fault. Want of memory is
+-- free.
+abbrev pub IsSolveAnswered : Bool → ℕ → List ℕ → Result Answer Fault → Type 0
+IsSolveAnswered rest units input (Ok answer) = IsSolution rest units input answer
+IsSolveAnswered rest units input (Err (Text fault)) = StandsFor rest input (Err fault)
+IsSolveAnswered rest units input (Err NoMemory) = Unit {0}
+IsSolveAnswered rest units input (Err fault) = ⊥
 
 -- The bytes of an input are the text of a certificate of which the answer is true.
 pub record IsJudged (input : List ℕ) (answer : Answer) : Type 0 where
@@ -82,24 +82,25 @@ IsCheckAnswered input (Err NoMemory) = Unit {0}
 IsCheckAnswered input (Err fault) = ⊥
 
 -- What the input of a command is answered with.
-abbrev pub IsInputAnswered : Command → List ℕ → Result Answer Fault → Type 0
-IsInputAnswered Solve input answer = IsSolveAnswered input answer
-IsInputAnswered Check input answer = IsCheckAnswered input answer
+abbrev pub IsInputAnswered : Wish → List ℕ → Result Answer Fault → Type 0
+IsInputAnswered (to_solve numbers rest) input answer = IsSolveAnswered rest numbers.expansions input answer
+IsInputAnswered (to_check workers) input answer = IsCheckAnswered input answer
 
 -- The bytes of an input were all that the source had left, and this is what they are answered with.
-pub record IsReadAndAnswered (command : Command) (left left_after : Option (List ℕ)) (answer : Result Answer Fault) : Type 0 where
+pub record IsReadAndAnswered (wish : Wish) (left left_after : Option (List ℕ)) (answer : Result Answer Fault) : Type 0 where
   pub input : List ℕ
   pub took : TookAll left left_after input
-  pub short : length input ≤ limit_of command
-  pub answered : IsInputAnswered command input answer
+  pub short : length input ≤ limit_of wish
+  pub answered : IsInputAnswered wish input answer
 
 -- What came of reading, text and work: the answer to the bytes that the source had left, or a refusal with its cause. More
--- bytes than the command takes; a count of faults that rose; want of memory, which is free.
-abbrev pub IsDecided : Command → Option (List ℕ) → Option (List ℕ) → ℕ → ℕ → Result Answer Fault → Type 0
-IsDecided command left left_after faults faults_after (Err TooLong) = HasMoreThan (limit_of command) left
-IsDecided command left left_after faults faults_after (Err Read) = Rose faults faults_after
-IsDecided command left left_after faults faults_after (Err NoMemory) = Unit {0}
-IsDecided command left left_after faults faults_after answer = IsReadAndAnswered command left left_after answer
+-- bytes than the command takes, and one more was taken; a count of faults that rose, and no more than the limit was taken; want
+-- of memory, which is free, likewise.
+abbrev pub IsDecided : Wish → Option (List ℕ) → Option (List ℕ) → ℕ → ℕ → Result Answer Fault → Type 0
+IsDecided wish left left_after faults faults_after (Err TooLong) = HasMoreThan (limit_of wish) left × TookOneMoreThan (limit_of wish) left left_after
+IsDecided wish left left_after faults faults_after (Err Read) = Rose faults faults_after × TookAtMost (limit_of wish) left left_after
+IsDecided wish left left_after faults faults_after (Err NoMemory) = TookAtMost (limit_of wish) left left_after
+IsDecided wish left left_after faults faults_after answer = IsReadAndAnswered wish left left_after answer
 
 -- What the outside shows of a run: the bytes that the source has left and the sink has kept, where they tell them, and how
 -- often each has failed; before and after.
@@ -113,75 +114,74 @@ pub record Outside : Type 0 where
   pub sink_faults : ℕ
   pub sink_faults_after : ℕ
 
--- Nothing was written.
-abbrev pub IsSilent : Outside → Type 0
-IsSilent o = o.kept_after ≡ o.kept
+-- Nothing was written, nor tried to be.
+pub record IsSilent (o : Outside) : Type 0 where
+  pub kept : o.kept_after ≡ o.kept
+  pub faults : o.sink_faults_after ≡ o.sink_faults
 
 -- What was decided in a run.
-abbrev pub Decided : Command → Outside → Result Answer Fault → Type 0
-Decided command o answer = IsDecided command o.left o.left_after o.source_faults o.source_faults_after answer
+abbrev pub Decided : Wish → Outside → Result Answer Fault → Type 0
+Decided wish o answer = IsDecided wish o.left o.left_after o.source_faults o.source_faults_after answer
 
 -- An answer was decided, and its text written whole.
-pub record IsWritten (command : Command) (o : Outside) (answer : Answer) : Type 0 where
-  pub decided : Decided command o (Ok answer)
+pub record IsWritten (wish : Wish) (o : Outside) (answer : Answer) : Type 0 where
+  pub decided : Decided wish o (Ok answer)
   pub grew : GrewBy o.kept o.kept_after (answer_text answer)
 
 -- An answer was decided, and a failing sink kept a part of its text.
-pub record IsCutShort (command : Command) (o : Outside) (answer : Answer) : Type 0 where
-  pub decided : Decided command o (Ok answer)
+pub record IsCutShort (wish : Wish) (o : Outside) (answer : Answer) : Type 0 where
+  pub decided : Decided wish o (Ok answer)
   pub grew : GrewByPrefix o.kept o.kept_after (answer_text answer)
   pub rose : Rose o.sink_faults o.sink_faults_after
 
 -- How a command ended. With no fault the answer is true of what the source's bytes were, and its text was written. A failed
 -- sink has kept a prefix of the text of an answer that stands. Every other fault has its cause, and nothing was written.
-abbrev pub IsEnded : Command → Outside → Option Answer → Option Fault → Type 0
-IsEnded command o answer None = IsSomeAnd answer (λ a. IsWritten command o a)
-IsEnded command o answer (Some Write) = IsSomeAnd answer (λ a. IsCutShort command o a)
-IsEnded command o answer (Some (Words words)) = ⊥
-IsEnded command o answer (Some fault) = (answer ≡ None) × IsSilent o × Decided command o (Err fault)
+abbrev pub IsEnded : Wish → Outside → Option Answer → Option Fault → Type 0
+IsEnded wish o answer None = IsSomeAnd answer (λ a. IsWritten wish o a)
+IsEnded wish o answer (Some Write) = IsSomeAnd answer (λ a. IsCutShort wish o a)
+IsEnded wish o answer (Some (Words fault)) = ⊥
+IsEnded wish o answer (Some fault) = (answer ≡ None) × IsSilent o × Decided wish o (Err fault)
 
--- The words were refused before anything was read.
-abbrev pub AreWordsRefused : Outside → Option Answer → Option Fault → Type 0
-AreWordsRefused o answer (Some (Words words)) = (answer ≡ None) × IsSilent o × (o.left_after ≡ o.left)
-AreWordsRefused o answer (Some fault) = ⊥
-AreWordsRefused o answer None = ⊥
+-- Nothing was read, nor tried to be.
+pub record IsUnread (o : Outside) : Type 0 where
+  pub left : o.left_after ≡ o.left
+  pub faults : o.source_faults_after ≡ o.source_faults
 
--- The bytes that the source has left are a problem with a mate in one, and short enough.
-pub record IsMateGiven (left : Option (List ℕ)) : Type 0 where
+-- The words were refused, with the cause, before anything was read. Want of memory is free.
+abbrev pub AreWordsRefused : List Word → Outside → Option Answer → Option Fault → Type 0
+AreWordsRefused words o answer (Some (Words fault)) = (answer ≡ None) × IsSilent o × IsUnread o × Refuses words (words_ends.Fault fault)
+AreWordsRefused words o answer (Some NoMemory) = (answer ≡ None) × IsSilent o × IsUnread o
+AreWordsRefused words o answer (Some fault) = ⊥
+AreWordsRefused words o answer None = ⊥
+
+-- The bytes that the source has left are a problem, and short enough.
+pub record IsProblemGiven (rest : Bool) (limit : ℕ) (left : Option (List ℕ)) : Type 0 where
   pub input : List ℕ
   pub problem : Board
   pub told : left ≡ Some input
-  pub short : length input ≤ limit_of Solve
-  pub stands_for : StandsFor input (Ok problem)
-  pub mate_in_one : IsFirstMate problem.side problem None → ⊥
+  pub short : length input ≤ limit
+  pub stands_for : StandsFor rest input (Ok problem)
 
 -- The bytes that the source has left are the text of a certificate, and short enough.
-pub record IsCertificateGiven (left : Option (List ℕ)) : Type 0 where
+pub record IsCertificateGiven (limit : ℕ) (left : Option (List ℕ)) : Type 0 where
   pub input : List ℕ
   pub certificate : Certificate
   pub told : left ≡ Some input
-  pub short : length input ≤ limit_of Check
+  pub short : length input ≤ limit
   pub readable : IsReadable certificate
   pub text : IsTextOf certificate input
 
--- The bytes that the source has left are what a command can answer today.
-abbrev pub IsWellPosed : Command → Option (List ℕ) → Type 0
-IsWellPosed Solve left = IsMateGiven left
-IsWellPosed Check left = IsCertificateGiven left
+-- The bytes that the source has left are what a command is asked about.
+abbrev pub IsWellPosed : Wish → Option (List ℕ) → Type 0
+IsWellPosed (to_solve numbers rest) left = IsProblemGiven rest (limit_of (to_solve numbers rest)) left
+IsWellPosed (to_check workers) left = IsCertificateGiven (limit_of (to_check workers)) left
 
--- Why reading ended: more bytes than the limit, a count of faults that rose, or want of memory.
-abbrev pub IsReadFault : ℕ → Option (List ℕ) → ℕ → ℕ → Fault → Type 0
-IsReadFault limit left faults faults_after TooLong = HasMoreThan limit left
-IsReadFault limit left faults faults_after Read = Rose faults faults_after
-IsReadFault limit left faults faults_after NoMemory = Unit {0}
-IsReadFault limit left faults faults_after fault = ⊥
-
--- What a problem is answered with: an answer that is true of it, or that it is left open without a mate in one.
-abbrev pub IsProblemAnswered : Board → Result Answer Fault → Type 0
-IsProblemAnswered p (Ok answer) = IsTrueOf p answer
-IsProblemAnswered p (Err NotBuilt) = IsFirstMate p.side p None
-IsProblemAnswered p (Err NoMemory) = Unit {0}
-IsProblemAnswered p (Err fault) = ⊥
+-- Why reading ended: more bytes than the limit, a count of faults that rose, or want of memory; and how much was taken.
+abbrev pub IsReadFault : ℕ → Option (List ℕ) → Option (List ℕ) → ℕ → ℕ → Fault → Type 0
+IsReadFault limit left left_after faults faults_after TooLong = HasMoreThan limit left × TookOneMoreThan limit left left_after
+IsReadFault limit left left_after faults faults_after Read = Rose faults faults_after × TookAtMost limit left left_after
+IsReadFault limit left left_after faults faults_after NoMemory = TookAtMost limit left left_after
+IsReadFault limit left left_after faults faults_after fault = ⊥
 
 -- What a certificate is answered with: an answer that is true of it.
 abbrev pub IsCertificateAnswered : Certificate → Result Answer Fault → Type 0
@@ -195,5 +195,5 @@ abbrev pub HasWritten : Option (List ℕ) → Option (List ℕ) → ℕ → ℕ 
 HasWritten kept kept_after faults faults_after answer ended None = (ended ≡ Some answer) × GrewBy kept kept_after (answer_text answer)
 HasWritten kept kept_after faults faults_after answer ended (Some Write) =
     (ended ≡ Some answer) × GrewByPrefix kept kept_after (answer_text answer) × Rose faults faults_after
-HasWritten kept kept_after faults faults_after answer ended (Some NoMemory) = (ended ≡ None) × (kept_after ≡ kept)
+HasWritten kept kept_after faults faults_after answer ended (Some NoMemory) = (ended ≡ None) × (kept_after ≡ kept) × (faults_after ≡ faults)
 HasWritten kept kept_after faults faults_after answer ended (Some fault) = ⊥

@@ -37,11 +37,27 @@ impl MainLine {
     }
 }
 
+/// Why a search gave up: which of its limits was used up. The plain search has the first limit alone, and the contract of
+/// `run` says that no other cause comes from it; the others are those of the search by proof numbers.
+#[derive(Clone, Copy, PartialEq, Eq, Debug)]
+pub enum Cause {
+    /// The expansions: so many positions had their moves listed, as many as the setting allows.
+    Expansions(u64),
+    /// The room for the facts that a certificate is made of.
+    Room(u32),
+    /// The height of such a fact.
+    Height(u32),
+}
+
 /// What was found out about a problem or a certificate.
 #[derive(Drop)]
 pub enum Answer {
-    /// It is a mate: its certificate, of a mate, and the main line.
+    /// The problem is a mate: its certificate, of a mate, and the main line.
     Mate(Certificate, MainLine),
+    /// The problem is no mate: its certificate, of an escape.
+    NoMate(Certificate),
+    /// Neither was found before a limit was used up.
+    Unknown(Cause),
     /// The certificate is valid for its own problem.
     Accepted {
         /// Whether it is a mate's; else it is an escape's.

@@ -1,17 +1,11 @@
-// Why a run ends without a verdict.
+// Why a run ends without an answer, or without its text.
 use cert_text::CertFault;
 use sfen_text::TextFault;
 use std::fmt::{self, Write};
+use tsume_words::WordFault;
 
-/// Why the words of the command line are refused.
-#[derive(Clone, Copy, PartialEq, Eq, Debug)]
-pub enum WordFault {
-    /// They ask for what isn't built yet: today all but the one word `solve` and the one word `check`.
-    NotBuilt,
-}
-
-/// Why a run ended without a verdict.
-#[derive(Clone, Copy, PartialEq, Eq, Debug)]
+/// Why a run ended without an answer, or without its text.
+#[derive(Debug, Drop)]
 pub enum Fault {
     /// The words of the command line are refused; nothing was read.
     Words(WordFault),
@@ -21,8 +15,6 @@ pub enum Fault {
     Text(TextFault),
     /// The input is no certificate: its first fault.
     Cert(CertFault),
-    /// The input is a problem without a mate in one, which today's program leaves open.
-    NotBuilt,
     /// The source failed.
     Read,
     /// The sink failed; what was found stands.
@@ -34,7 +26,7 @@ pub enum Fault {
 impl fmt::Display for Fault {
     fn fmt<W: Write>(&self, f: &mut fmt::Formatter<W>) -> fmt::Result {
         match self {
-            Fault::Words(WordFault::NotBuilt) | Fault::NotBuilt => write!(f, "not built yet"),
+            Fault::Words(fault) => write!(f, "{fault}"),
             Fault::TooLong => write!(f, "too long"),
             Fault::Text(fault) => write!(f, "{fault}"),
             Fault::Cert(fault) => write!(f, "{fault}"),

@@ -1,29 +1,26 @@
 // The run of the program.
-ghost use Rattle.std.specs.Prelude.{◌≡◌, ◌≤◌, ◌⊎◌, ℕ, IfOk, IfErr, MatchResult, Some, None, Ok, Err, length, map, string_bytes};
+ghost use Rattle.std.specs.Prelude.{◌≡◌, ◌≤◌, ◌⊎◌, IfOk, IfErr, Some, None, length};
 ghost use Rattle.tsume_io.specs.Faults.{Rose};
 ghost use Rattle.tsume_io.specs.Source.{TookAll};
-ghost use Rattle.tsume_app.specs.declared.command.Command.{Command};
-ghost use Rattle.tsume_app.specs.Command.{AsksFor};
-ghost use Rattle.tsume_app.specs.Input.{StandsFor};
+ghost use Rattle.tsume_words.specs.Given.{Wish};
+ghost use Rattle.tsume_words.specs.Meaning.{FailsFirst, command_of, texts_of, wish_of};
+ghost use Rattle.tsume_words.specs.declared.faults.WordFault.{WordFault};
 ghost use Rattle.tsume_app.specs.Answer.{HasLine};
-ghost use Rattle.tsume_app.specs.Run.{status_of, answer_status, fault_status, IsReadFault, IsProblemAnswered, IsSolveAnswered, IsInputAnswered, IsDecided, HasWritten, IsEnded, AreWordsRefused, IsWellPosed};
+ghost use Rattle.tsume_app.specs.Run.{limit_of, status_of, answer_status, fault_status, IsReadFault, IsInputAnswered, IsDecided, HasWritten, IsEnded, AreWordsRefused, IsWellPosed};
 
 use crate::answer::Answer;
-use crate::command::{Command, command_of, limit_of};
-use crate::fault::{Fault, WordFault};
-use crate::first_mate::first_mate;
+use crate::fault::Fault;
 use crate::judgement::judge_input;
-use crate::shown::shown;
+use crate::solution::solve_input;
 use crate::text::text_of;
-use sfen_text::{TextFault, read_sfen};
-use shogi_rules::{Problem, accept_problem};
 use std::alloc::Global;
 use tsume_io::{Gate, ReadEnd, Sink, Source, read_all, write_all};
+use tsume_words::{Command, WordsEnd, read_words};
 
 fn read_input<S: Source>(alloc: Global, source: &mut S, limit: usize) -> Result<Vec<u8>, Fault>
     ensures took { IfOk result (λ input. TookAll (S.left source.old) (S.left source.new) input.items) }
     ensures short { IfOk result (λ input. length input.items ≤ limit) }
-    ensures refused { IfErr result (λ fault. IsReadFault limit (S.left source.old) (S.faults source.old) (S.faults source.new) fault) }
+    ensures refused { IfErr result (λ fault. IsReadFault limit (S.left source.old) (S.left source.new) (S.faults source.old) (S.faults source.new) fault) }
 {
     match read_all(alloc, source, limit) {
         Ok(input) => Ok(input),
@@ -33,64 +30,50 @@ fn read_input<S: Source>(alloc: Global, source: &mut S, limit: usize) -> Result<
     }
 }
 
-fn problem_of(input: &[u8]) -> Result<Problem, TextFault>
-    ensures { MatchResult result (λ problem. StandsFor input.now (Ok problem.position)) (λ fault. StandsFor input.now (Err fault)) }
+fn limit_of(command: &Command) -> usize
+    ensures { result ≡ limit_of (wish_of command.now) }
 {
-    let position = read_sfen(input)?;
-    match accept_problem(position) {
-        Ok(problem) => Ok(problem),
-        Err(_) => Err(TextFault::DefenderInCheck),
+    match command {
+        Command::Solve { .. } => 65_536,
+        Command::Check { .. } => 268_435_456,
     }
 }
 
-fn answer_problem(alloc: Global, problem: &Problem) -> Result<Answer, Fault>
-    ensures answer { IsProblemAnswered problem.now.position result }
-    ensures line { IfOk result HasLine }
-{
-    let Ok(found) = first_mate(alloc, problem) else {
-        return Err(Fault::NoMemory);
-    };
-    let Some(by) = found else {
-        return Err(Fault::NotBuilt);
-    };
-    match shown(alloc, problem, by) {
-        Ok(answer) => Ok(answer),
-        Err(_) => Err(Fault::NoMemory),
-    }
-}
-
-fn solve_input(alloc: Global, input: &[u8]) -> Result<Answer, Fault>
-    ensures answer { IsSolveAnswered input.now result }
-    ensures line { IfOk result HasLine }
-{
-    match problem_of(input) {
-        Ok(problem) => answer_problem(alloc, &problem),
-        Err(fault) => Err(Fault::Text(fault)),
-    }
-}
-
-fn answer_input(alloc: Global, command: Command, input: &[u8]) -> Result<Answer, Fault>
-    ensures answer { IsInputAnswered command input.now result }
+fn answer_input<G: Gate>(
+    alloc: Global,
+    command: &Command,
+    input: &[u8],
+    gate: &G,
+) -> Result<Answer, Fault>
+    ensures answer { IsInputAnswered (wish_of command.now) input.now result }
     ensures line { IfOk result HasLine }
 {
     match command {
-        Command::Solve => solve_input(alloc, input),
-        Command::Check => judge_input(alloc, input),
+        Command::Solve { settings, rest } => {
+            solve_input(alloc, input, *rest, settings.expansions, gate)
+        }
+        Command::Check { .. } => judge_input(alloc, input),
     }
 }
 
-fn decide<S: Source>(alloc: Global, command: Command, source: &mut S) -> Result<Answer, Fault>
-    ensures decided { IsDecided command (S.left source.old) (S.left source.new) (S.faults source.old) (S.faults source.new) result }
+fn decide<S: Source, G: Gate>(
+    alloc: Global,
+    command: &Command,
+    source: &mut S,
+    gate: &G,
+) -> Result<Answer, Fault>
+    ensures decided { IsDecided (wish_of command.now) (S.left source.old) (S.left source.new) (S.faults source.old) (S.faults source.new) result }
     ensures line { IfOk result HasLine }
 {
     let input = read_input(alloc, source, limit_of(command))?;
-    answer_input(alloc, command, &input)
+    answer_input(alloc, command, &input, gate)
 }
 
 /// How a run ended.
 #[derive(Drop)]
 pub struct Ended {
-    /// The exit status: 0 for an answer, but 7 where a certificate is refused; 2 where the words are refused, 3 where the
+    /// The exit status: 0 for a verdict or an accepted certificate, 1 where a search gave up, 7 where a certificate is
+    /// refused; 2 where the words are refused, 3 where the
     /// input is, 4 where the source failed, 5 where the sink failed, 6 for want of memory.
     pub status: u8,
     /// The answer, also where its text could not be written whole.
@@ -103,17 +86,18 @@ fn answer_status(answer: &Option<Answer>) -> u8
     ensures { result ≡ answer_status answer.now }
 {
     match answer {
+        Some(Answer::Unknown(_)) => 1,
         Some(Answer::Refused { .. }) => 7,
         _ => 0,
     }
 }
 
-fn fault_status(fault: Fault) -> u8
-    ensures { result ≡ fault_status fault }
+fn fault_status(fault: &Fault) -> u8
+    ensures { result ≡ fault_status fault.now }
 {
     match fault {
         Fault::Words(_) => 2,
-        Fault::TooLong | Fault::Text(_) | Fault::Cert(_) | Fault::NotBuilt => 3,
+        Fault::TooLong | Fault::Text(_) | Fault::Cert(_) => 3,
         Fault::Read => 4,
         Fault::Write => 5,
         Fault::NoMemory => 6,
@@ -125,7 +109,7 @@ fn end_with(answer: Option<Answer>, fault: Option<Fault>) -> Ended
     ensures answer { result.answer ≡ answer }
     ensures fault { result.fault ≡ fault }
 {
-    let status = match fault {
+    let status = match &fault {
         None => answer_status(&answer),
         Some(fault) => fault_status(fault),
     };
@@ -150,13 +134,14 @@ fn write_answer<K: Sink>(alloc: Global, sink: &mut K, answer: Answer) -> Ended
     end_with(Some(answer), None)
 }
 
-fn answer<S: Source, K: Sink>(
+fn answer<S: Source, K: Sink, G: Gate>(
     alloc: Global,
-    command: Command,
+    command: &Command,
     source: &mut S,
     sink: &mut K,
+    gate: &G,
 ) -> Ended
-    ensures ended { IsEnded command (record {
+    ensures ended { IsEnded (wish_of command.now) (record {
       left = S.left source.old;
       left_after = S.left source.new;
       kept = K.kept sink.old;
@@ -168,24 +153,25 @@ fn answer<S: Source, K: Sink>(
     }) result.answer result.fault }
     ensures status { result.status ≡ status_of result.answer result.fault }
 {
-    match decide(alloc, command, source) {
+    match decide(alloc, command, source, gate) {
         Ok(answer) => write_answer(alloc, sink, answer),
         Err(fault) => end_with(None, Some(fault)),
     }
 }
 
-/// Runs the program on the words of the command line, those behind the program's name. Today there are two commands, each of
-/// one word; other words are refused before anything is read.
+/// Runs the program on the words of the command line, those behind the program's name. What they ask for is what clap says
+/// of them, and three tests after it; words that are refused, and a request for help, end the run before anything is read.
 ///
-/// `solve` reads a problem (SFEN) from the source. Where it is a mate in one, it writes to the sink the USI answer with the
-/// first check, in the order of moves, after which there is no answer, and the mate's certificate; any other problem it
-/// leaves open today. `check` reads a certificate, perhaps behind the line of the USI answer, and writes whether it is valid
-/// for its own problem, or the first reason why it isn't.
+/// `solve` reads a problem (SFEN) from the source; with `--rest` the defender is first given all pieces that are neither on
+/// the board nor in a hand. It writes to the sink the USI answer that the problem is a mate, with a main line, or that it is
+/// none, and the certificate; or, where the expansions were used up first, that it was given up. `check` reads a certificate,
+/// perhaps behind the line of the USI answer, and writes whether it is valid for its own problem, or the first reason why it
+/// isn't.
 ///
 /// Everything else ends with a named fault and its cause: more than 65,536 bytes of a problem or 268,435,456 of a
 /// certificate; a text that is no problem or no certificate, with its first fault; a source or a sink whose count of faults
-/// rose; want of memory. The whole text is made before the first write. The gate isn't used yet. (The tsume rule; USI
-/// protocol: `checkmate`.)
+/// rose; want of memory. The whole text is made before the first write. The gate is passed for each position whose moves are
+/// listed, as worker 1. (The tsume rule; USI protocol: `checkmate`.)
 pub fn run<S: Source, K: Sink, G: Gate>(
     alloc: Global,
     words: Vec<String>,
@@ -193,8 +179,9 @@ pub fn run<S: Source, K: Sink, G: Gate>(
     sink: &mut K,
     gate: &G,
 ) -> Ended
-    // What a command did: a printed mate is one, an accepted certificate is valid, each refusal has its cause.
-    ensures ended { (command : Command) → AsksFor (map string_bytes words.items) command → IsEnded command (record {
+    // What a command did: a printed mate is one, a printed "no mate" means that there is none, each with a certificate that the
+    // checker accepts; an accepted certificate is valid; each refusal has its cause.
+    ensures ended { (wish : Wish) → command_of (texts_of words.items) ≡ Some wish → IsEnded wish (record {
       left = S.left source.old;
       left_after = S.left source.new;
       kept = K.kept sink.old;
@@ -206,8 +193,8 @@ pub fn run<S: Source, K: Sink, G: Gate>(
     }) result.answer result.fault }
     ensures status { result.status ≡ status_of result.answer result.fault }
 
-    // Words that ask for no command are refused before anything is read.
-    ensures words { ((command : Command) → ¬ AsksFor (map string_bytes words.items) command) → AreWordsRefused (record {
+    // Words that ask for nothing are refused before anything is read, with the cause.
+    ensures words { command_of (texts_of words.items) ≡ None → AreWordsRefused (texts_of words.items) (record {
       left = S.left source.old;
       left_after = S.left source.new;
       kept = K.kept sink.old;
@@ -218,13 +205,18 @@ pub fn run<S: Source, K: Sink, G: Gate>(
       sink_faults_after = K.faults sink.new;
     }) result.answer result.fault }
 
-    // A problem with a mate in one, and a certificate's text, are answered, unless the outside fails or memory is wanted.
-    ensures complete { (command : Command) → AsksFor (map string_bytes words.items) command → IsWellPosed command (S.left source.old)
+    // Each of the three tests after clap is named where it is the first to fail.
+    ensures stopped { (fault : WordFault) → FailsFirst (texts_of words.items) fault
+        → (result.fault ≡ Some (Fault.Words fault)) ⊎ (result.fault ≡ Some Fault.NoMemory) }
+
+    // A problem's and a certificate's text are answered, unless the outside fails or memory is wanted.
+    ensures complete { (wish : Wish) → command_of (texts_of words.items) ≡ Some wish → IsWellPosed wish (S.left source.old)
         → ¬ Rose (S.faults source.old) (S.faults source.new) → ¬ Rose (K.faults sink.old) (K.faults sink.new)
         → (result.fault ≡ None) ⊎ (result.fault ≡ Some Fault.NoMemory) }
 {
-    match command_of(&words) {
-        Some(command) => answer(alloc, command, source, sink),
-        None => end_with(None, Some(Fault::Words(WordFault::NotBuilt))),
+    match read_words(alloc, words) {
+        Ok(command) => answer(alloc, &command, source, sink, gate),
+        Err(WordsEnd::Fault(fault)) => end_with(None, Some(Fault::Words(fault))),
+        Err(WordsEnd::NoMemory) => end_with(None, Some(Fault::NoMemory)),
     }
 }

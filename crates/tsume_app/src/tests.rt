@@ -17,10 +17,10 @@ fn answered(answer: &Option<Answer>) -> bool {
     answer.is_some()
 }
 
-// A run on one word, with a source and a sink of these pieces that fail at the calls of these numbers, 0 for none.
+// A run on words with a space between each, with a source and a sink of these pieces that fail at the calls of these numbers, 0 for none.
 fn seen_of(
     alloc: Global,
-    word: &str,
+    line: &str,
     input: &str,
     source: (usize, u64),
     sink: (usize, u64),
@@ -29,10 +29,12 @@ fn seen_of(
         return Err(Fail::from("no piece"));
     }
     let mut words = Vec::new(alloc);
-    words.push(String::from_str(alloc, word)?)?;
+    for word in line.split(' ').filter(|word| !word.is_empty()) {
+        words.push(String::from_str(alloc, word)?)?;
+    }
     let bytes = Vec::from_slice(alloc, input.as_bytes())?;
     let mut from = MemSource::make(bytes, source.0, Vec::from_slice(alloc, &[source.1])?);
-    let mut to = MemSink::make(alloc, 4096, sink.0, Vec::from_slice(alloc, &[sink.1])?)?;
+    let mut to = MemSink::make(alloc, 65_536, sink.0, Vec::from_slice(alloc, &[sink.1])?)?;
     let ended: Ended = run(alloc, words, &mut from, &mut to, &OpenGate);
     let fault = match &ended.fault {
         Some(fault) => format!(in alloc; "{fault}")?,
@@ -63,11 +65,25 @@ const ESCAPE: &str =
 const OPEN_ESCAPE: &str =
     "certificate 1 escape 2\nproblem 4k4/9/4P4/9/9/9/9/9/9 b P\n4k4/9/4P4/9/9/9/9/9/9 b P\n9/4k4/9/9/9/9/9/9/9 b Pp\nend\n";
 
+const TWO_ROOKS: &str = "9/4k4/8R/9/9/9/9/9/9 b R 1\n";
+
+const TWO_ROOKS_TEXT: &str =
+    "checkmate R*2b 5b4a 1c1a\ncertificate 1 mate 4\nproblem 9/4k4/8R/9/9/9/9/9/9 b R\n1 1c1a 3k5/7R1/8R/9/9/9/9/9/9 b -\n1 1c1a 4k4/7R1/8R/9/9/9/9/9/9 b -\n1 1c1a 5k3/7R1/8R/9/9/9/9/9/9 b -\n2 R*2b 9/4k4/8R/9/9/9/9/9/9 b R\nend\n";
+
+const NO_CHECK_TEXT: &str =
+    "checkmate nomate\ncertificate 1 escape 1\nproblem 4k4/9/9/9/9/9/9/9/9 b -\n4k4/9/9/9/9/9/9/9/9 b -\nend\n";
+
+const IN_CHECK_TEXT: &str =
+    "checkmate nomate\ncertificate 1 escape 1\nproblem 4k4/9/4P4/9/9/9/9/9/4K3r b G\n4k4/9/4P4/9/9/9/9/9/4K3r b G\nend\n";
+
+const REST_TEXT: &str =
+    "checkmate G*5b\ncertificate 1 mate 1\nproblem 4k4/9/4P4/9/9/9/9/9/9 b G2r2b3g4s4n4l17p\n1 G*5b 4k4/9/4P4/9/9/9/9/9/9 b G2r2b3g4s4n4l17p\nend\n";
+
 #[test]
 fn a_run_ends_as_it_should(rt: HostRuntime) -> Result<(), Fail> {
-    // A word, an input, and the status, the fault's text and what is kept.
+    // Words, an input, and the status, the fault's text and what is kept.
     let table = [
-        ("solve", GOLD, 0, "", GOLD_TEXT),
+        ("solve --workers 4", GOLD, 0, "", GOLD_TEXT),
         ("solve", "9/9/9/9/9/9/4p4/9/4K4 w g 1\n", 0, "", WHITE_TEXT),
         // 5c5b+ and G*5b both mate: the move on the board comes first in the order of moves.
         (
@@ -77,20 +93,30 @@ fn a_run_ends_as_it_should(rt: HostRuntime) -> Result<(), Fail> {
             "",
             FIRST_TEXT,
         ),
-        // The pawn's drop would be mate, and is illegal.
+        ("solve", TWO_ROOKS, 0, "", TWO_ROOKS_TEXT),
+        ("solve --rest", GOLD, 0, "", REST_TEXT),
+        // No check, told by the last unit; and units used up before anything is told.
         (
-            "solve",
-            "8k/9/6NG1/9/9/9/9/9/9 b P 1\n",
-            3,
-            "not built yet",
+            "solve --expansions 1",
+            "4k4/9/9/9/9/9/9/9/9 b - 1\n",
+            0,
             "",
+            NO_CHECK_TEXT,
         ),
         (
-            "solve",
-            "4k4/9/9/9/9/9/9/9/9 b - 1\n",
-            3,
-            "not built yet",
+            "solve --expansions 1",
+            TWO_ROOKS,
+            1,
             "",
+            "checkmate timeout\nunknown expansions 1\n",
+        ),
+        // The attacker is in check himself, and no check parries.
+        (
+            "solve",
+            "4k4/9/4P4/9/9/9/9/9/4K3r b G 1\n",
+            0,
+            "",
+            IN_CHECK_TEXT,
         ),
         ("solve", "", 3, "bad row at 0", ""),
         (
@@ -102,36 +128,64 @@ fn a_run_ends_as_it_should(rt: HostRuntime) -> Result<(), Fail> {
         ),
         ("solve", "9/9/9/9/9/9/9/9/p8 b 18P 1\n", 3, "too many P", ""),
         ("check", GOLD_TEXT, 0, "", "accepted mate 1\n"),
-        ("check", ESCAPE, 0, "", "accepted escape 3\n"),
+        ("check --workers 2", ESCAPE, 0, "", "accepted escape 3\n"),
         ("check", OPEN_ESCAPE, 7, "", "refused 2 unanswered P*5c\n"),
         ("check", GOLD, 3, "bad head", ""),
-        ("mate", GOLD, 2, "not built yet", ""),
     ];
-    for (word, input, status, fault, kept) in table {
-        let seen = seen_of(rt.alloc(), word, input, (7, 0), (11, 0))?;
-        assert_eq!(rt; seen.status, status, "{word} {input}");
-        assert!(rt; seen.fault.as_str() == fault, "{word} {input}");
-        assert!(rt; seen.kept.as_slice() == kept.as_bytes(), "{word} {input}");
+    for (words, input, status, fault, kept) in table {
+        let seen = seen_of(rt.alloc(), words, input, (7, 0), (11, 0))?;
+        assert_eq!(rt; seen.status, status, "{words} {input}");
+        assert!(rt; seen.fault.as_str() == fault, "{words} {input}");
+        assert!(rt; seen.kept.as_slice() == kept.as_bytes(), "{words} {input}");
     }
     Ok(())
 }
 
 #[test]
-fn a_printed_mate_is_accepted(rt: HostRuntime) -> Result<(), Fail> {
-    let problems = [
-        GOLD,
-        "9/9/9/9/9/9/4p4/9/4K4 w g 1\n",
-        "4k4/9/4P4/4L4/9/9/9/9/9 b G 1\n",
-        "position sfen 4k4/9/22P4/9/9/9/9/9/9 b 1G",
+fn words_are_refused_before_anything_is_read(rt: HostRuntime) -> Result<(), Fail> {
+    // Words, and a part of the fault's text. The source would fail at its first read.
+    let table = [
+        ("", "Usage"),
+        ("mate", "mate"),
+        ("solve --workers 0", "1..=64"),
+        ("solve --kif", "--kif"),
+        ("solve --help", "--expansions"),
+        ("solve --rows 24", "rows is no power of two"),
+        ("solve --shards 3 --rows 24", "rows is no power of two"),
+        ("solve --shards 3", "shards is no power of two"),
+        ("solve --rows 16 --shards 32", "more shards than rows"),
     ];
-    for problem in problems {
+    for (words, part) in table {
+        let seen = seen_of(rt.alloc(), words, GOLD, (7, 1), (11, 0))?;
+        assert_eq!(rt; seen.status, 2, "{words}");
+        assert!(rt; seen.fault.as_str().contains(part), "{words}");
+        assert!(rt; seen.kept.is_empty(), "{words}");
+    }
+    Ok(())
+}
+
+#[test]
+fn a_printed_verdict_is_accepted(rt: HostRuntime) -> Result<(), Fail> {
+    // A problem, and how the checker's answer to what is printed for it begins.
+    let table = [
+        (GOLD, "accepted mate 1\n"),
+        ("9/9/9/9/9/9/4p4/9/4K4 w g 1\n", "accepted mate 1\n"),
+        (
+            "position sfen 4k4/9/22P4/9/9/9/9/9/9 b 1G",
+            "accepted mate 1\n",
+        ),
+        (TWO_ROOKS, "accepted mate 4\n"),
+        // A second pawn on the file is no drop; the pawn's own moves are answered.
+        ("4k4/9/4P4/9/9/9/9/9/9 b P 1\n", "accepted escape "),
+    ];
+    for (problem, verdict) in table {
         let solved = seen_of(rt.alloc(), "solve", problem, (7, 0), (11, 0))?;
         assert_eq!(rt; solved.status, 0, "{problem}");
         let text = String::from_utf8(solved.kept)?;
         let checked = seen_of(rt.alloc(), "check", text.as_str(), (5, 0), (3, 0))?;
         assert_eq!(rt; checked.status, 0, "{problem}");
         assert!(rt;
-            checked.kept.as_slice() == b"accepted mate 1\n".as_slice(),
+            checked.kept.as_slice().starts_with(verdict.as_bytes()),
             "{problem}"
         );
     }
@@ -153,6 +207,39 @@ fn a_failing_outside_is_told(rt: HostRuntime) -> Result<(), Fail> {
         assert!(rt; seen.fault.as_str() == fault, "{source} {sink}");
         assert!(rt; seen.kept.as_slice() == kept.as_bytes(), "{source} {sink}");
         assert_eq!(rt; seen.answered, status == 5, "{source} {sink}");
+    }
+    Ok(())
+}
+
+#[test]
+fn an_outside_that_fails_at_any_call_is_told(rt: HostRuntime) -> Result<(), Fail> {
+    // The problem's 28 bytes come in four reads and are known to be all by a fifth.
+    for call in 1..9u64 {
+        let failed = call <= 5;
+        let seen = seen_of(rt.alloc(), "solve", GOLD, (7, call), (11, 0))?;
+        assert_eq!(rt; seen.status, if failed { 4 } else { 0 }, "{call}");
+        assert_eq!(rt; seen.kept.len(), if failed { 0 } else { 107 }, "{call}");
+        assert_eq!(rt; seen.answered, !failed, "{call}");
+    }
+    // The answer's 107 bytes go in ten writes of 11.
+    for call in 1..13u64 {
+        let failed = call <= 10;
+        let seen = seen_of(rt.alloc(), "solve", GOLD, (7, 0), (11, call))?;
+        assert_eq!(rt; seen.status, if failed { 5 } else { 0 }, "{call}");
+        assert_eq!(rt;
+            seen.kept.len(),
+            if failed {
+                11 * (call as usize - 1)
+            } else {
+                107
+            },
+            "{call}"
+        );
+        assert!(rt;
+            GOLD_TEXT.as_bytes().starts_with(seen.kept.as_slice()),
+            "{call}"
+        );
+        assert!(rt; seen.answered, "{call}");
     }
     Ok(())
 }

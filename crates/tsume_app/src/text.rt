@@ -4,16 +4,16 @@ ghost use Rattle.std.specs.Fmt.{decimal};
 ghost use Rattle.usi_text.specs.MoveText.{move_text};
 ghost use Rattle.usi_text.specs.Lines.{AllHaveText};
 ghost use Rattle.cert_text.specs.Text.{line, certificate_text};
-ghost use Rattle.usi_text.specs.Lines.{mate_text};
-ghost use Rattle.tsume_app.specs.Answer.{answer_text, why_text, kind_text, HasLine};
+ghost use Rattle.usi_text.specs.Lines.{mate_text, nomate_text, timeout_text};
+ghost use Rattle.tsume_app.specs.Answer.{answer_text, cause_text, why_text, kind_text, HasLine};
 
-use crate::answer::{Answer, MainLine};
+use crate::answer::{Answer, Cause, MainLine};
 use board_core::{Move, NoMemory};
 use cert_check::Why;
 use cert_text::{Certificate, write_cert};
 use itoa::Buffer;
 use std::alloc::Global;
-use usi_text::{mate_line, write_move};
+use usi_text::{mate_line, nomate_line, timeout_line, write_move};
 
 fn put_number(out: &mut Vec<u8>, number: u64) -> Result<(), NoMemory>
     ensures { OnOk result (out.new.items ≡ out.old.items ++ decimal number) }
@@ -61,6 +61,44 @@ fn mate_answer(
     Ok(text)
 }
 
+fn no_mate_answer(alloc: Global, certificate: &Certificate) -> Result<Vec<u8>, NoMemory>
+    ensures { IfOk result (λ text. text.items ≡ line nomate_text ++ certificate_text certificate.now) }
+{
+    let mut text = nomate_line(alloc)?;
+    text.push(b'\n')?;
+    let rest = write_cert(alloc, certificate)?;
+    text.extend_from_slice(&rest)?;
+    Ok(text)
+}
+
+fn put_limit(out: &mut Vec<u8>, word: &[u8], limit: u64) -> Result<(), NoMemory>
+    ensures { OnOk result (out.new.items ≡ out.old.items ++ (word.now ++ decimal limit)) }
+{
+    out.extend_from_slice(word)?;
+    put_number(out, limit)?;
+    Ok(())
+}
+
+fn put_cause(out: &mut Vec<u8>, cause: Cause) -> Result<(), NoMemory>
+    ensures { OnOk result (out.new.items ≡ out.old.items ++ cause_text cause) }
+{
+    match cause {
+        Cause::Expansions(units) => put_limit(out, b"expansions ", units),
+        Cause::Room(facts) => put_limit(out, b"room ", u64::from(facts)),
+        Cause::Height(height) => put_limit(out, b"height ", u64::from(height)),
+    }
+}
+
+fn unknown(alloc: Global, cause: Cause) -> Result<Vec<u8>, NoMemory>
+    ensures { IfOk result (λ text. text.items ≡ line timeout_text ++ line (codes "unknown " ++ cause_text cause)) }
+{
+    let mut text = timeout_line(alloc)?;
+    text.extend_from_slice(b"\nunknown ")?;
+    put_cause(&mut text, cause)?;
+    text.push(b'\n')?;
+    Ok(text)
+}
+
 fn accepted(alloc: Global, mate: bool, entries: u64) -> Result<Vec<u8>, NoMemory>
     ensures { IfOk result (λ text. text.items ≡ line (codes "accepted " ++ kind_text mate ++ 32 ∷ decimal entries)) }
 {
@@ -91,6 +129,8 @@ pub(crate) fn text_of(alloc: Global, answer: &Answer) -> Result<Vec<u8>, NoMemor
 {
     match answer {
         Answer::Mate(certificate, moves) => mate_answer(alloc, certificate, moves),
+        Answer::NoMate(certificate) => no_mate_answer(alloc, certificate),
+        Answer::Unknown(cause) => unknown(alloc, *cause),
         Answer::Accepted { mate, entries } => accepted(alloc, *mate, *entries),
         Answer::Refused { entry, why } => refused(alloc, *entry, *why),
     }
