@@ -1,5 +1,5 @@
 // Finding a position among those of a list.
-ghost use Rattle.std.specs.Prelude.{◌≡◌, ◌++◌, ◌∷◌, [], ◌↔◌, List, length, OnOk, IsTrue, Contains};
+ghost use Rattle.std.specs.Prelude.{◌≡◌, ◌++◌, ◌∷◌, [], ◌↔◌, List, length, OnOk, OnErr, IsTrue, Contains};
 ghost use Rattle.board_core.specs.Board.{Board};
 ghost use Rattle.cert_check.specs.Places.{ArePlacesOf, IsPlace};
 
@@ -23,9 +23,11 @@ impl Places {
         }
     }
 
-    /// Takes one more position, behind the others: its place is how many there are. Errors: want of memory alone.
+    /// Takes one more position, behind the others: its place is how many there are. Errors: want of memory alone, and then the
+    /// places stay those of the positions before.
     pub fn add(&mut self, position: &Position, place: usize) -> Result<(), NoMemory>
-        ensures { OnOk result ((positions : List Board) → ArePlacesOf self.old positions → place ≡ length positions → ArePlacesOf self.new (positions ++ position.now ∷ [])) }
+        ensures added { OnOk result ((positions : List Board) → ArePlacesOf self.old positions → place ≡ length positions → ArePlacesOf self.new (positions ++ position.now ∷ [])) }
+        ensures unchanged { OnErr result ((positions : List Board) → ArePlacesOf self.old positions → ArePlacesOf self.new positions) }
     {
         self.by_key.insert(key(position), place)?;
         Ok(())

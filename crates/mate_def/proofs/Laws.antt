@@ -1,9 +1,6 @@
-use Rattle.std.proofs.Common.{◌≡◌, ◌≤◌, ◌<◌, ◌⊎◌, inl, inr, ℕ, zero, suc, List, [], Contains, arith}
+use Rattle.std.proofs.Common.{◌≤◌, ◌⊎◌, inl, inr, ℕ, zero, suc, List, [], Contains, arith}
 use Rattle.board_core.specs.declared.piece.Side.{Side}
-use Rattle.board_core.specs.declared.moves.Move.{Move}
 use Rattle.board_core.specs.Board.{Board}
-use Rattle.shogi_rules.specs.Rules.{after}
-use Rattle.shogi_rules.specs.Tsume.{IsAnswer}
 use Rattle.mate_def.specs.Mate.{after_both, RankAtMost, IsMate, IsClosed, Escapes, MateInOne}
 
 pub rank_grows_to : (attacker : Side) (n m : ℕ) (b : Board) → n ≤ m → RankAtMost attacker n b → RankAtMost attacker m b

@@ -1,6 +1,6 @@
 -- What a mate and an escape are. The attacker only gives check, the defender makes any legal move, and play without end is
 -- no mate.
-use Rattle.std.specs.Prelude.{◌≡◌, ◌⊎◌, ◌+◌, ◌≤◌, ℕ, zero, suc, List, [], Contains}
+use Rattle.std.specs.Prelude.{◌⊎◌, ◌≤◌, ℕ, zero, suc, List, [], Contains}
 use Rattle.board_core.specs.declared.piece.Side.{Side}
 use Rattle.board_core.specs.declared.moves.Move.{Move}
 use Rattle.board_core.specs.Board.{Board}
@@ -24,8 +24,8 @@ RankAtMost attacker (suc n) b =
 abbrev pub IsMate : Side → Board → Type 0
 IsMate attacker b = (n : ℕ) × RankAtMost attacker n b
 
--- The positions of s are closed, but for those of t: each check from each position of s has an answer that leads to a
--- position of s or of t.
+-- The positions of s, the attacker's to move, are closed, but for those of t: each check from each position of s has an answer
+-- that leads to a position of s or of t. (Of a position that is the defender's to move nothing is asked: there is no check.)
 abbrev pub IsClosed : Side → List Board → List Board → Type 0
 IsClosed attacker s t = (b : Board) (check : Move) → Contains s b → IsCheck attacker b check
     → (answer : Move) × IsAnswer attacker (after b check) answer
@@ -47,11 +47,12 @@ EscapeIsNoMate = (attacker : Side) (b : Board) → Escapes attacker b → ¬ IsM
 abbrev pub RankGrows : Type 0
 RankGrows = (attacker : Side) (n m : ℕ) (b : Board) → n ≤ m → RankAtMost attacker n b → RankAtMost attacker m b
 
--- A law: a check without an answer is a mate within one move, and only such a check is.
+-- The position has a check without an answer.
 pub record MateInOne (attacker : Side) (b : Board) : Type 0 where
   pub check : Move
   pub is_check : IsCheck attacker b check
   pub no_answer : (answer : Move) → ¬ IsAnswer attacker (after b check) answer
 
+-- A law: a check without an answer is a mate within one move, and only such a check is.
 abbrev pub RankOne : Type 0
 RankOne = (attacker : Side) (b : Board) → (MateInOne attacker b → RankAtMost attacker 1 b) × (RankAtMost attacker 1 b → MateInOne attacker b)

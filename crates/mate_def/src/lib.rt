@@ -1,7 +1,7 @@
 //! What a mate and an escape of a tsume problem are, and the laws about them.
 //!
 //! The definitions are in `specs/Mate.antt`: a mate is a finite strategy of checks against every legal defence, an escape a
-//! finite set of positions that no check leads out of. Each function here takes nothing and does nothing: its contract is a
+//! finite set of positions each check from which has an answer back into it. Each function here takes nothing and does nothing: its contract is a
 //! law about these definitions. Takes no memory.
 #![tactic(auto)]
 

@@ -1,5 +1,5 @@
--- What a plain search prints, exactly: of all certificates the one with the least ranks, the first moves, and nothing more than
--- these lead to.
+-- What a plain search comes to, exactly: the certificate with the least ranks that the known positions tell, the first moves of
+-- these ranks, and nothing more than they lead to.
 use Rattle.std.specs.Prelude.{◌≡◌, ◌≤◌, ◌<◌, ℕ, zero, suc, List, Contains, length, min, take}
 use Rattle.board_core.specs.declared.piece.Side.{Side}
 use Rattle.board_core.specs.declared.moves.Move.{Move}
@@ -40,7 +40,8 @@ pub record IsPlainMate (p : Board) (known : List Board) (c : Mating) : Type 0 wh
   pub entries : (entry : MateEntry) → Contains c.entries entry → IsPlainEntry p.side known entry
   pub reached : (entry : MateEntry) (positions : List Board) → Contains c.entries entry → HoldsMate p c positions → Contains positions entry.at
 
--- The first answer to a check that leads into the set of known positions that no check leads out of.
+-- The first answer to a check, in the order of moves, that leads into known positions each check from which has an answer back
+-- into them.
 pub record IsFirstInto (attacker : Side) (known : List Board) (b : Board) (check answer : Move) : Type 0 where
   pub is_answer : IsAnswer attacker (after b check) answer
   pub into : IsHeldWithin attacker known (after_both b check answer)

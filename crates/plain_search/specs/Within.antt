@@ -8,8 +8,8 @@ use Rattle.shogi_rules.specs.Tsume.{IsCheck, IsAnswer}
 use Rattle.mate_def.specs.Mate.{after_both}
 use Rattle.plain_search.specs.Queue.{IsQueue}
 
--- The position is mate within a number of the attacker's moves, and only known positions are needed to see it: there is a
--- check that leads to a known position, and each answer leads to a known one that is mate within one move less.
+-- The position is mate within a number of the attacker's moves, and only known positions are needed to see it: it is known,
+-- there is a check that leads to a known position, and each answer leads to a known one that is mate within one move less.
 abbrev pub RankWithin : Side → List Board → ℕ → Board → Type 0
 RankWithin attacker known zero b = ⊥
 RankWithin attacker known (suc n) b =
@@ -32,8 +32,8 @@ pub record IsHeldWithin (attacker : Side) (known : List Board) (p : Board) : Typ
   pub sides : (b : Board) → Contains held b → b.side ≡ attacker
   pub answered : (b : Board) (check : Move) → Contains held b → IsCheck attacker b check → IsAnsweredWithin attacker known held b check
 
--- After this many units of a search neither is told of the position: no number of moves within which it is mate, and no set
--- of positions that holds it.
+-- After this many units of a search the positions that they listed, the first so many of the queue, tell neither of the position:
+-- no number of moves within which it is mate, and no set of positions that holds it.
 pub record IsUndecided (p : Board) (units : ℕ) : Type 0 where
   pub queue : List Board
   pub is_queue : IsQueue p units queue

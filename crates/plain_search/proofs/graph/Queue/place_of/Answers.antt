@@ -9,7 +9,7 @@ returns-clause-kept c = λ p kept in_play.
     let place : c.len-place.result ≡ length c.args.self.now.positions.items = omega (arith, c.args.self.now.positions.ok.0) in
     kept_more p c.args.position.now c.args.self.now (record { positions = c.push.new.self; places = c.add.new.self }) kept in_play
     (c.in_default.ensures c.args.self.now.positions.items kept.places) c.in_ok-push.ensures.items
-    (c.in_ok-add.ensures c.args.self.now.positions.items kept.places place)
+    (c.in_ok-add.ensures.added c.args.self.now.positions.items kept.places place)
 
 pub returns-clause-there : goal.returns-clause-there
 returns-clause-there c = λ p kept.
