@@ -21,9 +21,16 @@ fn tell(rt: &HostRuntime, fault: &Fault) {
 }
 
 fn main(rt: HostRuntime) -> ExitCode {
-    let Ok(words) = words(&rt) else {
-        tell(&rt, &Fault::NoMemory);
-        return ExitCode::from(6);
+    let words = match words(&rt) {
+        Ok(words) => words,
+        Err(error) if error.kind() == io::ErrorKind::InvalidData => {
+            let _ = eprintln!(rt; "tsume: a word is not UTF-8");
+            return ExitCode::from(2);
+        }
+        Err(_) => {
+            tell(&rt, &Fault::NoMemory);
+            return ExitCode::from(6);
+        }
     };
     let mut source = StdSource::new(rt.reader());
     let mut sink = StdSink::new(io::writer(&rt));

@@ -162,8 +162,8 @@ fn answer<S: Source, K: Sink, G: Gate>(
 /// Runs the program on the words of the command line, those behind the program's name. What they ask for is what clap says
 /// of them, and three tests after it; words that are refused, and a request for help, end the run before anything is read.
 ///
-/// `solve` reads a problem (SFEN) from the source; with `--rest` the defender is first given all pieces that are neither on
-/// the board nor in a hand. It writes to the sink the USI answer that the problem is a mate, with a main line, or that it is
+/// `solve` reads a problem (SFEN) from the source; with `--rest` the defender is first given all pieces but kings that are
+/// neither on the board nor in a hand. It writes to the sink the USI answer that the problem is a mate, with a main line, or that it is
 /// none, and the certificate; or, where the expansions were used up first, that it was given up. `check` reads a certificate,
 /// perhaps behind the line of the USI answer, and writes whether it is valid for its own problem, or the first reason why it
 /// isn't.

@@ -1,8 +1,9 @@
 // Whole runs over a source and a sink in memory.
 use crate::{Answer, Ended, run};
 use std::alloc::Global;
+use std::sync::atomic::{AtomicU64, Ordering};
 use std::test::Fail;
-use tsume_io::{MemSink, MemSource, OpenGate};
+use tsume_io::{Gate, MemSink, MemSource, OpenGate};
 
 // What a run did: how it ended, and what the sink kept.
 #[derive(Drop)]
@@ -241,5 +242,40 @@ fn an_outside_that_fails_at_any_call_is_told(rt: HostRuntime) -> Result<(), Fail
         );
         assert!(rt; seen.answered, "{call}");
     }
+    Ok(())
+}
+
+// A gate that counts how often it is passed, and how often not as the first worker with the next number.
+#[derive(Drop)]
+struct Counting {
+    passed: AtomicU64,
+    wrong: AtomicU64,
+}
+
+impl Gate for Counting {
+    fn pass(&self, worker: u32, unit: u64) {
+        let before = self.passed.fetch_add(1, Ordering::SeqCst);
+        if worker != 1 || unit != before.wrapping_add(1) {
+            self.wrong.fetch_add(1, Ordering::SeqCst);
+        }
+    }
+}
+
+#[test]
+fn the_gate_is_passed_for_each_position(rt: HostRuntime) -> Result<(), Fail> {
+    let mut words = Vec::new(rt.alloc());
+    words.push(String::from_str(rt.alloc(), "solve")?)?;
+    let bytes = Vec::from_slice(rt.alloc(), GOLD.as_bytes())?;
+    let mut from = MemSource::make(bytes, 7, Vec::new(rt.alloc()));
+    let mut to = MemSink::make(rt.alloc(), 4096, 11, Vec::new(rt.alloc()))?;
+    let gate = Counting {
+        passed: AtomicU64::new(0),
+        wrong: AtomicU64::new(0),
+    };
+    let ended = run(rt.alloc(), words, &mut from, &mut to, &gate);
+    assert_eq!(rt; ended.status, 0);
+    // The problem, and what its seven checks lead to.
+    assert_eq!(rt; gate.passed.load(Ordering::SeqCst), 8);
+    assert_eq!(rt; gate.wrong.load(Ordering::SeqCst), 0);
     Ok(())
 }

@@ -66,8 +66,8 @@ fn no_mate_answer(alloc: Global, certificate: &Certificate) -> Result<Vec<u8>, N
 {
     let mut text = nomate_line(alloc)?;
     text.push(b'\n')?;
-    let rest = write_cert(alloc, certificate)?;
-    text.extend_from_slice(&rest)?;
+    let written = write_cert(alloc, certificate)?;
+    text.extend_from_slice(&written)?;
     Ok(text)
 }
 
