@@ -1,0 +1,80 @@
+#!/usr/bin/env python3
+"""Lets each allocation of a built `tsume` fail, one a run, and prints those runs that end in another way than the whole run does
+or with `out of memory`, status 6 and nothing printed.
+
+usage: docs/failing_allocations.py PROGRAM     at the top of the repository; wants gcc
+"""
+import os, subprocess, sys, tempfile
+
+SHIM = r"""
+#define _GNU_SOURCE
+#include <dlfcn.h>
+#include <errno.h>
+#include <stdio.h>
+#include <stdlib.h>
+#include <unistd.h>
+static long count = 0, at = -1;
+static void *(*next_malloc)(size_t);
+static void *(*next_realloc)(void *, size_t);
+static void setup(void) {
+    if (next_malloc) return;
+    next_malloc = dlsym(RTLD_NEXT, "malloc");
+    next_realloc = dlsym(RTLD_NEXT, "realloc");
+    const char *text = getenv("FAIL_AT");
+    if (text) at = atol(text);
+}
+static int fails(void) { if (++count != at) return 0; errno = ENOMEM; return 1; }
+void *malloc(size_t size) { setup(); return fails() ? 0 : next_malloc(size); }
+void *realloc(void *old, size_t size) { setup(); return size && fails() ? 0 : next_realloc(old, size); }
+__attribute__((destructor)) static void done(void) {
+    if (getenv("FAIL_COUNT")) { char line[64]; write(2, line, snprintf(line, sizeof line, "allocations %ld\n", count)); }
+}
+"""
+CASES = [
+    (["solve"], "gold-drop-mates.sfen"),
+    (["solve", "--rest"], "gold-drop-mates.sfen"),
+    (["solve"], "two-rooks.sfen"),
+    (["solve"], "second-pawn-on-the-file.sfen"),
+    (["solve", "--expansions", "20"], "two-rooks.sfen"),
+    (["solve"], "defender-already-in-check.sfen"),
+    (["check"], "rook-chases-king.cert"),
+    (["check"], "equal-ranks.cert"),
+    (["check"], "two-rooks-mate.cert"),
+    (["check"], "two-rooks.sfen"),
+    (["solve", "--rows", "24"], "two-rooks.sfen"),
+    (["solve", "--workers", "0"], "two-rooks.sfen"),
+    (["solve", "--help"], "two-rooks.sfen"),
+]
+
+
+def main():
+    if len(sys.argv) != 2:
+        sys.exit(__doc__)
+    runs = other = 0
+    with tempfile.TemporaryDirectory() as folder:
+        source, shim = os.path.join(folder, "shim.c"), os.path.join(folder, "shim.so")
+        with open(source, "w") as out:
+            out.write(SHIM)
+        subprocess.run(["gcc", "-shared", "-fPIC", "-w", "-o", shim, source, "-ldl"], check=True)
+        for words, name in CASES:
+            with open(os.path.join("examples", name), "rb") as given:
+                text = given.read()
+
+            def run(**more):
+                settings = dict(os.environ, LD_PRELOAD=shim, **more)
+                ran = subprocess.run([sys.argv[1]] + words, input=text, capture_output=True, env=settings, timeout=60)
+                return ran.returncode, ran.stdout, ran.stderr
+
+            whole = run()
+            count = int(run(FAIL_COUNT="1")[2].split()[-1])
+            for number in range(1, count + 1):
+                seen = run(FAIL_AT=str(number))
+                runs += 1
+                if seen != whole and seen != (6, b"", b"tsume: out of memory\n"):
+                    other += 1
+                    print(words, name, "allocation", number, seen)
+    print(f"{runs} runs, {other} that end otherwise")
+    sys.exit(1 if other else 0)
+
+
+main()
