@@ -4,6 +4,7 @@ pub mod Hands
 pub mod Counting
 pub mod Faults
 pub mod MoveOrder
+pub mod MoveLists
 pub mod Same
 pub mod Packing
 pub mod KeyExact

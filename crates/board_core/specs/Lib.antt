@@ -4,5 +4,6 @@ pub mod Board
 pub mod Kept
 pub mod Build
 pub mod Order
+pub mod Text
 pub mod Key
 pub mod Rest

@@ -1,4 +1,4 @@
-use Rattle.std.specs.Prelude.{◌+◌, ◌*◌, ◌≤◌, ℕ, List, [], ◌∷◌, Bool, true, false, Contains}
+use Rattle.std.specs.Prelude.{◌≡◌, ◌<◌, ◌+◌, ◌*◌, ◌≤◌, ℕ, List, [], ◌∷◌, Bool, true, false, Some, Contains, slice_get}
 use Rattle.board_core.specs.declared.moves.Move.{Move}
 use Rattle.board_core.specs.declared.moves.Move.TheVariants as moves
 use Rattle.board_core.specs.Kind.{place_of}
@@ -24,3 +24,12 @@ pub record Lists (P : Move → Type 0) (moves : List Move) : Type 0 where
   pub sound : (move : Move) → Contains moves move → P move
   pub complete : (move : Move) → P move → Contains moves move
   pub rises : RisesFrom 0 moves
+
+-- A law: no two moves have one place in the order.
+abbrev pub OrdersApart : Type 0
+OrdersApart = (a b : Move) → order_of a ≡ order_of b → a ≡ b
+
+-- A law: in a list in the order of moves, a move that comes before another in the order stands before it.
+abbrev pub PlacesInOrder : Type 0
+PlacesInOrder = (low : ℕ) (moves : List Move) → RisesFrom low moves → (i j : ℕ) (a b : Move) → slice_get moves i ≡ Some a
+    → slice_get moves j ≡ Some b → order_of a < order_of b → i < j

@@ -24,7 +24,7 @@ pub use hand::Hand;
 pub use keys::Key;
 pub use leftover::rest;
 pub use memory::NoMemory;
-pub use moves::{MateEntry, Move};
+pub use moves::{MateEntry, Move, order_laws};
 pub use pack::{key, same_key};
 pub use piece::{Kind, Piece, Side};
 pub use position::Position;

@@ -1,7 +1,7 @@
 // Moves and their order.
 ghost use Rattle.std.specs.Prelude.{◌≡◌, ◌↔◌, IsTrue};
 ghost use Rattle.std.specs.Ordering.{nat_cmp};
-ghost use Rattle.board_core.specs.Order.{order_of};
+ghost use Rattle.board_core.specs.Order.{order_of, OrdersApart, PlacesInOrder};
 
 use crate::{Kind, Position, Square};
 use std::cmp::Ordering;
@@ -47,6 +47,13 @@ impl Move {
         self == with
     }
 }
+
+/// Laws about the order of moves: no two moves have one place in it, and in a list in this order a move that comes before
+/// another in the order stands before it. Does nothing; whoever lists moves calls it to know this. Takes no memory.
+pub fn order_laws()
+    ensures apart { OrdersApart }
+    ensures places { PlacesInOrder }
+{}
 
 /// One line of a mate's certificate. What it says, and what an accepted certificate bears out: at this position of the
 /// attacker the move is a check after which each answer leads to a position of lower rank.

@@ -1,6 +1,7 @@
 // Sides, kinds and pieces.
-ghost use Rattle.std.specs.Prelude.{◌≡◌, true};
+ghost use Rattle.std.specs.Prelude.{◌≡◌, ◌≤◌, true};
 ghost use Rattle.board_core.specs.Kind.{can_promote, other, place_of, total_of, ranks_needed};
+ghost use Rattle.board_core.specs.Text.{kind_letter};
 
 /// The two sides. Black (sente) moves towards rank a, White (gote) towards rank i.
 #[derive(Clone, Copy, PartialEq, Eq, PartialOrd, Ord, Hash, Debug)]
@@ -65,6 +66,23 @@ impl Kind {
             Kind::Bishop => 5,
             Kind::Rook => 6,
             Kind::King => 7,
+        }
+    }
+
+    /// The kind's capital letter, one of P L N S G B R K (SFEN and the USI protocol: pieces).
+    pub fn letter(self) -> u8
+        ensures letter { result ≡ kind_letter self }
+        ensures capital { result ≤ 90 }
+    {
+        match self {
+            Kind::Pawn => b'P',
+            Kind::Lance => b'L',
+            Kind::Knight => b'N',
+            Kind::Silver => b'S',
+            Kind::Gold => b'G',
+            Kind::Bishop => b'B',
+            Kind::Rook => b'R',
+            Kind::King => b'K',
         }
     }
 

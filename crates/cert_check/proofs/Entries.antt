@@ -6,17 +6,17 @@ use Rattle.board_core.specs.declared.piece.Side.{Side}
 use Rattle.board_core.specs.declared.moves.Move.{Move}
 use Rattle.board_core.specs.declared.moves.MateEntry.{MateEntry}
 use Rattle.board_core.specs.Board.{Board}
-use Rattle.board_core.specs.Order.{order_of, Lists}
+use Rattle.board_core.specs.Order.{order_of, Lists, PlacesInOrder}
 use Rattle.shogi_rules.specs.Rules.{after}
 use Rattle.shogi_rules.specs.Tsume.{IsCheck, IsAnswer}
 use Rattle.mate_def.specs.Mate.{after_both}
-use Rattle.cert_text.specs.Certificate.{IsRising, positions_of}
+use Rattle.cert_text.specs.Certificate.{AreApart, positions_of}
 use Rattle.cert_check.specs.Valid.{IsListedBelow, IsBorneOut}
 use Rattle.cert_check.specs.Reasons.{IsNotLower, MateReason, IsAnswerJudged, IsAnsweredInto, IsHeld, EscapeReason, IsFirstReason, reason_order}
 use Rattle.cert_check.specs.declared.verdict.Why.{Why}
 use Rattle.cert_check.specs.declared.verdict.Why.TheVariants.{RootMissing, NotACheck, AnswerOutside, RankNotLower, CheckUnanswered}
 use Rattle.cert_check.proofs.Listing.{before_in, held_at}
-use Rattle.cert_check.proofs.Rising.{listed_at, one_entry, entry_at}
+use Rattle.cert_check.proofs.Listed.{listed_at, one_entry, entry_at}
 
 -- 1. The judgement on an answer.
 
@@ -27,14 +27,14 @@ found_lower entries place rank p entry found is lower =
     let s = ap (λ (x : MateEntry). x.rank) is in
     record { entry = entry; listed = e.0; same = e.1; lower = omega arith }
 
-pub found_not_lower : (entries : List MateEntry) (place rank : ℕ) (p : Board) (entry : MateEntry) → IsRising (positions_of entries)
+pub found_not_lower : (entries : List MateEntry) (place rank : ℕ) (p : Board) (entry : MateEntry) → AreApart (positions_of entries)
     → slice_get (positions_of entries) place ≡ Some p → entry ≡ get_or entries place entry → rank ≤ (get_or entries place entry).rank → IsNotLower entries rank p
-found_not_lower entries place rank p entry rising found is not_lower =
+found_not_lower entries place rank p entry apart found is not_lower =
     let e = entry_at entries place p entry found is in
     record {
       listed = (place, slice_get_within (positions_of entries) place p found, get_or_from_slice_get (positions_of entries) place p p found);
       not_lower = λ l.
-          let s = ap (λ (x : MateEntry). x.rank) (one_entry entries rising l.entry entry l.listed e.0 (l.same ∙ sym e.1)) in
+          let s = ap (λ (x : MateEntry). x.rank) (one_entry entries apart l.entry entry l.listed e.0 (l.same ∙ sym e.1)) in
           let t = ap (λ (x : MateEntry). x.rank) is in
           let w = l.lower in
           omega arith;
@@ -45,47 +45,47 @@ found_not_lower entries place rank p entry rising found is not_lower =
 below_listed : (entries : List MateEntry) (rank : ℕ) (p : Board) → IsListedBelow entries rank p → Contains (positions_of entries) p
 below_listed entries rank p l = subst (Contains (positions_of entries)) l.same (listed_at entries l.entry l.listed)
 
-none_sooner : (entries : List MateEntry) (attacker : Side) (entry : MateEntry) (answers : List Move) (i : ℕ) (x : Move)
+none_sooner : PlacesInOrder → (entries : List MateEntry) (attacker : Side) (entry : MateEntry) (answers : List Move) (i : ℕ) (x : Move)
     → IsCheck attacker entry.at entry.by → Lists (IsAnswer attacker (after entry.at entry.by)) answers
     → i < length answers → x ≡ get_or answers i x
     → ((k : ℕ) (a : Move) → k < i → get_or answers k a ≡ a → IsListedBelow entries entry.rank (after_both entry.at entry.by a))
     → (sooner : Why) → reason_order sooner < 1 + order_of x → MateReason entries attacker entry sooner → ⊥
-none_sooner entries attacker entry answers i x check l h is below RootMissing lt r = r
-none_sooner entries attacker entry answers i x check l h is below (NotACheck m) lt r = r.1 check
-none_sooner entries attacker entry answers i x check l h is below (AnswerOutside a) lt r =
+none_sooner places entries attacker entry answers i x check l h is below RootMissing lt r = r
+none_sooner places entries attacker entry answers i x check l h is below (NotACheck m) lt r = r.1 check
+none_sooner places entries attacker entry answers i x check l h is below (AnswerOutside a) lt r =
     let there = l.complete a r.0 in
-    let sooner : there.0 < i = before_in 0 answers l.rises there.0 i a x there.1 h there.2 (sym is) (omega arith) in
+    let sooner = before_in places (IsAnswer attacker (after entry.at entry.by)) answers l a there i x h is (omega arith) in
     r.1 (below_listed entries entry.rank _ (below there.0 a sooner there.2))
-none_sooner entries attacker entry answers i x check l h is below (RankNotLower a) lt r =
+none_sooner places entries attacker entry answers i x check l h is below (RankNotLower a) lt r =
     let there = l.complete a r.0 in
-    let sooner : there.0 < i = before_in 0 answers l.rises there.0 i a x there.1 h there.2 (sym is) (omega arith) in
+    let sooner = before_in places (IsAnswer attacker (after entry.at entry.by)) answers l a there i x h is (omega arith) in
     r.1.not_lower (below there.0 a sooner there.2)
-none_sooner entries attacker entry answers i x check l h is below (CheckUnanswered m) lt r = r
+none_sooner places entries attacker entry answers i x check l h is below (CheckUnanswered m) lt r = r
 
-first_here : (entries : List MateEntry) (attacker : Side) (entry : MateEntry) (answers : List Move) (i : ℕ) (x : Move) (why : Why)
+first_here : PlacesInOrder → (entries : List MateEntry) (attacker : Side) (entry : MateEntry) (answers : List Move) (i : ℕ) (x : Move) (why : Why)
     → IsCheck attacker entry.at entry.by → Lists (IsAnswer attacker (after entry.at entry.by)) answers
     → i < length answers → x ≡ get_or answers i x
     → ((k : ℕ) (a : Move) → k < i → get_or answers k a ≡ a → IsListedBelow entries entry.rank (after_both entry.at entry.by a))
     → IsAnswerJudged entries entry.rank (after_both entry.at entry.by x) x (Some why)
     → IsFirstReason (IsBorneOut entries attacker entry) (MateReason entries attacker entry) (Some why)
-first_here entries attacker entry answers i x RootMissing check l h is below j = absurd j
-first_here entries attacker entry answers i x (NotACheck m) check l h is below j = absurd j
-first_here entries attacker entry answers i x (AnswerOutside m) check l h is below j =
+first_here places entries attacker entry answers i x RootMissing check l h is below j = absurd j
+first_here places entries attacker entry answers i x (NotACheck m) check l h is below j = absurd j
+first_here places entries attacker entry answers i x (AnswerOutside m) check l h is below j =
     subst (λ (y : Move). IsFirstReason (IsBorneOut entries attacker entry) (MateReason entries attacker entry) (Some (AnswerOutside y))) (sym j.0)
-    ((held_at (IsAnswer attacker (after entry.at entry.by)) answers l i x h is, j.1), none_sooner entries attacker entry answers i x check l h is below)
-first_here entries attacker entry answers i x (RankNotLower m) check l h is below j =
+    ((held_at (IsAnswer attacker (after entry.at entry.by)) answers l i x h is, j.1), none_sooner places entries attacker entry answers i x check l h is below)
+first_here places entries attacker entry answers i x (RankNotLower m) check l h is below j =
     subst (λ (y : Move). IsFirstReason (IsBorneOut entries attacker entry) (MateReason entries attacker entry) (Some (RankNotLower y))) (sym j.0)
-    ((held_at (IsAnswer attacker (after entry.at entry.by)) answers l i x h is, j.1), none_sooner entries attacker entry answers i x check l h is below)
-first_here entries attacker entry answers i x (CheckUnanswered m) check l h is below j = absurd j
+    ((held_at (IsAnswer attacker (after entry.at entry.by)) answers l i x h is, j.1), none_sooner places entries attacker entry answers i x check l h is below)
+first_here places entries attacker entry answers i x (CheckUnanswered m) check l h is below j = absurd j
 
-pub first_against : (entries : List MateEntry) (attacker : Side) (entry : MateEntry) (checked next : Board) (answers : List Move) (i : ℕ)
-    (x : Move) (why : Why) → checked ≡ after entry.at entry.by → next ≡ after checked x
+pub first_against : PlacesInOrder → (entries : List MateEntry) (attacker : Side) (entry : MateEntry) (checked next : Board)
+    (answers : List Move) (i : ℕ) (x : Move) (why : Why) → checked ≡ after entry.at entry.by → next ≡ after checked x
     → IsCheck attacker entry.at entry.by → Lists (IsAnswer attacker checked) answers → i < length answers → x ≡ get_or answers i x
     → ((k : ℕ) (a : Move) → k < i → get_or answers k a ≡ a → IsListedBelow entries entry.rank (after checked a))
     → IsAnswerJudged entries entry.rank next x (Some why)
     → IsFirstReason (IsBorneOut entries attacker entry) (MateReason entries attacker entry) (Some why)
-first_against entries attacker entry checked next answers i x why e f check l h is below j =
-    first_here entries attacker entry answers i x why check
+first_against places entries attacker entry checked next answers i x why e f check l h is below j =
+    first_here places entries attacker entry answers i x why check
     (subst (λ (b : Board). Lists (IsAnswer attacker b) answers) e l) h is
     (λ k a lt at. subst (λ (b : Board). IsListedBelow entries entry.rank (after b a)) e (below k a lt at))
     (subst (λ (b : Board). IsAnswerJudged entries entry.rank b x (Some why)) (f ∙ ap (λ (b : Board). after b x) e) j)
@@ -122,26 +122,26 @@ none_answered positions attacker b checked check answers n e l h none into =
     let w = there.1 in
     none there.0 into.answer (omega arith) there.2 (subst (λ (x : Board). Contains positions (after x into.answer)) (sym e) into.listed)
 
-none_unanswered_sooner : (positions : List Board) (attacker : Side) (b : Board) (checks : List Move) (i : ℕ) (x : Move)
+none_unanswered_sooner : PlacesInOrder → (positions : List Board) (attacker : Side) (b : Board) (checks : List Move) (i : ℕ) (x : Move)
     → Lists (IsCheck attacker b) checks → i < length checks → x ≡ get_or checks i x
     → ((k : ℕ) (m : Move) → k < i → get_or checks k m ≡ m → IsAnsweredInto positions attacker b m)
     → (sooner : Why) → reason_order sooner < 1 + order_of x → EscapeReason positions attacker b sooner → ⊥
-none_unanswered_sooner positions attacker b checks i x l h is below RootMissing lt r = r
-none_unanswered_sooner positions attacker b checks i x l h is below (NotACheck m) lt r = r
-none_unanswered_sooner positions attacker b checks i x l h is below (AnswerOutside m) lt r = r
-none_unanswered_sooner positions attacker b checks i x l h is below (RankNotLower m) lt r = r
-none_unanswered_sooner positions attacker b checks i x l h is below (CheckUnanswered m) lt r =
+none_unanswered_sooner places positions attacker b checks i x l h is below RootMissing lt r = r
+none_unanswered_sooner places positions attacker b checks i x l h is below (NotACheck m) lt r = r
+none_unanswered_sooner places positions attacker b checks i x l h is below (AnswerOutside m) lt r = r
+none_unanswered_sooner places positions attacker b checks i x l h is below (RankNotLower m) lt r = r
+none_unanswered_sooner places positions attacker b checks i x l h is below (CheckUnanswered m) lt r =
     let there = l.complete m r.0 in
-    let sooner : there.0 < i = before_in 0 checks l.rises there.0 i m x there.1 h there.2 (sym is) (omega arith) in
+    let sooner = before_in places (IsCheck attacker b) checks l m there i x h is (omega arith) in
     r.1 (below there.0 m sooner there.2)
 
-pub first_unanswered : (positions : List Board) (attacker : Side) (b : Board) (checks : List Move) (i : ℕ) (x : Move)
+pub first_unanswered : PlacesInOrder → (positions : List Board) (attacker : Side) (b : Board) (checks : List Move) (i : ℕ) (x : Move)
     → Lists (IsCheck attacker b) checks → i < length checks → x ≡ get_or checks i x
     → (IsAnsweredInto positions attacker b x → ⊥)
     → ((k : ℕ) (m : Move) → k < i → get_or checks k m ≡ m → IsAnsweredInto positions attacker b m)
     → IsFirstReason (IsHeld positions attacker b) (EscapeReason positions attacker b) (Some (CheckUnanswered x))
-first_unanswered positions attacker b checks i x l h is unanswered below =
-    ((held_at (IsCheck attacker b) checks l i x h is, unanswered), none_unanswered_sooner positions attacker b checks i x l h is below)
+first_unanswered places positions attacker b checks i x l h is unanswered below =
+    ((held_at (IsCheck attacker b) checks l i x h is, unanswered), none_unanswered_sooner places positions attacker b checks i x l h is below)
 
 pub all_answered : (positions : List Board) (attacker : Side) (b : Board) (checks : List Move) (n : ℕ)
     → Lists (IsCheck attacker b) checks → length checks ≤ n

@@ -1,5 +1,5 @@
 pub mod Listing
-pub mod Rising
+pub mod Listed
 pub mod Entries
 pub mod Verdicts
 pub mod Finding

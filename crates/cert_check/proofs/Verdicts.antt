@@ -1,5 +1,5 @@
 -- The verdict, from what was found out about each entry, and what it shows.
-use Rattle.std.proofs.Common.{◌≡◌, ◌<◌, ◌≤◌, ◌⊎◌, inl, inr, ◌↔◌, ℕ, zero, suc, List, [], ◌∷◌, get_or, length, Contains, arith, sym, refl, subst}
+use Rattle.std.proofs.Common.{◌≡◌, ◌<◌, ◌≤◌, ◌⊎◌, inl, inr, ◌↔◌, ℕ, zero, suc, List, [], ◌∷◌, get_or, length, Contains, arith, ap, sym, refl, ◌∙◌, subst}
 use Rattle.std.specs.Prelude.{Some, None, Option, slice_get, IsSomeAnd, Result, Ok, Err, IfOk}
 use Rattle.std.proofs.Math.ListN.{length-map}
 use Rattle.std.proofs.lemmas.Option.{slice_get_read, slice_get_within, get_or_from_slice_get}
@@ -17,7 +17,7 @@ use Rattle.cert_check.specs.declared.verdict.Why.{Why}
 use Rattle.cert_check.specs.declared.verdict.Why.TheVariants.{RootMissing, NotACheck, AnswerOutside, RankNotLower, CheckUnanswered}
 use Rattle.cert_check.specs.declared.verdict.Verdict.{Verdict}
 use Rattle.cert_check.specs.declared.verdict.Verdict.TheVariants.{Accepted, Refused}
-use Rattle.cert_check.proofs.Rising.{listed_at}
+use Rattle.cert_check.proofs.Listed.{listed_at}
 
 -- 1. From an entry to its place.
 
@@ -156,9 +156,13 @@ at_entry : {X : Type 0} (xs : List X) (H : X → Type 0) (x : X) (place : ℕ) �
 at_entry {X} xs H x place h e held =
     subst (λ (s : Option X). IsSomeAnd s H) (slice_get_read xs (length xs) place x refl h (sym e)) held
 
-pub accepted : (c : Certificate) (p : Board) (n : ℕ) → (problem_of c ≡ p) × Contains (positions_in c) p → length (positions_in c) ≤ n
+-- a listed position of an escape's certificate is its problem's side's to move
+escape_turn : (c : Escaping) (p b : Board) → IsEscaping c → c.problem ≡ p → Contains c.entries b → b.side ≡ p.side
+escape_turn c p b kept about there = (kept.problems b there).side ∙ ap (λ (x : Board). x.side) about
+
+pub accepted : (c : Certificate) (p : Board) (n : ℕ) → IsKeptBy c → (problem_of c ≡ p) × Contains (positions_in c) p → length (positions_in c) ≤ n
     → ((k : ℕ) → k < n → EntryHolds c p.side k) → IsVerdict c p Accepted
-accepted (Mate c) p n root h below = record {
+accepted (Mate c) p n kept root h below = record {
   problem = root.0;
   listed = root.1;
   entries = λ entry there.
@@ -166,14 +170,17 @@ accepted (Mate c) p n root h below = record {
       let e = length-map c.entries position_of in
       at_entry c.entries (IsBorneOut c.entries p.side) entry there.0 there.1 there.2 (below there.0 (omega arith));
 }
-accepted (Escape c) p n root h below = record {
+accepted (Escape c) p n kept root h below = record {
   problem = root.0;
   listed = root.1;
-  closed = λ b check there is_check.
-      let w = there.1 in
-      let held = at_entry c.entries (IsHeld c.entries p.side) b there.0 there.1 there.2 (below there.0 (omega arith)) in
-      let into = held check is_check in
-      (into.answer, into.is_answer, inl into.listed);
+  closed = record {
+    turn = λ b there. escape_turn c p b kept root.0 there;
+    answered = λ b check there is_check.
+        let w = there.1 in
+        let held = at_entry c.entries (IsHeld c.entries p.side) b there.0 there.1 there.2 (below there.0 (omega arith)) in
+        let into = held check is_check in
+        (into.answer, into.is_answer, inl into.listed);
+  };
 }
 
 -- 5. A valid certificate has no reason against it.
@@ -193,7 +200,7 @@ in_first s b (inr h) = let w = h.1 in absurd (omega arith)
 
 closed_held : (s : List Board) (attacker : Side) (b : Board) → IsClosed attacker s [] → Contains s b → IsHeld s attacker b
 closed_held s attacker b closed member check is_check =
-    let e = closed b check member is_check in
+    let e = closed.answered b check member is_check in
     record { answer = e.0; is_answer = e.1; listed = in_first s _ e.2 }
 
 valid_entry : (c : Certificate) (p : Board) (place : ℕ) (why : Why) → IsValid c p → EntryReason c p.side place why → ⊥

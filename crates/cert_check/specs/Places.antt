@@ -20,8 +20,8 @@ pub record StandsAt (positions : List Board) (place : ℕ) (key : Key) : Type 0 
   pub there : slice_get positions place ≡ Some position
   pub has_key : key_of position ≡ key.0
 
--- The places are those of the positions of this list: each key has the place of a position that has it, and the key of each
--- position is there.
+-- The places are those of the positions of this list: each key has the place of a position that has it, the key of each position
+-- is there, and each position keeps what positions keep.
 pub record ArePlacesOf (places : Places) (positions : List Board) : Type 0 where
   pub kept : (position : Board) → Contains positions position → IsKept position
   pub right : (key : Key) (place : ℕ) → get key_cmp places.by_key key ≡ Some place → StandsAt positions place key

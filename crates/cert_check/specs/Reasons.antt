@@ -78,7 +78,8 @@ abbrev pub EntryReason : Certificate → Side → ℕ → Why → Type 0
 EntryReason (Mate c) attacker place why = IsSomeAnd (slice_get c.entries place) (λ entry. MateReason c.entries attacker entry why)
 EntryReason (Escape c) attacker place why = IsSomeAnd (slice_get c.entries place) (λ b. EscapeReason c.entries attacker b why)
 
--- An entry, counted from 0, holds what its kind has to: it is borne out, or each check of it is answered into the list.
+-- An entry, counted from 0, holds what its kind has to: it is borne out, or each check of it is answered into the list. (That at an
+-- escape's positions the attacker is to move is kept by every certificate.)
 abbrev pub EntryHolds : Certificate → Side → ℕ → Type 0
 EntryHolds (Mate c) attacker place = IsSomeAnd (slice_get c.entries place) (λ entry. IsBorneOut c.entries attacker entry)
 EntryHolds (Escape c) attacker place = IsSomeAnd (slice_get c.entries place) (λ b. IsHeld c.entries attacker b)
@@ -97,7 +98,7 @@ reason_order (AnswerOutside answer) = 1 + order_of answer
 reason_order (RankNotLower answer) = 1 + order_of answer
 reason_order (CheckUnanswered check) = 1 + order_of check
 
--- The answer about one entry: nothing speaks against it, so that it holds; or the first reason that does.
+-- The answer about one entry: that it holds what it has to; or the first reason that speaks against it.
 abbrev pub IsFirstReason : Type 0 → (Why → Type 0) → Option Why → Type 0
 IsFirstReason Holds Reason None = Holds
 IsFirstReason Holds Reason (Some why) = Reason why × ((sooner : Why) → reason_order sooner < reason_order why → ¬ Reason sooner)

@@ -52,7 +52,8 @@ pub record ShowsEscape (p : Board) : Type 0 where
   pub escape : Escapes p.side p
   pub no_mate : ¬ IsMate p.side p
 
--- What a valid certificate shows of its position: that it is a mate, or that it is none.
+-- What a valid certificate shows: that its position is a mate, and each listed one a mate within its rank; or that its position
+-- is none.
 abbrev pub Shows : Certificate → Board → Type 0
 Shows (Mate c) p = ShowsMate c p
 Shows (Escape c) p = ShowsEscape p

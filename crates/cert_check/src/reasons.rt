@@ -3,14 +3,14 @@ ghost use Rattle.std.specs.Prelude.{◌≡◌, ◌<◌, ◌↔◌, List, length,
 ghost use Rattle.board_core.specs.Board.{Board};
 ghost use Rattle.shogi_rules.specs.Rules.{IsQuiet, after};
 ghost use Rattle.shogi_rules.specs.Tsume.{IsCheck};
-ghost use Rattle.cert_text.specs.Certificate.{IsRising, positions_of};
+ghost use Rattle.cert_text.specs.Certificate.{AreApart, positions_of};
 ghost use Rattle.cert_check.specs.Places.{ArePlacesOf};
 ghost use Rattle.cert_check.specs.Valid.{IsBorneOut};
 ghost use Rattle.cert_check.specs.Reasons.{MateReason, EscapeReason, IsAnsweredInto, IsHeld, IsFirstReason, IsAnswerJudged};
 
 use crate::places::Places;
 use crate::verdict::Why;
-use board_core::{MateEntry, Move, NoMemory, Position, Side};
+use board_core::{MateEntry, Move, NoMemory, Position, Side, order_laws};
 use shogi_rules::trial::{trial_answers, trial_checks};
 use shogi_rules::{Problem, apply, in_check, legal};
 use std::alloc::Global;
@@ -37,7 +37,7 @@ fn answer_reason(
     answer: Move,
 ) -> Option<Why>
     requires places { ArePlacesOf places.now (positions_of entries.now) }
-    requires rising { IsRising (positions_of entries.now) }
+    requires apart { AreApart (positions_of entries.now) }
     ensures { IsAnswerJudged entries.now rank next.now answer result }
 {
     match places.find(next) {
@@ -62,9 +62,11 @@ pub(crate) fn mate_reason(
 ) -> Result<Option<Why>, NoMemory>
     requires quiet { IsQuiet entry.now.at }
     requires places { ArePlacesOf places.now (positions_of entries.now) }
-    requires rising { IsRising (positions_of entries.now) }
+    requires apart { AreApart (positions_of entries.now) }
     ensures { IfOk result (λ reason. IsFirstReason (IsBorneOut entries.now problem.now.position.side entry.now) (MateReason entries.now problem.now.position.side entry.now) reason) }
 {
+    // In a list in the order of moves, what comes sooner stands sooner.
+    order_laws();
     if !is_check(&entry.at, problem.attacker(), entry.by) {
         return Ok(Some(Why::NotACheck(entry.by)));
     }
@@ -112,6 +114,8 @@ pub(crate) fn escape_reason(
     requires quiet { IsQuiet position.now }
     ensures { IfOk result (λ reason. (positions : List Board) → ArePlacesOf places.now positions → IsFirstReason (IsHeld positions problem.now.position.side position.now) (EscapeReason positions problem.now.position.side position.now) reason) }
 {
+    // In a list in the order of moves, what comes sooner stands sooner.
+    order_laws();
     let checks = trial_checks(alloc, problem, position)?;
     for check in &checks {
         if !is_answered(alloc, problem, places, position, *check)? {

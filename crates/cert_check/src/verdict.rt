@@ -41,7 +41,7 @@ pub enum Verdict {
     Refused {
         /// The first entry that something speaks against, counted from 1; 0 for [`Why::RootMissing`].
         entry: u64,
-        /// The first reason against it, in the order of moves.
+        /// The first reason against it: what is wrong with its own move, else the first in the order of the moves that they name.
         why: Why,
     },
 }
@@ -147,7 +147,7 @@ fn verdict_on(
 }
 
 /// What validity is worth, a law: every verdict on a valid certificate is that it is accepted, and it shows what it says, a
-/// mate or that there is none.
+/// mate or that there is none. (It shows this where it keeps what every [`Certificate`] keeps.)
 pub fn valid_is_accepted()
     ensures accepted { (c : Certificate) (p : Board) (verdict : Verdict) → IsVerdict c p verdict → IsValid c p → verdict ≡ Accepted }
     ensures shows { (c : Certificate) (p : Board) → IsKeptBy c → IsValid c p → Shows c p }

@@ -7,10 +7,9 @@ use Rattle.std.proofs.lemmas.Fmt.{decimal_injective}
 use Rattle.std.proofs.lemmas.List.{append_cancel_left, append-nil}
 use Rattle.board_core.specs.declared.moves.MateEntry.{MateEntry}
 use Rattle.board_core.specs.Board.{Board}
-use Rattle.usi_text.specs.MoveText.{move_text}
-use Rattle.usi_text.proofs.Texts.{move_apart}
+use Rattle.usi_text.specs.MoveText.{move_text, TextsApart as MovesApart}
 use Rattle.sfen_text.specs.Spelling.{sfen_of, board_text, side_letter, hands_text}
-use Rattle.sfen_text.proofs.TextAgain.{texts_apart}
+use Rattle.sfen_text.specs.Laws.{TextsApart, TextsAreLines}
 use Rattle.cert_text.specs.Certificate.{Mating, Escaping, IsRising}
 use Rattle.cert_text.specs.Text.{line, mate_entry_text}
 use Rattle.cert_text.specs.declared.fault.CertFault.{CertFault}
@@ -21,11 +20,17 @@ use Rattle.cert_text.specs.declared.certificate.Certificate.{Certificate}
 use Rattle.cert_text.specs.declared.certificate.Certificate.TheVariants as certificates
 use Rattle.cert_text.specs.declared.head.Claim.{Claim}
 use Rattle.cert_text.specs.declared.head.Claim.TheVariants.{Mate, Escape}
-use Rattle.cert_text.specs.Reading.{Lacks, Form, FitsMate, mate_form, escape_form, AreGood, texts_of, end_line, Ends, HasFault, HasFaultBehind, HasLaterFault, HasFirstFault, IsFaultAs, IsHead, IsReadable, IsTextOf, IsCertificateAnswer, IsReadAs}
+use Rattle.cert_text.specs.Reading.{Lacks, Form, FitsMate, mate_form, escape_form, AreGood, texts_of, end_line, Ends, HasLineFault, HasFaultBehind, HasLaterFault, HasFirstFault, IsFaultAs, IsHead, IsReadable, IsTextOf, IsCertificateAnswer, IsReadAs}
 use Rattle.cert_text.proofs.Cuts.{lacks_both, not_lacks, cut_same, has, lacks_by, decimal_lacks, move_lacks, sfen_lacks}
 use Rattle.cert_text.proofs.Entries.{entry_fields, line_same}
 use Rattle.cert_text.proofs.Heads.{one_head}
 use Rattle.cert_text.proofs.Bodies.{mate_text_of, escape_text_of}
+
+-- The laws of texts that the lemmas below rest on.
+pub record Laws : Type 0 where
+  pub apart : TextsApart
+  pub lines : TextsAreLines
+  pub moves : MovesApart
 
 -- ---- what an entry's text is
 
@@ -52,40 +57,41 @@ sfen_spaced : (b : Board) → sfen_of b ≡ codes "end" → ⊥
 unfolding sfen_of
 sfen_spaced b e = spaced_no_end (board_text b.cells) (side_letter b.side ∷ 32 ∷ hands_text b.black b.white) e
 
-mate_line_of : (problem : Board) (entry : MateEntry) → FitsMate problem entry → IsEntryLine (mate_entry_text entry)
-mate_line_of problem entry fits = record {
-  inside = decimal entry.rank ++ 32 ∷ move_text entry.by ++ 32 ∷ sfen_of entry.at;
-  is_line = refl;
-  lacks = lacks_both 10 (decimal entry.rank ++ 32 ∷ move_text entry.by) (32 ∷ sfen_of entry.at)
-      (lacks_both 10 (decimal entry.rank) (32 ∷ move_text entry.by) (decimal_lacks 10 entry.rank (omega arith) (omega (arith, fits.to))) ((λ (e : 32 ≡ 10). omega arith), move_lacks 10 entry.by (omega arith)))
-      ((λ (e : 32 ≡ 10). omega arith), sfen_lacks entry.at fits.kept);
-  no_end = λ e. spaced_no_end (decimal entry.rank ++ 32 ∷ move_text entry.by) (sfen_of entry.at) e;
-}
-
 rank_apart : (m n : ℕ) → m ≤ 999999999 → n ≤ 999999999 → decimal m ≡ decimal n → m ≡ n
 rank_apart m n p q e = decimal_injective m n (omega arith) (omega arith) e
 
 mate_same : (one two : MateEntry) → one.rank ≡ two.rank → one.by ≡ two.by → one.at ≡ two.at → one ≡ two
 mate_same one two r m p = λ i. record { rank = r i; by = m i; at = p i }
 
-mate_apart : (problem : Board) (one two : MateEntry) → FitsMate problem one → FitsMate problem two → mate_entry_text one ≡ mate_entry_text two → one ≡ two
-mate_apart problem one two f g e =
-    let text = decimal one.rank ++ 32 ∷ move_text one.by ++ 32 ∷ sfen_of one.at in
-    let mine = entry_fields one text refl in
-    let other = entry_fields two text (sym e) in
-    let first = cut_same 32 (decimal one.rank) (move_text one.by ++ 32 ∷ sfen_of one.at) (decimal two.rank) (move_text two.by ++ 32 ∷ sfen_of two.at)
-    (decimal_lacks 32 one.rank (omega arith) (omega (arith, f.to))) (decimal_lacks 32 two.rank (omega arith) (omega (arith, g.to))) (sym mine ∙ other) in
-    let second = cut_same 32 (move_text one.by) (sfen_of one.at) (move_text two.by) (sfen_of two.at) (move_lacks 32 one.by (omega arith)) (move_lacks 32 two.by (omega arith)) first.1 in
-    mate_same one two (rank_apart one.rank two.rank f.to g.to first.0) (move_apart one.by two.by second.0) (texts_apart one.at two.at f.kept g.kept second.1)
+module _ (laws : Laws) where
+  mate_line_of : (problem : Board) (entry : MateEntry) → FitsMate problem entry → IsEntryLine (mate_entry_text entry)
+  mate_line_of problem entry fits = record {
+    inside = decimal entry.rank ++ 32 ∷ move_text entry.by ++ 32 ∷ sfen_of entry.at;
+    is_line = refl;
+    lacks = lacks_both 10 (decimal entry.rank ++ 32 ∷ move_text entry.by) (32 ∷ sfen_of entry.at)
+        (lacks_both 10 (decimal entry.rank) (32 ∷ move_text entry.by) (decimal_lacks 10 entry.rank (omega arith) (omega (arith, fits.to))) ((λ (e : 32 ≡ 10). omega arith), move_lacks 10 entry.by (omega arith)))
+        ((λ (e : 32 ≡ 10). omega arith), sfen_lacks laws.lines entry.at fits.kept);
+    no_end = λ e. spaced_no_end (decimal entry.rank ++ 32 ∷ move_text entry.by) (sfen_of entry.at) e;
+  }
 
-mate_told : (problem : Board) → AreTold (mate_form problem)
-mate_told problem = record { lines = mate_line_of problem; apart = mate_apart problem }
+  mate_apart : (problem : Board) (one two : MateEntry) → FitsMate problem one → FitsMate problem two → mate_entry_text one ≡ mate_entry_text two → one ≡ two
+  mate_apart problem one two f g e =
+      let text = decimal one.rank ++ 32 ∷ move_text one.by ++ 32 ∷ sfen_of one.at in
+      let mine = entry_fields one text refl in
+      let other = entry_fields two text (sym e) in
+      let first = cut_same 32 (decimal one.rank) (move_text one.by ++ 32 ∷ sfen_of one.at) (decimal two.rank) (move_text two.by ++ 32 ∷ sfen_of two.at)
+      (decimal_lacks 32 one.rank (omega arith) (omega (arith, f.to))) (decimal_lacks 32 two.rank (omega arith) (omega (arith, g.to))) (sym mine ∙ other) in
+      let second = cut_same 32 (move_text one.by) (sfen_of one.at) (move_text two.by) (sfen_of two.at) (move_lacks 32 one.by (omega arith)) (move_lacks 32 two.by (omega arith)) first.1 in
+      mate_same one two (rank_apart one.rank two.rank f.to g.to first.0) (laws.moves one.by two.by second.0) (laws.apart one.at two.at f.kept g.kept second.1)
 
-escape_told : (problem : Board) → AreTold (escape_form problem)
-escape_told problem = record {
-  lines = λ p fits. record { inside = sfen_of p; is_line = refl; lacks = sfen_lacks p fits.kept; no_end = sfen_spaced p };
-  apart = λ p q f g e. texts_apart p q f.kept g.kept (line_same (sfen_of p) (sfen_of q) e);
-}
+  mate_told : (problem : Board) → AreTold (mate_form problem)
+  mate_told problem = record { lines = mate_line_of problem; apart = mate_apart problem }
+
+  escape_told : (problem : Board) → AreTold (escape_form problem)
+  escape_told problem = record {
+    lines = λ p fits. record { inside = sfen_of p; is_line = refl; lacks = sfen_lacks laws.lines p fits.kept; no_end = sfen_spaced p };
+    apart = λ p q f g e. laws.apart p q f.kept g.kept (line_same (sfen_of p) (sfen_of q) e);
+  }
 
 -- ---- entries one behind the other
 
@@ -165,7 +171,7 @@ module _ {Entry : Type 0} (form : Form Entry) (told : AreTold form) where
   one_ends : (entries others : List Entry) (bytes : List ℕ) → Ends form entries bytes → Ends form others bytes → entries ≡ others
   one_ends entries others bytes h k = (against entries others bytes end_line h k.good k.text (end_stops others end_line [] refl)).0
 
-  no_fault : (entries : List Entry) (count : ℕ) (bytes : List ℕ) (fault : CertFault) → Ends form entries bytes → length entries ≡ count → HasFault form count bytes fault → ⊥
+  no_fault : (entries : List Entry) (count : ℕ) (bytes : List ℕ) (fault : CertFault) → Ends form entries bytes → length entries ≡ count → HasLineFault form count bytes fault → ⊥
   no_fault entries count bytes faults.BadHead h n k = k
   no_fault entries count bytes (faults.BadLine number) h n k =
       let same = against entries k.entries bytes (line k.bad ++ k.rest) h k.good k.text (bad_stops k.entries k.bad k.rest k.is_line k.no_entry) in
@@ -199,7 +205,7 @@ module _ {Entry : Type 0} (form : Form Entry) (told : AreTold form) where
     stops : Stops entries rest
     at : AtStop entries rest fault
 
-  stopped : (count : ℕ) (bytes : List ℕ) (fault : CertFault) → HasFault form count bytes fault → Stopped bytes fault
+  stopped : (count : ℕ) (bytes : List ℕ) (fault : CertFault) → HasLineFault form count bytes fault → Stopped bytes fault
   stopped count bytes faults.BadHead k = absurd k
   stopped count bytes (faults.BadLine number) k = record {
     entries = k.entries;
@@ -269,7 +275,7 @@ module _ {Entry : Type 0} (form : Form Entry) (told : AreTold form) where
   same_stop entries text faults.WrongCount (faults.NotRising n) p q = absurd (no_entry_at_end q.1 [] q.2 q.3 (sym p ∙ q.4))
   same_stop entries text faults.WrongCount faults.NoEnd p q = absurd (end_not_open text p q)
 
-  one_fault : (count : ℕ) (bytes : List ℕ) (one two : CertFault) → HasFault form count bytes one → HasFault form count bytes two → one ≡ two
+  one_fault : (count : ℕ) (bytes : List ℕ) (one two : CertFault) → HasLineFault form count bytes one → HasLineFault form count bytes two → one ≡ two
   one_fault count bytes one two h k =
       let a = stopped count bytes one h in
       let b = stopped count bytes two k in
@@ -278,12 +284,6 @@ module _ {Entry : Type 0} (form : Form Entry) (told : AreTold form) where
 
 -- ---- certificates
 
-mate_head : (c : Mating) (bytes : List ℕ) → IsReadable (certificates.Mate c) → IsTextOf (certificates.Mate c) bytes → IsHead Mate (length c.entries) (sfen_of c.problem) (texts_of (mate_form c.problem) c.entries ++ end_line) bytes
-mate_head c bytes r t = record { is_count = r.count; is_line = sfen_lacks c.problem r.kept; front = t.0; is_front = t.1; text = t.2 ∙ ap (λ (u : List ℕ). t.0 ++ u) (mate_text_of c.problem c.entries) }
-
-escape_head : (c : Escaping) (bytes : List ℕ) → IsReadable (certificates.Escape c) → IsTextOf (certificates.Escape c) bytes → IsHead Escape (length c.entries) (sfen_of c.problem) (texts_of (escape_form c.problem) c.entries ++ end_line) bytes
-escape_head c bytes r t = record { is_count = r.count; is_line = sfen_lacks c.problem r.kept; front = t.0; is_front = t.1; text = t.2 ∙ ap (λ (u : List ℕ). t.0 ++ u) (escape_text_of c.problem c.entries) }
-
 moved : (a b : Claim) (m n : ℕ) (p q : Board) (x y : List ℕ) (fault : CertFault) → a ≡ b → m ≡ n → p ≡ q → x ≡ y → HasFaultBehind a m p x fault → HasFaultBehind b n q y fault
 moved a b m n p q x y fault ea em ep ex h =
     subst (λ (t : List ℕ). HasFaultBehind b n q t fault) ex
@@ -291,83 +291,11 @@ moved a b m n p q x y fault ea em ep ex h =
     (subst (λ (k : ℕ). HasFaultBehind b k p x fault) em
     (subst (λ (c : Claim). HasFaultBehind c m p x fault) ea h)))
 
-mate_no_fault : (c : Mating) (bytes : List ℕ) (fault : CertFault) → IsReadable (certificates.Mate c) → IsTextOf (certificates.Mate c) bytes → HasLaterFault bytes fault → ⊥
-mate_no_fault c bytes fault r t k =
-    let rest = texts_of (mate_form c.problem) c.entries ++ end_line in
-    let one = one_head k.claim Mate k.count (length c.entries) (sfen_of k.problem) (sfen_of c.problem) k.rest rest bytes k.begins.head (mate_head c bytes r t) in
-    no_fault (mate_form c.problem) (mate_told c.problem) c.entries (length c.entries) rest fault (record { good = r.good; text = refl }) refl
-    (moved k.claim Mate k.count (length c.entries) k.problem c.problem k.rest rest fault one.0 one.1 (texts_apart k.problem c.problem k.begins.kept r.kept one.2) one.3 k.later)
-
-escape_no_fault : (c : Escaping) (bytes : List ℕ) (fault : CertFault) → IsReadable (certificates.Escape c) → IsTextOf (certificates.Escape c) bytes → HasLaterFault bytes fault → ⊥
-escape_no_fault c bytes fault r t k =
-    let rest = texts_of (escape_form c.problem) c.entries ++ end_line in
-    let one = one_head k.claim Escape k.count (length c.entries) (sfen_of k.problem) (sfen_of c.problem) k.rest rest bytes k.begins.head (escape_head c bytes r t) in
-    no_fault (escape_form c.problem) (escape_told c.problem) c.entries (length c.entries) rest fault (record { good = r.good; text = refl }) refl
-    (moved k.claim Escape k.count (length c.entries) k.problem c.problem k.rest rest fault one.0 one.1 (texts_apart k.problem c.problem k.begins.kept r.kept one.2) one.3 k.later)
-
 mates_same : (c d : Mating) → d.problem ≡ c.problem → d.entries ≡ c.entries → d ≡ c
 mates_same c d p e = λ i. record { problem = p i; entries = e i }
 
 escapes_same : (c d : Escaping) → d.problem ≡ c.problem → d.entries ≡ c.entries → d ≡ c
 escapes_same c d p e = λ i. record { problem = p i; entries = e i }
-
-one_mate : (c d : Mating) (bytes : List ℕ) → IsReadable (certificates.Mate c) → IsTextOf (certificates.Mate c) bytes → IsReadable (certificates.Mate d) → IsTextOf (certificates.Mate d) bytes → d ≡ c
-one_mate c d bytes r t k u =
-    let one = one_head Mate Mate (length d.entries) (length c.entries) (sfen_of d.problem) (sfen_of c.problem) (texts_of (mate_form d.problem) d.entries ++ end_line) (texts_of (mate_form c.problem) c.entries ++ end_line) bytes
-    (mate_head d bytes k u) (mate_head c bytes r t) in
-    let problems : d.problem ≡ c.problem = texts_apart d.problem c.problem k.kept r.kept one.2 in
-    let good : AreGood (mate_form c.problem) d.entries = subst (λ (p : Board). AreGood (mate_form p) d.entries) problems k.good in
-    mates_same c d problems (one_ends (mate_form c.problem) (mate_told c.problem) d.entries c.entries (texts_of (mate_form c.problem) c.entries ++ end_line)
-    (record { good = good; text = sym one.3 }) (record { good = r.good; text = refl }))
-
-one_escape : (c d : Escaping) (bytes : List ℕ) → IsReadable (certificates.Escape c) → IsTextOf (certificates.Escape c) bytes → IsReadable (certificates.Escape d) → IsTextOf (certificates.Escape d) bytes → d ≡ c
-one_escape c d bytes r t k u =
-    let one = one_head Escape Escape (length d.entries) (length c.entries) (sfen_of d.problem) (sfen_of c.problem) (texts_of (escape_form d.problem) d.entries ++ end_line) (texts_of (escape_form c.problem) c.entries ++ end_line) bytes
-    (escape_head d bytes k u) (escape_head c bytes r t) in
-    let problems : d.problem ≡ c.problem = texts_apart d.problem c.problem k.kept r.kept one.2 in
-    let good : AreGood (escape_form c.problem) d.entries = subst (λ (p : Board). AreGood (escape_form p) d.entries) problems k.good in
-    escapes_same c d problems (one_ends (escape_form c.problem) (escape_told c.problem) d.entries c.entries (texts_of (escape_form c.problem) c.entries ++ end_line)
-    (record { good = good; text = sym one.3 }) (record { good = r.good; text = refl }))
-
-claims_apart : (c : Mating) (d : Escaping) (bytes : List ℕ) → IsReadable (certificates.Mate c) → IsTextOf (certificates.Mate c) bytes → IsReadable (certificates.Escape d) → IsTextOf (certificates.Escape d) bytes → ⊥
-claims_apart c d bytes r t k u =
-    let one = one_head Mate Escape (length c.entries) (length d.entries) (sfen_of c.problem) (sfen_of d.problem) (texts_of (mate_form c.problem) c.entries ++ end_line) (texts_of (escape_form d.problem) d.entries ++ end_line) bytes
-    (mate_head c bytes r t) (escape_head d bytes k u) in
-    let bad : ◌≡◌ {A = Claim} Mate Escape = one.0 in
-    cc
-
--- A certificate that can be read is read, where the text is its.
-pub read_again : (c : Certificate) (bytes : List ℕ) (answer : Result Certificate CertEnd) → IsReadable c → IsTextOf c bytes → IsCertificateAnswer bytes answer → IsReadAs c answer
-read_again (certificates.Mate c) bytes (Ok (certificates.Mate d)) r t h = ap (λ (m : Mating). certificates.Mate m) (one_mate c d bytes r t h.0 h.1)
-read_again (certificates.Mate c) bytes (Ok (certificates.Escape d)) r t h = absurd (claims_apart c d bytes r t h.0 h.1)
-read_again (certificates.Mate c) bytes (Err ends.NoMemory) r t h = tt
-read_again (certificates.Mate c) bytes (Err (ends.Fault faults.BadHead)) r t h =
-    h Mate (length c.entries) c.problem (texts_of (mate_form c.problem) c.entries ++ end_line) (record { head = mate_head c bytes r t; kept = r.kept; is_problem = r.is_problem })
-read_again (certificates.Mate c) bytes (Err (ends.Fault (faults.BadLine n))) r t h = mate_no_fault c bytes (faults.BadLine n) r t h
-read_again (certificates.Mate c) bytes (Err (ends.Fault (faults.NotRising n))) r t h = mate_no_fault c bytes (faults.NotRising n) r t h
-read_again (certificates.Mate c) bytes (Err (ends.Fault faults.WrongCount)) r t h = mate_no_fault c bytes faults.WrongCount r t h
-read_again (certificates.Mate c) bytes (Err (ends.Fault faults.NoEnd)) r t h = mate_no_fault c bytes faults.NoEnd r t h
-read_again (certificates.Escape c) bytes (Ok (certificates.Escape d)) r t h = ap (λ (m : Escaping). certificates.Escape m) (one_escape c d bytes r t h.0 h.1)
-read_again (certificates.Escape c) bytes (Ok (certificates.Mate d)) r t h = absurd (claims_apart d c bytes h.0 h.1 r t)
-read_again (certificates.Escape c) bytes (Err ends.NoMemory) r t h = tt
-read_again (certificates.Escape c) bytes (Err (ends.Fault faults.BadHead)) r t h =
-    h Escape (length c.entries) c.problem (texts_of (escape_form c.problem) c.entries ++ end_line) (record { head = escape_head c bytes r t; kept = r.kept; is_problem = r.is_problem })
-read_again (certificates.Escape c) bytes (Err (ends.Fault (faults.BadLine n))) r t h = escape_no_fault c bytes (faults.BadLine n) r t h
-read_again (certificates.Escape c) bytes (Err (ends.Fault (faults.NotRising n))) r t h = escape_no_fault c bytes (faults.NotRising n) r t h
-read_again (certificates.Escape c) bytes (Err (ends.Fault faults.WrongCount)) r t h = escape_no_fault c bytes faults.WrongCount r t h
-read_again (certificates.Escape c) bytes (Err (ends.Fault faults.NoEnd)) r t h = escape_no_fault c bytes faults.NoEnd r t h
-
--- ---- faults
-
-behind_same : (claim : Claim) (count : ℕ) (problem : Board) (rest : List ℕ) (one two : CertFault) → HasFaultBehind claim count problem rest one → HasFaultBehind claim count problem rest two → one ≡ two
-behind_same Mate count problem rest one two h k = one_fault (mate_form problem) (mate_told problem) count rest one two h k
-behind_same Escape count problem rest one two h k = one_fault (escape_form problem) (escape_told problem) count rest one two h k
-
-later_same : (bytes : List ℕ) (one two : CertFault) → HasLaterFault bytes one → HasLaterFault bytes two → one ≡ two
-later_same bytes one two h k =
-    let heads = one_head k.claim h.claim k.count h.count (sfen_of k.problem) (sfen_of h.problem) k.rest h.rest bytes k.begins.head h.begins.head in
-    behind_same h.claim h.count h.problem h.rest one two h.later
-    (moved k.claim h.claim k.count h.count k.problem h.problem k.rest h.rest two heads.0 heads.1 (texts_apart k.problem h.problem k.begins.kept h.begins.kept heads.2) heads.3 k.later)
 
 later_of : (bytes : List ℕ) (fault : CertFault) → HasFirstFault bytes fault → (fault ≡ faults.BadHead) ⊎ HasLaterFault bytes fault
 later_of bytes faults.BadHead h = inl refl
@@ -379,15 +307,94 @@ later_of bytes faults.NoEnd h = inr h
 no_head_later : (bytes : List ℕ) (one two : CertFault) → HasFirstFault bytes one → one ≡ faults.BadHead → HasLaterFault bytes two → ⊥
 no_head_later bytes one two h e k = (subst (HasFirstFault bytes) e h) k.claim k.count k.problem k.rest k.begins
 
--- A text has one first fault at most.
-first_same : (bytes : List ℕ) (one two : CertFault) → HasFirstFault bytes one → HasFirstFault bytes two → one ≡ two
-first_same bytes one two h k = elim (later_of bytes one h) [
-  | inl head ↦ elim (later_of bytes two k) [ inl other ↦ head ∙ sym other | inr later ↦ absurd (no_head_later bytes one two h head later) ]
-  | inr mine ↦ elim (later_of bytes two k) [ inl other ↦ absurd (no_head_later bytes two one k other mine) | inr later ↦ later_same bytes one two mine later ]
-]
+module _ (laws : Laws) where
+  mate_head : (c : Mating) (bytes : List ℕ) → IsReadable (certificates.Mate c) → IsTextOf (certificates.Mate c) bytes → IsHead Mate (length c.entries) (sfen_of c.problem) (texts_of (mate_form c.problem) c.entries ++ end_line) bytes
+  mate_head c bytes r t = record { is_count = r.count; is_line = sfen_lacks laws.lines c.problem r.kept; front = t.0; is_front = t.1; text = t.2 ∙ ap (λ (u : List ℕ). t.0 ++ u) (mate_text_of c.problem c.entries) }
 
--- A fault that is a text's first one is the answer to it.
-pub read_fault : (fault : CertFault) (bytes : List ℕ) (answer : Result Certificate CertEnd) → HasFirstFault bytes fault → IsCertificateAnswer bytes answer → IsFaultAs fault answer
-read_fault fault bytes (Ok c) first h = read_again c bytes (Err (ends.Fault fault)) h.0 h.1 first
-read_fault fault bytes (Err (ends.Fault found)) first h = first_same bytes found fault h first
-read_fault fault bytes (Err ends.NoMemory) first h = tt
+  escape_head : (c : Escaping) (bytes : List ℕ) → IsReadable (certificates.Escape c) → IsTextOf (certificates.Escape c) bytes → IsHead Escape (length c.entries) (sfen_of c.problem) (texts_of (escape_form c.problem) c.entries ++ end_line) bytes
+  escape_head c bytes r t = record { is_count = r.count; is_line = sfen_lacks laws.lines c.problem r.kept; front = t.0; is_front = t.1; text = t.2 ∙ ap (λ (u : List ℕ). t.0 ++ u) (escape_text_of c.problem c.entries) }
+
+  mate_no_fault : (c : Mating) (bytes : List ℕ) (fault : CertFault) → IsReadable (certificates.Mate c) → IsTextOf (certificates.Mate c) bytes → HasLaterFault bytes fault → ⊥
+  mate_no_fault c bytes fault r t k =
+      let rest = texts_of (mate_form c.problem) c.entries ++ end_line in
+      let one = one_head k.claim Mate k.count (length c.entries) (sfen_of k.problem) (sfen_of c.problem) k.rest rest bytes k.begins.head (mate_head c bytes r t) in
+      no_fault (mate_form c.problem) (mate_told laws c.problem) c.entries (length c.entries) rest fault (record { good = r.good; text = refl }) refl
+      (moved k.claim Mate k.count (length c.entries) k.problem c.problem k.rest rest fault one.0 one.1 (laws.apart k.problem c.problem k.begins.kept r.kept one.2) one.3 k.later)
+
+  escape_no_fault : (c : Escaping) (bytes : List ℕ) (fault : CertFault) → IsReadable (certificates.Escape c) → IsTextOf (certificates.Escape c) bytes → HasLaterFault bytes fault → ⊥
+  escape_no_fault c bytes fault r t k =
+      let rest = texts_of (escape_form c.problem) c.entries ++ end_line in
+      let one = one_head k.claim Escape k.count (length c.entries) (sfen_of k.problem) (sfen_of c.problem) k.rest rest bytes k.begins.head (escape_head c bytes r t) in
+      no_fault (escape_form c.problem) (escape_told laws c.problem) c.entries (length c.entries) rest fault (record { good = r.good; text = refl }) refl
+      (moved k.claim Escape k.count (length c.entries) k.problem c.problem k.rest rest fault one.0 one.1 (laws.apart k.problem c.problem k.begins.kept r.kept one.2) one.3 k.later)
+
+  one_mate : (c d : Mating) (bytes : List ℕ) → IsReadable (certificates.Mate c) → IsTextOf (certificates.Mate c) bytes → IsReadable (certificates.Mate d) → IsTextOf (certificates.Mate d) bytes → d ≡ c
+  one_mate c d bytes r t k u =
+      let one = one_head Mate Mate (length d.entries) (length c.entries) (sfen_of d.problem) (sfen_of c.problem) (texts_of (mate_form d.problem) d.entries ++ end_line) (texts_of (mate_form c.problem) c.entries ++ end_line) bytes
+      (mate_head d bytes k u) (mate_head c bytes r t) in
+      let problems : d.problem ≡ c.problem = laws.apart d.problem c.problem k.kept r.kept one.2 in
+      let good : AreGood (mate_form c.problem) d.entries = subst (λ (p : Board). AreGood (mate_form p) d.entries) problems k.good in
+      mates_same c d problems (one_ends (mate_form c.problem) (mate_told laws c.problem) d.entries c.entries (texts_of (mate_form c.problem) c.entries ++ end_line)
+      (record { good = good; text = sym one.3 }) (record { good = r.good; text = refl }))
+
+  one_escape : (c d : Escaping) (bytes : List ℕ) → IsReadable (certificates.Escape c) → IsTextOf (certificates.Escape c) bytes → IsReadable (certificates.Escape d) → IsTextOf (certificates.Escape d) bytes → d ≡ c
+  one_escape c d bytes r t k u =
+      let one = one_head Escape Escape (length d.entries) (length c.entries) (sfen_of d.problem) (sfen_of c.problem) (texts_of (escape_form d.problem) d.entries ++ end_line) (texts_of (escape_form c.problem) c.entries ++ end_line) bytes
+      (escape_head d bytes k u) (escape_head c bytes r t) in
+      let problems : d.problem ≡ c.problem = laws.apart d.problem c.problem k.kept r.kept one.2 in
+      let good : AreGood (escape_form c.problem) d.entries = subst (λ (p : Board). AreGood (escape_form p) d.entries) problems k.good in
+      escapes_same c d problems (one_ends (escape_form c.problem) (escape_told laws c.problem) d.entries c.entries (texts_of (escape_form c.problem) c.entries ++ end_line)
+      (record { good = good; text = sym one.3 }) (record { good = r.good; text = refl }))
+
+  claims_apart : (c : Mating) (d : Escaping) (bytes : List ℕ) → IsReadable (certificates.Mate c) → IsTextOf (certificates.Mate c) bytes → IsReadable (certificates.Escape d) → IsTextOf (certificates.Escape d) bytes → ⊥
+  claims_apart c d bytes r t k u =
+      let one = one_head Mate Escape (length c.entries) (length d.entries) (sfen_of c.problem) (sfen_of d.problem) (texts_of (mate_form c.problem) c.entries ++ end_line) (texts_of (escape_form d.problem) d.entries ++ end_line) bytes
+      (mate_head c bytes r t) (escape_head d bytes k u) in
+      let bad : ◌≡◌ {A = Claim} Mate Escape = one.0 in
+      cc
+
+  -- A certificate that can be read is read, where the text is its.
+  pub read_again : (c : Certificate) (bytes : List ℕ) (answer : Result Certificate CertEnd) → IsReadable c → IsTextOf c bytes → IsCertificateAnswer bytes answer → IsReadAs c answer
+  read_again (certificates.Mate c) bytes (Ok (certificates.Mate d)) r t h = ap (λ (m : Mating). certificates.Mate m) (one_mate c d bytes r t h.0 h.1)
+  read_again (certificates.Mate c) bytes (Ok (certificates.Escape d)) r t h = absurd (claims_apart c d bytes r t h.0 h.1)
+  read_again (certificates.Mate c) bytes (Err ends.NoMemory) r t h = tt
+  read_again (certificates.Mate c) bytes (Err (ends.Fault faults.BadHead)) r t h =
+      h Mate (length c.entries) c.problem (texts_of (mate_form c.problem) c.entries ++ end_line) (record { head = mate_head c bytes r t; kept = r.kept; is_problem = r.is_problem })
+  read_again (certificates.Mate c) bytes (Err (ends.Fault (faults.BadLine n))) r t h = mate_no_fault c bytes (faults.BadLine n) r t h
+  read_again (certificates.Mate c) bytes (Err (ends.Fault (faults.NotRising n))) r t h = mate_no_fault c bytes (faults.NotRising n) r t h
+  read_again (certificates.Mate c) bytes (Err (ends.Fault faults.WrongCount)) r t h = mate_no_fault c bytes faults.WrongCount r t h
+  read_again (certificates.Mate c) bytes (Err (ends.Fault faults.NoEnd)) r t h = mate_no_fault c bytes faults.NoEnd r t h
+  read_again (certificates.Escape c) bytes (Ok (certificates.Escape d)) r t h = ap (λ (m : Escaping). certificates.Escape m) (one_escape c d bytes r t h.0 h.1)
+  read_again (certificates.Escape c) bytes (Ok (certificates.Mate d)) r t h = absurd (claims_apart d c bytes h.0 h.1 r t)
+  read_again (certificates.Escape c) bytes (Err ends.NoMemory) r t h = tt
+  read_again (certificates.Escape c) bytes (Err (ends.Fault faults.BadHead)) r t h =
+      h Escape (length c.entries) c.problem (texts_of (escape_form c.problem) c.entries ++ end_line) (record { head = escape_head c bytes r t; kept = r.kept; is_problem = r.is_problem })
+  read_again (certificates.Escape c) bytes (Err (ends.Fault (faults.BadLine n))) r t h = escape_no_fault c bytes (faults.BadLine n) r t h
+  read_again (certificates.Escape c) bytes (Err (ends.Fault (faults.NotRising n))) r t h = escape_no_fault c bytes (faults.NotRising n) r t h
+  read_again (certificates.Escape c) bytes (Err (ends.Fault faults.WrongCount)) r t h = escape_no_fault c bytes faults.WrongCount r t h
+  read_again (certificates.Escape c) bytes (Err (ends.Fault faults.NoEnd)) r t h = escape_no_fault c bytes faults.NoEnd r t h
+
+  -- ---- faults
+
+  behind_same : (claim : Claim) (count : ℕ) (problem : Board) (rest : List ℕ) (one two : CertFault) → HasFaultBehind claim count problem rest one → HasFaultBehind claim count problem rest two → one ≡ two
+  behind_same Mate count problem rest one two h k = one_fault (mate_form problem) (mate_told laws problem) count rest one two h k
+  behind_same Escape count problem rest one two h k = one_fault (escape_form problem) (escape_told laws problem) count rest one two h k
+
+  later_same : (bytes : List ℕ) (one two : CertFault) → HasLaterFault bytes one → HasLaterFault bytes two → one ≡ two
+  later_same bytes one two h k =
+      let heads = one_head k.claim h.claim k.count h.count (sfen_of k.problem) (sfen_of h.problem) k.rest h.rest bytes k.begins.head h.begins.head in
+      behind_same h.claim h.count h.problem h.rest one two h.later
+      (moved k.claim h.claim k.count h.count k.problem h.problem k.rest h.rest two heads.0 heads.1 (laws.apart k.problem h.problem k.begins.kept h.begins.kept heads.2) heads.3 k.later)
+
+  -- A text has one first fault at most.
+  first_same : (bytes : List ℕ) (one two : CertFault) → HasFirstFault bytes one → HasFirstFault bytes two → one ≡ two
+  first_same bytes one two h k = elim (later_of bytes one h) [
+    | inl head ↦ elim (later_of bytes two k) [ inl other ↦ head ∙ sym other | inr later ↦ absurd (no_head_later bytes one two h head later) ]
+    | inr mine ↦ elim (later_of bytes two k) [ inl other ↦ absurd (no_head_later bytes two one k other mine) | inr later ↦ later_same bytes one two mine later ]
+  ]
+
+  -- A fault that is a text's first one is the answer to it.
+  pub read_fault : (fault : CertFault) (bytes : List ℕ) (answer : Result Certificate CertEnd) → HasFirstFault bytes fault → IsCertificateAnswer bytes answer → IsFaultAs fault answer
+  read_fault fault bytes (Ok c) first h = read_again c bytes (Err (ends.Fault fault)) h.0 h.1 first
+  read_fault fault bytes (Err (ends.Fault found)) first h = first_same bytes found fault h first
+  read_fault fault bytes (Err ends.NoMemory) first h = tt

@@ -11,14 +11,15 @@ use Rattle.board_core.specs.Board.{Board}
 use Rattle.board_core.specs.Kept.{IsKept}
 use Rattle.shogi_rules.specs.Tsume.{IsProblem}
 use Rattle.sfen_text.specs.Spelling.{sfen_of}
+use Rattle.sfen_text.specs.Laws.{TextsHaveBytes}
 use Rattle.cert_text.specs.Certificate.{IsBefore, IsRising}
 use Rattle.cert_text.specs.Text.{line, mate_entry_text, escape_entry_text, mate_certificate_text, escape_certificate_text}
 use Rattle.cert_text.specs.declared.fault.CertFault.{CertFault}
 use Rattle.cert_text.specs.declared.fault.CertFault.TheVariants as faults
 use Rattle.cert_text.specs.declared.head.Claim.TheVariants.{Mate, Escape}
 use Rattle.cert_text.specs.declared.certificate.Certificate.TheVariants as certificates
-use Rattle.cert_text.specs.Reading.{IsReadCount, claim_text, IsHead, IsCertificateAnswer, Lacks, headed, Form, mate_form, escape_form, texts_of, end_line, HasBadLine, HasFallingLine, HasNoEnd, Ends, HasFault, IsEndFault, HasRead}
-use Rattle.cert_text.proofs.Cuts.{nothing_before, all_push}
+use Rattle.cert_text.specs.Reading.{IsReadCount, claim_text, IsHead, IsCertificateAnswer, Lacks, headed, Form, mate_form, escape_form, texts_of, end_line, HasBadLine, HasFallingLine, HasNoEnd, Ends, HasLineFault, IsEndFault, HasRead}
+use Rattle.cert_text.proofs.Cuts.{empty_before, all_push}
 
 -- ---- rising lists
 
@@ -47,11 +48,11 @@ follows_push form entries entry next rising =
       (λ more. rising_last (map form.at entries) (form.at entry) (form.at next) (subst IsRising two more)),
     )
 
-pub read_none : {A : Type 0} (form : Form A) (text : List ℕ) → HasRead form text [] text []
-read_none form text = record {
+pub read_none : {A : Type 0} (form : Form A) (text : List ℕ) → TextsHaveBytes → HasRead form text [] text []
+read_none form text bytes = record {
   good = record { fit = tt; rising = tt };
   so_far = refl;
-  follows = λ next. ((λ _. tt), (λ _. nothing_before (form.at next)));
+  follows = λ next. ((λ _. tt), (λ _. empty_before bytes (form.at next)));
 }
 
 -- The rest begins with an entry's text.
@@ -117,7 +118,7 @@ ended form bytes entries rest last text more read p e none = record {
 }
 
 pub end_fault : {A : Type 0} (form : Form A) (bytes : List ℕ) (entries : List A) (rest last text more : List ℕ) (count : ℕ) (fault : CertFault) → HasRead form bytes entries rest last
-    → rest ≡ text ++ 10 ∷ more → text ≡ codes "end" → IsEndFault (length entries) count more (Err fault) → HasFault form count bytes fault
+    → rest ≡ text ++ 10 ∷ more → text ≡ codes "end" → IsEndFault (length entries) count more (Err fault) → HasLineFault form count bytes fault
 end_fault form bytes entries rest last text more count faults.NoEnd read p e h = record {
   entries = entries;
   good = read.good;

@@ -9,21 +9,19 @@ use Rattle.std.specs.Cmp.Lexicographic.{slice_cmp}
 use Rattle.std.specs.declared.cmp.Ordering.TheVariants.{Less}
 use Rattle.std.proofs.lemmas.Fmt.{decimal_is_IsNumeral}
 use Rattle.std.proofs.lemmas.Str.Parse.{digit_from_value}
-use Rattle.std.proofs.lemmas.List.{take_more, length-append}
+use Rattle.std.proofs.lemmas.List.{take_more}
 use Rattle.std.proofs.lemmas.Bool.Decides.{eqb_tells}
 use Rattle.board_core.specs.declared.moves.Move.{Move}
 use Rattle.board_core.specs.declared.moves.Move.TheVariants as moves
 use Rattle.board_core.specs.declared.piece.Kind.{Kind}
 use Rattle.board_core.specs.declared.piece.Kind.TheVariants.{Pawn, Lance, Knight, Silver, Gold, Bishop, Rook, King}
-use Rattle.board_core.specs.declared.piece.Side.{Side}
-use Rattle.board_core.specs.declared.piece.Side.TheVariants.{Black, White}
 use Rattle.board_core.specs.Square.{file_of}
 use Rattle.board_core.specs.Board.{Board}
 use Rattle.board_core.specs.Kept.{IsKept}
-use Rattle.usi_text.specs.MoveText.{move_text, kind_letter, promotion_text}
-use Rattle.sfen_text.specs.Spelling.{sfen_of, board_text, side_letter, hand_text, hands_text, or_dash}
-use Rattle.sfen_text.proofs.BytesAgain.{ArePlain, board_plain, board_long, hand_plain}
-use Rattle.sfen_text.proofs.TextAgain.{small_black, small_white}
+use Rattle.board_core.specs.Text.{kind_letter}
+use Rattle.usi_text.specs.MoveText.{move_text, promotion_text}
+use Rattle.sfen_text.specs.Spelling.{sfen_of}
+use Rattle.sfen_text.specs.Laws.{TextsHaveBytes, TextsAreLines}
 use Rattle.cert_text.specs.Reading.{Lacks}
 
 pub lacks_both : (d : ℕ) (xs ys : List ℕ) → Lacks d xs → Lacks d ys → Lacks d (xs ++ ys)
@@ -115,33 +113,18 @@ pub move_first : (m : Move) (rest more : List ℕ) → move_text m ++ rest ≡ 1
 move_first (moves.Board from to p) rest more e = let h : 48 + file_of from.number ≡ 110 = cc in omega (arith, from.on_board)
 move_first (moves.Drop k to) rest more e = let h : kind_letter k ≡ 110 = cc in omega (arith, letter_below k)
 
-plain_lacks : (d : ℕ) (xs : List ℕ) → d < 43 → ArePlain xs → Lacks d xs
-plain_lacks d [] lt p = tt
-plain_lacks d (x ∷ xs) lt p = ((λ (e : x ≡ d). omega (arith, p.0.above)), plain_lacks d xs lt p.1)
-
-dash_lacks : (d : ℕ) (xs : List ℕ) → d < 43 → Lacks d xs → Lacks d (or_dash xs)
-dash_lacks d [] lt p = ((λ (e : 45 ≡ d). omega arith), tt)
-dash_lacks d (x ∷ xs) lt p = p
-
-side_lacks : (d : ℕ) (side : Side) → d < 43 → side_letter side ≢ d
-side_lacks d Black lt = λ (e : 98 ≡ d). omega arith
-side_lacks d White lt = λ (e : 119 ≡ d). omega arith
+high_lacks : (d : ℕ) (xs : List ℕ) → d < 32 → AllByRecursion (λ byte. 32 ≤ byte) xs → Lacks d xs
+high_lacks d [] lt all = tt
+high_lacks d (x ∷ xs) lt all = ((λ (e : x ≡ d). omega (arith, all.0)), high_lacks d xs lt all.1)
 
 -- No line feed stands in an SFEN text.
-pub sfen_lacks : (b : Board) → IsKept b → Lacks 10 (sfen_of b)
-unfolding sfen_of
-sfen_lacks b kept =
-    let hands = dash_lacks 10 (hand_text Black b.black ++ hand_text White b.white) (omega arith) (lacks_both 10 (hand_text Black b.black) (hand_text White b.white)
-    (plain_lacks 10 (hand_text Black b.black) (omega arith) (hand_plain Black b.black (small_black b kept)))
-    (plain_lacks 10 (hand_text White b.white) (omega arith) (hand_plain White b.white (small_white b kept)))) in
-    lacks_both 10 (board_text b.cells) (32 ∷ side_letter b.side ∷ 32 ∷ hands_text b.black b.white) (plain_lacks 10 (board_text b.cells) (omega arith) (board_plain b.cells))
-    ((λ (e : 32 ≡ 10). omega arith), (side_lacks 10 b.side (omega arith), ((λ (e : 32 ≡ 10). omega arith), hands)))
+pub sfen_lacks : TextsAreLines → (b : Board) → IsKept b → Lacks 10 (sfen_of b)
+sfen_lacks lines b kept = high_lacks 10 (sfen_of b) (omega arith) (lines b kept)
 
 before_some : (xs : List ℕ) → 0 < length xs → slice_cmp nat_cmp [] xs ≡ Less
 before_some [] lt = absurd (omega arith)
 before_some (x ∷ xs) lt = refl
 
--- Nothing comes before every SFEN text.
-pub nothing_before : (b : Board) → slice_cmp nat_cmp [] (sfen_of b) ≡ Less
-unfolding sfen_of
-nothing_before b = before_some (sfen_of b) (omega (arith, board_long b.cells, length-append (board_text b.cells) (32 ∷ side_letter b.side ∷ 32 ∷ hands_text b.black b.white)))
+-- The empty text comes before every SFEN text.
+pub empty_before : TextsHaveBytes → (b : Board) → slice_cmp nat_cmp [] (sfen_of b) ≡ Less
+empty_before bytes b = before_some (sfen_of b) (bytes b)

@@ -11,7 +11,7 @@ use Rattle.shogi_rules.specs.Tsume.{IsProblem}
 use Rattle.usi_text.specs.MoveText.{move_text}
 use Rattle.sfen_text.specs.declared.fault.TextFault.{TextFault}
 use Rattle.sfen_text.specs.Spelling.{sfen_of}
-use Rattle.sfen_text.specs.Reading.{IsAnswer, HasDefender}
+use Rattle.sfen_text.specs.Reading.{IsReadingAnswer, HasDefender}
 use Rattle.cert_text.specs.Text.{line, mate_entry_text}
 use Rattle.cert_text.specs.Reading.{Lacks, FitsMate}
 use Rattle.cert_text.proofs.Cuts.{cut_same, decimal_lacks, move_lacks}
@@ -23,7 +23,7 @@ some_king : (n : ℕ) → (n ≡ 0 → ⊥) → 0 < n
 some_king n h = omega arith
 
 -- A position that is read has a king of the side not to move.
-pub answer_king : (r : Result Board TextFault) (p : Board) → IsAnswer r (Ok p) → 0 < kings_of p (other p.side)
+pub answer_king : (r : Result Board TextFault) (p : Board) → IsReadingAnswer r (Ok p) → 0 < kings_of p (other p.side)
 answer_king (Ok b) p h = subst (λ (q : Board). 0 < kings_of q (other q.side)) (sym h.0) (some_king (kings_of b (other b.side)) (h.1 NoDefenderKing))
 answer_king (Err fault) p h = absurd cc
 

@@ -7,12 +7,13 @@ use Rattle.std.specs.List.{flat_map}
 use Rattle.std.specs.Fmt.{decimal}
 use Rattle.std.proofs.lemmas.Fmt.{decimal_injective}
 use Rattle.board_core.specs.declared.moves.Move.{Move}
-use Rattle.usi_text.specs.MoveText.{move_text, HasText, IsRead}
+use Rattle.board_core.specs.Text.{HasText}
+use Rattle.usi_text.specs.MoveText.{move_text, IsRead}
 use Rattle.usi_text.specs.Lines.{spaced, mate_text, nomate_text, AllHaveText}
 use Rattle.cert_text.specs.Text.{line}
 use Rattle.cert_text.specs.declared.head.Claim.{Claim}
 use Rattle.cert_text.specs.declared.head.Claim.TheVariants.{Mate, Escape}
-use Rattle.cert_text.specs.Reading.{Lacks, AreMoves, IsFront, IsReadCount, claim_text, headed, IsHead}
+use Rattle.cert_text.specs.Reading.{Lacks, AreMoves, IsFrontLine, IsReadCount, claim_text, headed, IsHead}
 use Rattle.cert_text.proofs.Cuts.{all_push, lacks_both, not_lacks, cut_same, lacks_by, decimal_lacks, move_lacks, move_first}
 
 -- ---- first lines
@@ -70,12 +71,12 @@ moves_lack : (ms : List Move) → Lacks 10 (flat_map spaced ms)
 moves_lack [] = tt
 moves_lack (m ∷ ms) = ((λ (e : 32 ≡ 10). omega arith), lacks_both 10 (move_text m) (flat_map spaced ms) (move_lacks 10 m (omega arith)) (moves_lack ms))
 
-pub front_lacks : (claim : Claim) (text : List ℕ) → IsFront claim text → Lacks 10 text
+pub front_lacks : (claim : Claim) (text : List ℕ) → IsFrontLine claim text → Lacks 10 text
 front_lacks Escape text h = subst (Lacks 10) (sym h) (lacks_by 10 nomate_text refl)
 front_lacks Mate text h = subst (Lacks 10) (sym h.3) (lacks_both 10 (codes "checkmate") (flat_map spaced h.0) (lacks_by 10 (codes "checkmate") refl) (moves_lack h.0))
 
 -- No front line is a first line.
-pub front_apart : (claim other : Claim) (count : ℕ) (text : List ℕ) → IsFront claim text → text ≡ claim_text other count → ⊥
+pub front_apart : (claim other : Claim) (count : ℕ) (text : List ℕ) → IsFrontLine claim text → text ≡ claim_text other count → ⊥
 front_apart Escape Mate count text h e = let t : nomate_text ≡ claim_text Mate count = sym h ∙ e in let bad : ◌≡◌ {A = ℕ} 104 101 = cc in omega (arith, bad)
 front_apart Escape Escape count text h e = let t : nomate_text ≡ claim_text Escape count = sym h ∙ e in let bad : ◌≡◌ {A = ℕ} 104 101 = cc in omega (arith, bad)
 front_apart Mate Mate count text h e = let t : mate_text h.0 ≡ claim_text Mate count = sym h.3 ∙ e in let bad : ◌≡◌ {A = ℕ} 104 101 = cc in omega (arith, bad)
@@ -85,17 +86,17 @@ nomate_apart : (ms : List Move) → nomate_text ≡ mate_text ms → ⊥
 nomate_apart [] e = let bad : 32 ∷ codes "nomate" ≡ [] = cc in cc
 nomate_apart (m ∷ ms) e = let bad : move_text m ++ flat_map spaced ms ≡ codes "nomate" = cc in move_first m (flat_map spaced ms) (codes "omate") bad
 
-pub one_front : (a b : Claim) (text : List ℕ) → IsFront a text → IsFront b text → a ≡ b
+pub one_front : (a b : Claim) (text : List ℕ) → IsFrontLine a text → IsFrontLine b text → a ≡ b
 one_front Mate Mate text p q = refl
 one_front Escape Escape text p q = refl
 one_front Mate Escape text p q = absurd (nomate_apart p.0 (sym q ∙ p.3))
 one_front Escape Mate text p q = absurd (nomate_apart q.0 (sym p ∙ q.3))
 
 -- What is behind the front word, seen from there.
-pub moves_front : (text rest : List ℕ) → text ≡ codes "checkmate" ++ rest → AreMoves rest → IsFront Mate text
+pub moves_front : (text rest : List ℕ) → text ≡ codes "checkmate" ++ rest → AreMoves rest → IsFrontLine Mate text
 moves_front text rest e h = (h.0, h.1, h.2, e ∙ ap (λ (t : List ℕ). codes "checkmate" ++ t) h.3)
 
-pub front_moves : (text rest : List ℕ) → text ≡ codes "checkmate" ++ rest → IsFront Mate text → AreMoves rest
+pub front_moves : (text rest : List ℕ) → text ≡ codes "checkmate" ++ rest → IsFrontLine Mate text → AreMoves rest
 front_moves text rest e h = let t : codes "checkmate" ++ rest ≡ mate_text h.0 = sym e ∙ h.3 in let same : rest ≡ flat_map spaced h.0 = cc in (h.0, h.1, h.2, same)
 
 -- ---- moves, a space before each
@@ -164,13 +165,13 @@ regroup xs ys = append_assoc xs (10 ∷ []) ys
 
 -- A head behind the first line of a text: the line is its first one, or a front line.
 pub head_cut : (claim : Claim) (count : ℕ) (sfen rest bytes first more : List ℕ) → bytes ≡ first ++ 10 ∷ more → Lacks 10 first → IsHead claim count sfen rest bytes
-    → ((bytes ≡ headed claim count sfen rest) × (first ≡ claim_text claim count)) ⊎ (IsFront claim first × (more ≡ headed claim count sfen rest))
+    → ((bytes ≡ headed claim count sfen rest) × (first ≡ claim_text claim count)) ⊎ (IsFrontLine claim first × (more ≡ headed claim count sfen rest))
 head_cut claim count sfen rest bytes first more p lack h = elim h.is_front [
   | inl none ↦ (let t : bytes ≡ headed claim count sfen rest = h.text ∙ ap (λ (f : List ℕ). f ++ headed claim count sfen rest) none in
       inl (t, (headed_cut bytes first more claim count sfen rest p lack h.is_count t).0))
   | inr some ↦ (let t : bytes ≡ some.0 ++ 10 ∷ headed claim count sfen rest = h.text ∙ (ap (λ (f : List ℕ). f ++ headed claim count sfen rest) some.2 ∙ regroup some.0 (headed claim count sfen rest)) in
       let parts = cut_same 10 first more some.0 (headed claim count sfen rest) lack (front_lacks claim some.0 some.1) (sym p ∙ t) in
-      inr (subst (IsFront claim) (sym parts.0) some.1, parts.1))
+      inr (subst (IsFrontLine claim) (sym parts.0) some.1, parts.1))
 ]
 
 pub no_line : (claim : Claim) (count : ℕ) (sfen rest bytes : List ℕ) → Lacks 10 bytes → IsHead claim count sfen rest bytes → ⊥
@@ -184,7 +185,7 @@ no_line claim count sfen rest bytes lack h = elim h.is_front [
 pub bare_head : (claim : Claim) (count : ℕ) (sfen rest bytes : List ℕ) → IsReadCount count → Lacks 10 sfen → bytes ≡ headed claim count sfen rest → IsHead claim count sfen rest bytes
 bare_head claim count sfen rest bytes n lack e = record { is_count = n; is_line = lack; front = []; is_front = inl refl; text = e }
 
-pub fronted_head : (claim : Claim) (count : ℕ) (sfen rest bytes first more : List ℕ) → bytes ≡ first ++ 10 ∷ more → IsFront claim first → IsReadCount count → Lacks 10 sfen → more ≡ headed claim count sfen rest → IsHead claim count sfen rest bytes
+pub fronted_head : (claim : Claim) (count : ℕ) (sfen rest bytes first more : List ℕ) → bytes ≡ first ++ 10 ∷ more → IsFrontLine claim first → IsReadCount count → Lacks 10 sfen → more ≡ headed claim count sfen rest → IsHead claim count sfen rest bytes
 fronted_head claim count sfen rest bytes first more p front n lack e = record {
   is_count = n;
   is_line = lack;

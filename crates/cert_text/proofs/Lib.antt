@@ -4,3 +4,4 @@ pub mod Entries
 pub mod Bodies
 pub mod Again
 pub mod Readable
+pub mod Apart

@@ -1,12 +1,12 @@
 -- What a certificate is, before anybody has checked it.
-use Rattle.std.specs.Prelude.{◌≡◌, ◌≤◌, List, [], ◌∷◌, map, Contains}
+use Rattle.std.specs.Prelude.{◌≡◌, ◌≤◌, ℕ, List, [], ◌∷◌, Some, map, Contains, slice_get}
 use Rattle.std.specs.Ordering.{nat_cmp}
 use Rattle.std.specs.Cmp.Lexicographic.{slice_cmp}
 use Rattle.std.specs.declared.cmp.Ordering.TheVariants.{Less}
 use Rattle.board_core.specs.declared.moves.MateEntry.{MateEntry}
 use Rattle.board_core.specs.Board.{Board}
 use Rattle.shogi_rules.specs.Tsume.{IsProblem}
-use Rattle.usi_text.specs.MoveText.{HasText}
+use Rattle.board_core.specs.Text.{HasText}
 use Rattle.sfen_text.specs.Spelling.{sfen_of}
 
 -- A mate's certificate: the problem, and for each of some positions a rank and a move.
@@ -28,6 +28,10 @@ abbrev pub IsRising : List Board → Type 0
 IsRising [] = Unit {0}
 IsRising (a ∷ []) = Unit {0}
 IsRising (a ∷ b ∷ rest) = IsBefore a b × IsRising (b ∷ rest)
+
+-- No position stands at two places of the list.
+abbrev pub AreApart : List Board → Type 0
+AreApart positions = (i j : ℕ) (b : Board) → slice_get positions i ≡ Some b → slice_get positions j ≡ Some b → i ≡ j
 
 -- An entry's position is a problem of the certificate's side to move.
 pub record IsEntry (problem position : Board) : Type 0 where

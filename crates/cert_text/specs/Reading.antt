@@ -11,7 +11,7 @@ use Rattle.board_core.specs.declared.moves.MateEntry.{MateEntry}
 use Rattle.board_core.specs.Board.{Board}
 use Rattle.board_core.specs.Kept.{IsKept}
 use Rattle.shogi_rules.specs.Tsume.{IsProblem}
-use Rattle.usi_text.specs.MoveText.{HasText}
+use Rattle.board_core.specs.Text.{HasText}
 use Rattle.usi_text.specs.Lines.{spaced, mate_text, nomate_text, AllHaveText}
 use Rattle.sfen_text.specs.Spelling.{sfen_of}
 use Rattle.cert_text.specs.Certificate.{IsRising, IsEntry}
@@ -41,9 +41,9 @@ AreMoves text = (moves : List Move) × (0 < length moves) × AllHaveText moves �
 
 -- A line that may stand in front of a certificate: before an escape `checkmate nomate`, before a mate `checkmate` and one
 -- or more moves, a space before each.
-abbrev pub IsFront : Claim → List ℕ → Type 0
-IsFront Escape text = text ≡ nomate_text
-IsFront Mate text = (moves : List Move) × (0 < length moves) × AllHaveText moves × (text ≡ mate_text moves)
+abbrev pub IsFrontLine : Claim → List ℕ → Type 0
+IsFrontLine Escape text = text ≡ nomate_text
+IsFrontLine Mate text = (moves : List Move) × (0 < length moves) × AllHaveText moves × (text ≡ mate_text moves)
 
 -- So many entries are read: 1 to 1,400,000.
 abbrev pub IsReadCount : ℕ → Type 0
@@ -59,7 +59,7 @@ headed claim count sfen rest = claim_text claim count ++ 10 ∷ (codes "problem 
 
 -- Nothing, or the one line that may stand in front.
 abbrev pub IsFrontOrNone : Claim → List ℕ → Type 0
-IsFrontOrNone claim front = (front ≡ []) ⊎ ((text : List ℕ) × IsFront claim text × (front ≡ line text))
+IsFrontOrNone claim front = (front ≡ []) ⊎ ((text : List ℕ) × IsFrontLine claim text × (front ≡ line text))
 
 -- The text begins with the two lines of a head, perhaps behind the one front line, and then comes the rest.
 pub record IsHead (claim : Claim) (count : ℕ) (sfen rest bytes : List ℕ) : Type 0 where
@@ -152,17 +152,17 @@ pub record Ends {Entry : Type 0} (form : Form Entry) (entries : List Entry) (byt
   pub text : bytes ≡ texts_of form entries ++ end_line
 
 -- The fault is the first one of the lines behind a head that names so many entries.
-abbrev pub HasFault : {Entry : Type 0} → Form Entry → ℕ → List ℕ → CertFault → Type 0
-HasFault form count bytes BadHead = ⊥
-HasFault form count bytes (BadLine number) = HasBadLine form number bytes
-HasFault form count bytes (NotRising number) = HasFallingLine form number bytes
-HasFault form count bytes NoEnd = HasNoEnd form bytes
-HasFault {Entry} form count bytes WrongCount = (entries : List Entry) × Ends form entries bytes × (length entries ≢ count)
+abbrev pub HasLineFault : {Entry : Type 0} → Form Entry → ℕ → List ℕ → CertFault → Type 0
+HasLineFault form count bytes BadHead = ⊥
+HasLineFault form count bytes (BadLine number) = HasBadLine form number bytes
+HasLineFault form count bytes (NotRising number) = HasFallingLine form number bytes
+HasLineFault form count bytes NoEnd = HasNoEnd form bytes
+HasLineFault {Entry} form count bytes WrongCount = (entries : List Entry) × Ends form entries bytes × (length entries ≢ count)
 
 -- What was read behind a head, seen by view, or why nothing was.
 abbrev pub IsEntriesAnswer : {Found Entry : Type 0} → (Found → List Entry) → Form Entry → ℕ → List ℕ → Result Found CertEnd → Type 0
 IsEntriesAnswer view form count bytes (Ok found) = Ends form (view found) bytes × (length (view found) ≡ count)
-IsEntriesAnswer view form count bytes (Err (ends.Fault fault)) = HasFault form count bytes fault
+IsEntriesAnswer view form count bytes (Err (ends.Fault fault)) = HasLineFault form count bytes fault
 IsEntriesAnswer view form count bytes (Err ends.NoMemory) = Unit {0}
 
 -- What is wrong where the line `end` comes behind so many entries.
@@ -174,8 +174,8 @@ IsEndFault found count behind (Err fault) = ⊥
 
 -- The fault is the first one of the lines behind a head.
 abbrev pub HasFaultBehind : Claim → ℕ → Board → List ℕ → CertFault → Type 0
-HasFaultBehind Mate count problem bytes fault = HasFault (mate_form problem) count bytes fault
-HasFaultBehind Escape count problem bytes fault = HasFault (escape_form problem) count bytes fault
+HasFaultBehind Mate count problem bytes fault = HasLineFault (mate_form problem) count bytes fault
+HasFaultBehind Escape count problem bytes fault = HasLineFault (escape_form problem) count bytes fault
 
 -- Behind a head, which the text begins with, comes the fault.
 pub record HasLaterFault (bytes : List ℕ) (fault : CertFault) : Type 0 where

@@ -1,6 +1,6 @@
 // Certificates as values.
 ghost use Rattle.std.specs.Prelude.{◌≡◌};
-ghost use Rattle.cert_text.specs.Certificate.{IsMating, IsEscaping};
+ghost use Rattle.cert_text.specs.Certificate.{IsMating, IsEscaping, AreApart, positions_of};
 
 use board_core::{MateEntry, Position};
 use shogi_rules::Problem;
@@ -45,6 +45,8 @@ impl MateCertificate {
     pub fn entries(&self) -> &[MateEntry]
         ensures entries { result.now ≡ self.now.entries }
         ensures kept { IsMating self.now }
+        // No two entries have one position.
+        ensures apart { AreApart (positions_of self.now.entries) }
     {
         &self.entries
     }
@@ -88,6 +90,8 @@ impl EscapeCertificate {
     pub fn entries(&self) -> &[Position]
         ensures entries { result.now ≡ self.now.entries }
         ensures kept { IsEscaping self.now }
+        // No position stands twice among them.
+        ensures apart { AreApart self.now.entries }
     {
         &self.entries
     }

@@ -1,7 +1,7 @@
 // Heads of certificates.
 ghost use Rattle.std.specs.Prelude.{◌≡◌, ◌↔◌, ℕ, List, IfSome, IfNone, IsTrue};
 ghost use Rattle.cert_text.specs.declared.head.Claim.{Claim};
-ghost use Rattle.cert_text.specs.Reading.{Lacks, AreMoves, IsFront, IsReadCount, claim_text, headed, IsHead};
+ghost use Rattle.cert_text.specs.Reading.{Lacks, AreMoves, IsFrontLine, IsReadCount, claim_text, headed, IsHead};
 
 use crate::parts::{behind, cut, number_of};
 use usi_text::read_move;
@@ -51,8 +51,8 @@ fn are_moves(text: &[u8]) -> bool
 
 // What the certificate behind this line claims, where it is a line that may stand in front of one.
 fn front_of(text: &[u8]) -> Option<Claim>
-    ensures found { IfSome result (λ claim. IsFront claim text.now) }
-    ensures none { IfNone result ((claim : Claim) → IsFront claim text.now → ⊥) }
+    ensures found { IfSome result (λ claim. IsFrontLine claim text.now) }
+    ensures none { IfNone result ((claim : Claim) → IsFrontLine claim text.now → ⊥) }
 {
     let Some(rest) = behind(text, b"checkmate") else {
         return None;

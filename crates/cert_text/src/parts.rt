@@ -12,7 +12,7 @@ ghost use Rattle.cert_text.specs.Reading.{Lacks};
 
 use board_core::{NoMemory, Position, Side};
 use itoa::Buffer;
-use sfen_text::{read_sfen, write_sfen};
+use sfen_text::{read_sfen, sfen_laws, write_sfen};
 use shogi_rules::{Problem, accept_problem};
 use std::alloc::Global;
 use std::cmp::Ordering;
@@ -121,6 +121,8 @@ pub(crate) fn position_of(
     ensures side { IfOk result (λ found. IfSome found (λ p. p.side ≡ side)) }
     ensures none { IfOk result (λ found. IfNone found ((p : Board) → IsKept p → IsProblem p → p.side ≡ side → text.now ≡ sfen_of p → ⊥)) }
 {
+    // No other position has this text.
+    sfen_laws();
     let Some(problem) = problem_of(alloc, text)? else {
         return Ok(None);
     };

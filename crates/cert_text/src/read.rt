@@ -12,9 +12,10 @@ use crate::head::{Claim, head_of};
 use crate::parts::{cut, is_before, number_of, position_of, problem_of};
 use crate::{CertEnd, CertFault, Certificate, EscapeCertificate, MateCertificate};
 use board_core::{MateEntry, NoMemory, Position};
+use sfen_text::sfen_laws;
 use shogi_rules::Problem;
 use std::alloc::Global;
-use usi_text::read_move;
+use usi_text::{move_laws, read_move};
 
 // The entry of a mate that a line is, and its SFEN text.
 fn mate_entry_of<'a>(
@@ -86,6 +87,8 @@ fn mate_entries(
 ) -> Result<Vec<MateEntry>, CertEnd>
     ensures { IsEntriesAnswer (λ entries. entries.items) (mate_form problem.now.position) count text.now result }
 {
+    // The empty text comes before every text of a position.
+    sfen_laws();
     let mut entries = Vec::new(alloc);
     let mut last: &[u8] = b"";
     let mut rest = text;
@@ -120,6 +123,8 @@ fn escape_entries(
 ) -> Result<Vec<Position>, CertEnd>
     ensures { IsEntriesAnswer (λ entries. entries.items) (escape_form problem.now.position) count text.now result }
 {
+    // The empty text comes before every text of a position.
+    sfen_laws();
     let mut entries = Vec::new(alloc);
     let mut last: &[u8] = b"";
     let mut rest = text;
@@ -181,5 +186,8 @@ pub fn read_cert(alloc: Global, bytes: &[u8]) -> Result<Certificate, CertEnd>
     // No text has two first faults, or one and a certificate.
     ensures only { (fault : CertFault) → HasFirstFault bytes.now fault → IsFaultAs fault result }
 {
+    // No two positions, and no two moves, have one text.
+    sfen_laws();
+    move_laws();
     certificate_of(alloc, bytes)
 }

@@ -18,7 +18,7 @@ pub closed_excludes : (attacker : Side) (s : List Board) → IsClosed attacker s
     → RankAtMost attacker n b → ⊥
 closed_excludes attacker s closed zero b member h = h
 closed_excludes attacker s closed (suc n) b member h =
-    let e = closed b h.0 member h.1 in
+    let e = closed.answered b h.0 member h.1 in
     closed_excludes attacker s closed n (after_both b h.0 e.0) (in_first _ _ (e.2)) (h.2 e.0 e.1)
 
 pub escape_excludes : (attacker : Side) (b : Board) → Escapes attacker b → IsMate attacker b → ⊥

@@ -1,6 +1,6 @@
 -- What a mate and an escape are. The attacker only gives check, the defender makes any legal move, and play without end is
 -- no mate.
-use Rattle.std.specs.Prelude.{◌⊎◌, ◌≤◌, ℕ, zero, suc, List, [], Contains}
+use Rattle.std.specs.Prelude.{◌≡◌, ◌⊎◌, ◌≤◌, ℕ, zero, suc, List, [], Contains}
 use Rattle.board_core.specs.declared.piece.Side.{Side}
 use Rattle.board_core.specs.declared.moves.Move.{Move}
 use Rattle.board_core.specs.Board.{Board}
@@ -13,7 +13,7 @@ after_both b check answer = after (after b check) answer
 
 -- The position is mate within a number of the attacker's moves: never within 0; within n + 1 where there is a check after
 -- which every answer leads to a position that is mate within n. So a rank is a finite strategy of checks against every
--- legal defence: a check without an answer is mate within 1.
+-- legal defence: a check without an answer is mate within 1. (Where the defender is to move there is no check, so no rank.)
 abbrev pub RankAtMost : Side → ℕ → Board → Type 0
 RankAtMost attacker zero b = ⊥
 RankAtMost attacker (suc n) b =
@@ -24,14 +24,15 @@ RankAtMost attacker (suc n) b =
 abbrev pub IsMate : Side → Board → Type 0
 IsMate attacker b = (n : ℕ) × RankAtMost attacker n b
 
--- The positions of s, the attacker's to move, are closed, but for those of t: each check from each position of s has an answer
--- that leads to a position of s or of t. (Of a position that is the defender's to move nothing is asked: there is no check.)
-abbrev pub IsClosed : Side → List Board → List Board → Type 0
-IsClosed attacker s t = (b : Board) (check : Move) → Contains s b → IsCheck attacker b check
-    → (answer : Move) × IsAnswer attacker (after b check) answer
-    × (Contains s (after_both b check answer) ⊎ Contains t (after_both b check answer))
+-- The positions of s are closed, but for those of t: at each position of s the attacker is to move, and each check from it has an
+-- answer that leads to a position of s or of t.
+pub record IsClosed (attacker : Side) (s t : List Board) : Type 0 where
+  pub turn : (b : Board) → Contains s b → b.side ≡ attacker
+  pub answered : (b : Board) (check : Move) → Contains s b → IsCheck attacker b check
+      → (answer : Move) × IsAnswer attacker (after b check) answer
+      × (Contains s (after_both b check answer) ⊎ Contains t (after_both b check answer))
 
--- From the position the defender escapes into the positions of t: it is one of some closed positions, but for those of t.
+-- From the position the defender escapes, or gets into the positions of t: it is one of some closed positions, but for those of t.
 abbrev pub EscapesInto : Side → Board → List Board → Type 0
 EscapesInto attacker b t = (s : List Board) × Contains s b × IsClosed attacker s t
 
@@ -43,7 +44,7 @@ Escapes attacker b = EscapesInto attacker b []
 abbrev pub EscapeIsNoMate : Type 0
 EscapeIsNoMate = (attacker : Side) (b : Board) → Escapes attacker b → ¬ IsMate attacker b
 
--- A law: a mate within n is a mate within any greater number.
+-- A law: a mate within n is a mate within any number that isn't less.
 abbrev pub RankGrows : Type 0
 RankGrows = (attacker : Side) (n m : ℕ) (b : Board) → n ≤ m → RankAtMost attacker n b → RankAtMost attacker m b
 
@@ -53,6 +54,6 @@ pub record MateInOne (attacker : Side) (b : Board) : Type 0 where
   pub is_check : IsCheck attacker b check
   pub no_answer : (answer : Move) → ¬ IsAnswer attacker (after b check) answer
 
--- A law: a check without an answer is a mate within one move, and only such a check is.
+-- A law: a position is mate within one move exactly where it has a check without an answer.
 abbrev pub RankOne : Type 0
 RankOne = (attacker : Side) (b : Board) → (MateInOne attacker b → RankAtMost attacker 1 b) × (RankAtMost attacker 1 b → MateInOne attacker b)

@@ -1,13 +1,13 @@
 -- The entries of an escape are closed: from each, every check leads to a place with a step to a listed one.
 use Rattle.std.proofs.Common.{◌≡◌, ◌<◌, ◌≤◌, ◌+◌, ◌⊎◌, inl, inr, ℕ, List, [], ◌∷◌, ◌++◌, Bool, true, get_or, length, Contains, arith, ap, sym, refl, ◌∙◌, subst, Fits, w32}
 use Rattle.std.specs.Prelude.{Some, slice_get, slice_index}
-use Rattle.std.proofs.lemmas.Bool.{cases_eq}
+use Rattle.std.proofs.lemmas.Bool.{cases_lt}
 use Rattle.std.proofs.lemmas.Option.{same_Some, slice_get_cases, slice_get_within, slice_get-get_or}
 use Rattle.std.proofs.lemmas.List.{length_push}
 use Rattle.board_core.specs.declared.moves.Move.{Move}
 use Rattle.board_core.specs.Kind.{other}
 use Rattle.board_core.specs.Board.{Board}
-use Rattle.board_core.specs.Order.{RisesFrom, order_of}
+use Rattle.board_core.specs.Order.{RisesFrom, order_of, OrdersApart, PlacesInOrder}
 use Rattle.shogi_rules.specs.Rules.{after}
 use Rattle.shogi_rules.specs.Tsume.{IsCheck}
 use Rattle.mate_def.specs.Mate.{after_both}
@@ -19,11 +19,13 @@ use Rattle.plain_search.specs.Plain.{IsFirstInto, HoldsEscape, IsPlainEscape}
 use Rattle.plain_search.specs.Decision.{known_of}
 use Rattle.plain_search.specs.Agenda.{AreListed}
 use Rattle.plain_search.specs.Entries.{AreEscapeEntries}
-use Rattle.plain_search.proofs.Agendas.{Grows, at_place, below_or_not, contained, get_cases, grows_contains, grows_more, grows_none, added_cases}
-use Rattle.plain_search.proofs.Mates.{met, step_by, by_of, step_answers, step_checks, in_play_entry, in_play_kept}
-use Rattle.plain_search.proofs.MoveOrder.{before_in, order_same}
+use Rattle.plain_search.proofs.Lists.{contained, at_place, get_cases, more}
+use Rattle.plain_search.proofs.Steps.{step_by, by_of, after_side, step_answers, step_checks}
+use Rattle.plain_search.proofs.Agendas.{Grows, grows_contains, grows_more, grows_none, added_cases}
+use Rattle.plain_search.proofs.Mates.{met, in_play_entry, in_play_kept}
+use Rattle.plain_search.proofs.MoveOrder.{before_in}
 use Rattle.plain_search.proofs.Told.{held_unranked}
-use Rattle.plain_search.proofs.Held.{after_side, both_side, held}
+use Rattle.plain_search.proofs.Held.{both_side, held}
 
 -- 1. What is kept of the agenda and the entries.
 
@@ -92,7 +94,7 @@ module _ (p : Board) (graph : Graph) (ranks : List ℕ) (g : IsGraph p graph) (a
 
   known_after : (place : ℕ) (check : Step) → place < length ranks → IsFree p graph ranks place → Contains (steps_at graph place) check
       → check.to < length ranks
-  known_after place check below free is_check = elim (below_or_not check.to (length ranks)) [
+  known_after place check below free is_check = elim (cases_lt check.to (length ranks)) [
     | inl known ↦ known
     | inr beyond ↦ absurd (not_beaten place check below free is_check (inr (beyond, refl)))
   ]
@@ -103,21 +105,21 @@ module _ (p : Board) (graph : Graph) (ranks : List ℕ) (g : IsGraph p graph) (a
     first : IsFirstInto p.side (known_of graph) b check.by way.by
 
   -- an earlier way out would be one step earlier
-  not_earlier : (steps : List Step) → RisesFrom 0 (moves_of steps) → (i : ℕ) (way : Step) → slice_get steps i ≡ Some way
+  not_earlier : PlacesInOrder → (steps : List Step) → RisesFrom 0 (moves_of steps) → (i : ℕ) (way : Step) → slice_get steps i ≡ Some way
       → ((k : ℕ) (other : Step) → k < i → slice_get steps k ≡ Some other → IsRanked true ranks 4294967296 other.to)
       → (other : Step) (c : Contains steps other) → other.to < length ranks → slice_index ranks other.to ≡ 0 → order_of way.by ≤ order_of other.by
-  not_earlier steps rises i way at earlier other c below none = elim (below_or_not (order_of other.by) (order_of way.by)) [
+  not_earlier order steps rises i way at earlier other c below none = elim (cases_lt (order_of other.by) (order_of way.by)) [
     | inl less ↦
         let there = at_place steps other c in
-        let ranked = earlier c.0 other (before_in 0 steps rises c.0 i other way there at less) there in
+        let ranked = earlier c.0 other (before_in order steps rises c.0 i other way there at less) there in
         elim ranked [ inl some ↦ (let r = some.1 in absurd (omega arith)) | inr beyond ↦ (let past = beyond.0 in absurd (omega arith)) ]
     | inr not ↦ not
   ]
 
-  way_of : (place : ℕ) (b : Board) (check : Step) (next : ℕ) → place < length ranks → slice_get (met graph) place ≡ Some b
+  way_of : PlacesInOrder → (place : ℕ) (b : Board) (check : Step) (next : ℕ) → place < length ranks → slice_get (met graph) place ≡ Some b
       → IsFree p graph ranks place → Contains (steps_at graph place) check → next < length ranks → slice_index ranks next ≡ 0
       → (way : IsWayOut graph ranks check.to next) → IsWay place b check next way.step
-  way_of place b check next below at free is_check below' none way =
+  way_of order place b check next below at free is_check below' none way =
       let step = way.step in
       let known = known_after place check below free is_check in
       let lead = (steps_of place b below at).lead check is_check in
@@ -138,16 +140,16 @@ module _ (p : Board) (graph : Graph) (ranks : List ℕ) (g : IsGraph p graph) (a
               subst (λ (m : Move). slice_get (met graph) found.step.to ≡ Some (after_both b check.by m)) found.by (steps.lead found.step found.is_step) in
               let unranked = held_unranked p graph g won.0 ranks all won.1 found.step.to (after_both b check.by answer) there holds in
               subst (λ (m : Move). order_of step.by ≤ order_of m) found.by
-              (not_earlier (steps_at graph check.to) steps.lists.rises way.index step way.at way.earlier found.step found.is_step unranked.0 unranked.1);
+              (not_earlier order (steps_at graph check.to) steps.lists.rises way.index step way.at way.earlier found.step found.is_step unranked.0 unranked.1);
         };
       }
 
   -- where the way out leads to is free
-  way_free : (place : ℕ) (check : Step) (next : ℕ) → place < length ranks → IsFree p graph ranks place → Contains (steps_at graph place) check
+  way_free : PlacesInOrder → (place : ℕ) (check : Step) (next : ℕ) → place < length ranks → IsFree p graph ranks place → Contains (steps_at graph place) check
       → next < length ranks → slice_index ranks next ≡ 0 → IsWayOut graph ranks check.to next → IsFree p graph ranks next
-  way_free place check next below free is_check below' none way =
+  way_free order place check next below free is_check below' none way =
       let b = board_at place below in
-      let w = way_of place b.0 check next below b.1 free is_check below' none way in
+      let w = way_of order place b.0 check next below b.1 free is_check below' none way in
       let a = after_both b.0 check.by way.step.by in
       record {
         unranked = none;
@@ -162,31 +164,18 @@ module _ (p : Board) (graph : Graph) (ranks : List ℕ) (g : IsGraph p graph) (a
             (holds.next b.0 check.by way.step.by (free.reached positions b.0 holds b.1) checks w.first);
       }
 
-  -- the problem's place is free
-  pub first_free : slice_index ranks 0 ≡ 0 → IsFree p graph ranks 0
-  first_free none = record {
-    unranked = none;
-    side = λ b at. ap (λ (x : Board). x.side) (same_Some b p (sym at ∙ g.begins));
-    reached = λ positions b holds at. subst (Contains positions) (same_Some p b (sym g.begins ∙ at)) holds.problem;
-  }
-
-  pub led_more : (old places new : List ℕ) (checks : List Step) (n place to : ℕ) (check : Step) → AreLed p graph ranks old places checks n
+  pub led_more : PlacesInOrder → (old places new : List ℕ) (checks : List Step) (n place to : ℕ) (check : Step) → AreLed p graph ranks old places checks n
       → slice_get checks n ≡ Some check → place < length ranks → IsFree p graph ranks place → Contains (steps_at graph place) check
       → to < length ranks → slice_index ranks to ≡ 0 → IsWayOut graph ranks check.to to → Contains new to
       → (new ≡ places) ⊎ (new ≡ places ++ to ∷ []) → AreLed p graph ranks old new checks (n + 1)
-  led_more old places new checks n place to check so_far is below free is_check below' unranked way there longer = record {
+  led_more order old places new checks n place to check so_far is below free is_check below' unranked way there longer = record {
     grows = grows_more old places new to so_far.grows longer;
     free = λ q c. elim (added_cases places new to q longer c) [
       | inl before ↦ so_far.free q before
-      | inr same ↦ subst (IsFree p graph ranks) same (way_free place check to below free is_check below' unranked way)
+      | inr same ↦ subst (IsFree p graph ranks) same (way_free order place check to below free is_check below' unranked way)
     ];
-    led = λ k a less e. elim (cases_eq k n) [
-      | inl same ↦
-          let s = same_Some check a (sym is ∙ subst (λ (q : ℕ). slice_get checks q ≡ Some a) same e) in
-          subst (λ (x : Step). IsLedInto graph ranks new x.to) s (record { next = to; way = way; listed = there })
-      | inr earlier ↦ still_led graph ranks places new a.to (grows_more places places new to (grows_none places) longer)
-          (so_far.led k a (omega arith) e)
-    ];
+    led = more (λ (a : Step). IsLedInto graph ranks new a.to) checks n check is (record { next = to; way = way; listed = there })
+        (λ k a less e. still_led graph ranks places new a.to (grows_more places places new to (grows_none places) longer) (so_far.led k a less e));
   }
 
   pub next_free : (listed : List Bool) (places : List ℕ) (positions : List Board) → AreListed (length ranks) listed places
@@ -253,17 +242,17 @@ module _ (p : Board) (graph : Graph) (ranks : List ℕ) (g : IsGraph p graph) (a
     first : IsFirstInto p.side (known_of graph) b check answer
     listed : Contains positions (after_both b check answer)
 
-  answer_at : (listed : List Bool) (places : List ℕ) (positions : List Board) → AreListed (length ranks) listed places
+  answer_at : PlacesInOrder → (listed : List Bool) (places : List ℕ) (positions : List Board) → AreListed (length ranks) listed places
       → AreHeld p graph ranks places positions → length places ≤ length positions → (k : ℕ) (b : Board) (check : Move)
       → IsHeldAt graph ranks places k b → IsCheck p.side b check → HasAnswer positions b check
-  answer_at listed places positions l h whole k b check s is_check =
+  answer_at order listed places positions l h whole k b check s is_check =
       let c = contained places k s.place s.there in
       let below = l.within s.place c in
       let free = h.free s.place c in
       let steps = steps_of s.place b below s.at in
       let first = step_by (steps_at graph s.place) check (steps.lists.complete check (inl is_check)) in
       let led = s.led first.step first.is_step in
-      let w = way_of s.place b first.step led.next below s.at free first.is_step (l.within led.next led.listed) (h.free led.next led.listed).unranked led.way in
+      let w = way_of order s.place b first.step led.next below s.at free first.is_step (l.within led.next led.listed) (h.free led.next led.listed).unranked led.way in
       subst (HasAnswer positions b) first.by
       (record {
         answer = led.way.step.by;
@@ -276,17 +265,24 @@ module _ (p : Board) (graph : Graph) (ranks : List ℕ) (g : IsGraph p graph) (a
     held_at : (b : Board) (c : Contains positions b) → IsHeldAt graph ranks places c.0 b
     held_at b c = h.held c.0 b (at_place positions b c)
 
-    answer_to : (b : Board) (check : Move) → Contains positions b → IsCheck p.side b check → HasAnswer positions b check
-    answer_to b check c is_check = answer_at listed places positions l h whole c.0 b check (held_at b c) is_check
+    -- a listed position is the attacker's to move
+    turn_of : (b : Board) → Contains positions b → b.side ≡ p.side
+    turn_of b c =
+        let s = held_at b c in
+        (h.free s.place (contained places c.0 s.place s.there)).side b s.at
 
-    pub escape_held : AreEscapeEntries p positions
-    escape_held = record {
+    answer_to : PlacesInOrder → (b : Board) (check : Move) → Contains positions b → IsCheck p.side b check → HasAnswer positions b check
+    answer_to order b check c is_check = answer_at order listed places positions l h whole c.0 b check (held_at b c) is_check
+
+    pub escape_held : PlacesInOrder → AreEscapeEntries p positions
+    escape_held order = record {
       listed = entered places positions h whole 0 p h.first g.begins;
-      closed = λ b check c is_check.
-          let a = answer_to b check c is_check in (a.answer, a.first.is_answer, inl a.listed);
-      problems = λ b c.
-          let s = held_at b c in
-          in_play_entry p graph s.place b g s.at ((h.free s.place (contained places c.0 s.place s.there)).side b s.at);
+      closed = record {
+        turn = turn_of;
+        answered = λ b check c is_check.
+            let a = answer_to order b check c is_check in (a.answer, a.first.is_answer, inl a.listed);
+      };
+      problems = λ b c. let s = held_at b c in in_play_entry p graph s.place b g s.at (turn_of b c);
       kept = λ b c. let s = held_at b c in in_play_kept p graph s.place b g s.at;
       apart = λ i j b e f.
           let s = h.held i b e in
@@ -296,16 +292,16 @@ module _ (p : Board) (graph : Graph) (ranks : List ℕ) (g : IsGraph p graph) (a
     }
 
     -- two first answers are one
-    pub escape_plain : IsPlainEscape p (known_of graph) (record { problem = p; entries = positions })
-    escape_plain = record {
-      answered = λ b check c is_check. let a = answer_to b check c is_check in (a.answer, a.first);
+    pub escape_plain : PlacesInOrder → OrdersApart → IsPlainEscape p (known_of graph) (record { problem = p; entries = positions })
+    escape_plain order apart = record {
+      answered = λ b check c is_check. let a = answer_to order b check c is_check in (a.answer, a.first);
       holds = record {
         problem = entered places positions h whole 0 p h.first g.begins;
         next = λ b check answer c is_check first.
-            let a = answer_to b check c is_check in
+            let a = answer_to order b check c is_check in
             let low = a.first.first answer first.is_answer first.into in
             let high = first.first a.answer a.first.is_answer a.first.into in
-            subst (λ (m : Move). Contains positions (after_both b check m)) (order_same a.answer answer (omega arith)) a.listed;
+            subst (λ (m : Move). Contains positions (after_both b check m)) (apart a.answer answer (omega arith)) a.listed;
       };
       reached = λ others b holds c.
           let s = held_at b c in

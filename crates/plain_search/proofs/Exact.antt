@@ -1,9 +1,8 @@
 -- What ranks by places tell exactly: the least number of moves within which the known positions show a mate, and the checks that
 -- mate within it.
-use Rattle.std.proofs.Common.{◌≡◌, ◌≢◌, ◌<◌, ◌≤◌, inl, inr, ℕ, zero, suc, List, false, length, Contains, arith, ap, sym, refl, ◌∙◌, subst, ⊎_elim, length-take, get_or-take}
+use Rattle.std.proofs.Common.{◌≡◌, ◌≢◌, ◌<◌, ◌≤◌, inl, inr, ℕ, zero, suc, List, false, length, Contains, arith, ap, sym, refl, ◌∙◌, subst, ⊎_elim}
 use Rattle.std.specs.Prelude.{Some, slice_get, slice_index}
 use Rattle.std.proofs.lemmas.Bool.{cases_eq, cases_lt}
-use Rattle.std.proofs.lemmas.Option.{get_or_from_slice_get, slice_get_within}
 use Rattle.board_core.specs.declared.moves.Move.{Move}
 use Rattle.board_core.specs.declared.moves.MateEntry.{MateEntry}
 use Rattle.board_core.specs.Kind.{other}
@@ -18,9 +17,11 @@ use Rattle.plain_search.specs.Ranks.{IsRanked, IsBeaten, IsWon, AreRanks}
 use Rattle.plain_search.specs.Within.{RankWithin}
 use Rattle.plain_search.specs.Plain.{WinsWithin, IsPlainEntry}
 use Rattle.plain_search.specs.Decision.{known_of}
+use Rattle.plain_search.proofs.Lists.{contained_first}
+use Rattle.plain_search.proofs.Steps.{step_by, by_of, after_side, step_checks, step_answers}
 use Rattle.plain_search.proofs.Ranking.{won_along}
-use Rattle.plain_search.proofs.Told.{after_side, known_place, rank_known}
-use Rattle.plain_search.proofs.Mates.{step_by, by_of, step_checks, step_answers, known_beaten, known_ranked}
+use Rattle.plain_search.proofs.Told.{known_place, rank_known}
+use Rattle.plain_search.proofs.Mates.{known_beaten, known_ranked}
 
 -- A step from the place with the check leads to a place that is beaten below a rank.
 record IsWinner (graph : Graph) (ranks : List ℕ) (below place : ℕ) (check : Move) : Type 0 where
@@ -34,15 +35,6 @@ above_zero zero h = absurd (omega arith)
 above_zero (suc n) h = (n, refl)
 
 module _ (p : Board) (graph : Graph) (ranks : List ℕ) (g : IsGraph p graph) (r : AreRanks false p graph ranks) where
-  in_known : (place : ℕ) (b : Board) → place < units_of graph → slice_get (positions_of graph) place ≡ Some b → Contains (known_of graph) b
-  in_known place b h there =
-      let l = length-take (units_of graph) (positions_of graph) in
-      let inside = slice_get_within (positions_of graph) place b there in (
-        place,
-        omega (arith, l, h, inside),
-        get_or-take (units_of graph) (positions_of graph) place b h ∙ get_or_from_slice_get (positions_of graph) place b b there,
-      )
-
   -- 1. A rank tells a mate.
 
   -- what has a rank of so many at most, is told to be mate within so many
@@ -62,7 +54,7 @@ module _ (p : Board) (graph : Graph) (ranks : List ℕ) (g : IsGraph p graph) (r
       let next = g.steps step.to (after b step.by) below lead in
       record {
         is_check = step_checks p.side b step.by side (steps.lists.sound step.by (by_of (steps_at graph place) step is));
-        between = in_known step.to (after b step.by) below lead;
+        between = contained_first (positions_of graph) (units_of graph) step.to (after b step.by) below lead;
         answers = λ answer is_answer.
             let s = step_by (steps_at graph step.to) answer (next.lists.complete answer (inr is_answer)) in
             let ranked = known_ranked ranks (suc n) s.step.to (known.1 s.step s.is_step) in
@@ -79,7 +71,7 @@ module _ (p : Board) (graph : Graph) (ranks : List ℕ) (g : IsGraph p graph) (r
       let won : IsWon false graph ranks (suc n) place =
       won_along false graph ranks ranks (slice_index ranks place) (suc n) place refl (λ k inside some lower. (some, omega (arith, lower, low))) w.1 in
       let wins = beaten_wins n (λ q c below at some under. told n q c below at some under) place b won.step h there w.0 won.is_step won.beaten in
-      (in_known place b (omega (arith, all, h)) there, (won.step.by, wins.is_check, wins.between, wins.answers))
+      (contained_first (positions_of graph) (units_of graph) place b (omega (arith, all, h)) there, (won.step.by, wins.is_check, wins.between, wins.answers))
 
   -- 2. A mate that is told has a rank, and not a higher one.
 
@@ -146,6 +138,7 @@ module _ (p : Board) (graph : Graph) (ranks : List ℕ) (g : IsGraph p graph) (r
       let wins = beaten_wins n (told n) place entry.at step h there side is
       (subst (λ (below : ℕ). IsBeaten false graph ranks below step.to) more beaten) in
       record {
+        is_known = contained_first (positions_of graph) (units_of graph) place entry.at (omega (arith, all, h)) there;
         further = n;
         rank = rank ∙ more;
         wins = subst (WinsWithin p.side (known_of graph) n entry.at) by wins;

@@ -10,7 +10,8 @@ use Rattle.plain_search.specs.Queue.{IsQueue, IsWithAll}
 use Rattle.plain_search.specs.Graph.{IsKeptQueue, AreSteps, IsGraph, moves_of, steps_at, units_of, positions_of}
 use Rattle.plain_search.specs.declared.graph.Step.{Step}
 use Rattle.plain_search.specs.declared.graph.Graph.{Graph}
-use Rattle.plain_search.proofs.Queues.{get_before, get_last, with_all_kept, not_shorter}
+use Rattle.plain_search.proofs.Lists.{get_before, get_last}
+use Rattle.plain_search.proofs.Queues.{with_all_kept, not_shorter}
 
 abbrev Kept : List Board → List Board → Type 0
 Kept old new = (place : ℕ) (x : Board) → slice_get old place ≡ Some x → slice_get new place ≡ Some x
@@ -21,7 +22,7 @@ steps_kept : (attacker : Side) (old new : List Board) (b : Board) (steps : List 
 steps_kept attacker old new b steps kept are = record {
   lists = are.lists;
   lead = λ step there. kept step.to _ (are.lead step there);
-  listed = are.listed;
+  texts = are.texts;
 }
 
 -- a unit more has its steps at the place of its front, and leaves the others

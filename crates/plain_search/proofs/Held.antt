@@ -1,12 +1,11 @@
 -- Where no rank is missing, a position of the attacker without one is held.
-use Rattle.std.proofs.Common.{◌≡◌, ◌<◌, ◌⊎◌, inl, inr, ℕ, zero, suc, List, [], ◌∷◌, Bool, true, false, cond, get_or, length, Contains, arith, ap, refl, ◌∙◌, subst, Fits, w32, length-take, get_or-take}
+use Rattle.std.proofs.Common.{◌≡◌, ◌<◌, ◌⊎◌, inl, inr, ℕ, zero, suc, List, [], ◌∷◌, Bool, true, false, cond, get_or, length, Contains, arith, ap, refl, ◌∙◌, subst, Fits, w32}
 use Rattle.std.specs.Prelude.{Some, slice_get, slice_index}
-use Rattle.std.proofs.lemmas.Bool.{cases_eq}
-use Rattle.std.proofs.lemmas.Option.{same_Some, slice_get_within, get_or_from_slice_get}
+use Rattle.std.proofs.lemmas.Bool.{cases_eq, cases_lt}
+use Rattle.std.proofs.lemmas.Option.{same_Some}
 use Rattle.board_core.specs.declared.piece.Side.{Side}
 use Rattle.board_core.specs.declared.piece.Side.TheVariants.{Black, White}
 use Rattle.board_core.specs.declared.moves.Move.{Move}
-use Rattle.board_core.specs.declared.moves.Move.TheVariants as moves
 use Rattle.board_core.specs.Kind.{other}
 use Rattle.board_core.specs.Board.{Board}
 use Rattle.shogi_rules.specs.Rules.{after}
@@ -18,18 +17,14 @@ use Rattle.plain_search.specs.Graph.{IsGraph, steps_at, units_of, positions_of}
 use Rattle.plain_search.specs.Ranks.{IsRanked, IsBeaten, AreLost}
 use Rattle.plain_search.specs.Within.{IsAnsweredWithin, IsHeldWithin}
 use Rattle.plain_search.specs.Decision.{known_of}
-use Rattle.plain_search.proofs.Agendas.{below_or_not}
-use Rattle.plain_search.proofs.Mates.{step_by, by_of, step_answers}
+use Rattle.plain_search.proofs.Lists.{contained_first}
+use Rattle.plain_search.proofs.Steps.{step_by, by_of, after_side, step_answers}
 
 -- 1. Two moves on, the same side is to move.
 
 other_again : (s : Side) → other (other s) ≡ s
 other_again Black = refl
 other_again White = refl
-
-pub after_side : (b : Board) (move : Move) → (after b move).side ≡ other b.side
-after_side b (moves.Board from to promote) = refl
-after_side b (moves.Drop _ to) = refl
 
 pub both_side : (b : Board) (check answer : Move) → (after_both b check answer).side ≡ b.side
 both_side b check answer = after_side (after b check) answer ∙ (ap other (after_side b check) ∙ other_again b.side)
@@ -131,17 +126,11 @@ free_out attacker (x ∷ bs) (rank ∷ ranks) b c =
 
 module _ (p : Board) (graph : Graph) (ranks : List ℕ) (g : IsGraph p graph) (all : length ranks ≡ units_of graph)
     (lost : AreLost true p graph ranks) (fits : (place : ℕ) → Fits w32 (get_or ranks place 0)) where
-  pub is_known : (place : ℕ) (b : Board) → place < length ranks → slice_get (positions_of graph) place ≡ Some b → Contains (known_of graph) b
-  is_known place b below at =
-      let inside = slice_get_within (positions_of graph) place b at in
-      let long = length-take (units_of graph) (positions_of graph) in (
-        place,
-        omega arith,
-        get_or-take (units_of graph) (positions_of graph) place b (omega arith) ∙ get_or_from_slice_get (positions_of graph) place b b at,
-      )
+  is_known : (place : ℕ) (b : Board) → place < length ranks → slice_get (positions_of graph) place ≡ Some b → Contains (known_of graph) b
+  is_known place b below at = contained_first (positions_of graph) (units_of graph) place b (omega arith) at
 
   ranked_or_not : (to : ℕ) → IsRanked true ranks 4294967296 to ⊎ ((to < length ranks) × (slice_index ranks to ≡ 0))
-  ranked_or_not to = elim (below_or_not to (length ranks)) [
+  ranked_or_not to = elim (cases_lt to (length ranks)) [
     | inl known ↦ elim (cases_eq (slice_index ranks to) 0) [
       | inl none ↦ inr (known, none)
       | inr some ↦ inl (inl (known, omega arith, (let f = fits to in omega arith)))
@@ -183,7 +172,7 @@ module _ (p : Board) (graph : Graph) (ranks : List ℕ) (g : IsGraph p graph) (a
       let lead = subst (λ (m : Move). slice_get (positions_of graph) first.step.to ≡ Some (after b m)) first.by (steps.lead first.step first.is_step) in
       let free : IsBeaten true graph ranks 4294967296 first.step.to → ⊥ =
       λ beaten. lost place b below at none side (record { step = first.step; is_step = first.is_step; beaten = beaten }) in
-      elim (below_or_not first.step.to (length ranks)) [
+      elim (cases_lt first.step.to (length ranks)) [
         | inl known ↦ elim (all_or_free (steps_at graph first.step.to)) [
           | inl ranked ↦ absurd (free (inl (known, ranked)))
           | inr way ↦

@@ -1,3 +1,4 @@
+pub mod Lists
 pub mod Queues
 pub mod Steps
 pub mod Growth

@@ -1,96 +1,37 @@
 -- The entries of a mate are borne out: each shows a step to a beaten place, all answers at which lead to listed places.
-use Rattle.std.proofs.Common.{◌≡◌, ◌<◌, ◌≤◌, ◌+◌, ◌⊎◌, inl, inr, ℕ, List, [], ◌∷◌, ◌++◌, false, get_or, length, Contains, arith, ap, sym, refl, ◌∙◌, subst}
-use Rattle.std.specs.Prelude.{Option, Some, None, Bool, slice_get, slice_index}
-use Rattle.std.specs.Option.{option_map}
-use Rattle.std.proofs.lemmas.Bool.{cases_eq}
-use Rattle.std.proofs.lemmas.Option.{same_Some, slice_get-map, slice_get_cases, slice_get_within, slice_get_read, slice_get-get_or}
+use Rattle.std.proofs.Common.{◌≡◌, ◌<◌, ◌≤◌, ◌+◌, ◌⊎◌, inl, inr, ℕ, List, [], ◌∷◌, ◌++◌, false, get_or, length, Contains, arith, sym, refl, ◌∙◌, subst}
+use Rattle.std.specs.Prelude.{Some, Bool, slice_get, slice_index}
+use Rattle.std.proofs.lemmas.Option.{same_Some, slice_get_cases, slice_get_within, slice_get_read, slice_get-get_or}
 use Rattle.std.proofs.lemmas.List.{length_push}
 use Rattle.board_core.specs.declared.piece.Side.{Side}
-use Rattle.board_core.specs.declared.piece.Side.TheVariants.{Black, White}
 use Rattle.board_core.specs.declared.moves.Move.{Move}
-use Rattle.board_core.specs.declared.moves.Move.TheVariants as moves
 use Rattle.board_core.specs.declared.moves.MateEntry.{MateEntry}
-use Rattle.board_core.specs.Kind.{other, place_of}
+use Rattle.board_core.specs.Kind.{other}
 use Rattle.board_core.specs.Board.{Board, kings_of}
 use Rattle.board_core.specs.Kept.{IsKept}
-use Rattle.board_core.specs.Order.{order_of, RisesFrom}
-use Rattle.shogi_rules.specs.declared.illegal.Illegal.TheVariants.{NotThere, OwnPiece}
-use Rattle.shogi_rules.specs.Rules.{IsLegal, IsOwn, after}
+use Rattle.board_core.specs.Order.{RisesFrom}
+use Rattle.shogi_rules.specs.Rules.{after}
 use Rattle.shogi_rules.specs.Tsume.{IsCheck, IsAnswer}
 use Rattle.mate_def.specs.Mate.{after_both}
-use Rattle.usi_text.specs.MoveText.{HasText}
+use Rattle.board_core.specs.Text.{HasText}
 use Rattle.cert_text.specs.Certificate.{IsEntry, positions_of}
 use Rattle.cert_check.specs.Valid.{IsListedBelow}
 use Rattle.plain_search.specs.declared.graph.Step.{Step}
 use Rattle.plain_search.specs.declared.graph.Graph.{Graph}
 use Rattle.plain_search.specs.Queue.{IsStep}
-use Rattle.plain_search.specs.Graph.{AreApart, AreSteps, IsGraph, moves_of, steps_at, units_of}
+use Rattle.cert_text.specs.Certificate.{AreApart}
+use Rattle.plain_search.specs.Graph.{AreSteps, IsGraph, moves_of, steps_at, units_of}
 use Rattle.plain_search.specs.Ranks.{IsRanked, IsBeaten, IsWon, AreRanks}
 use Rattle.plain_search.specs.Agenda.{AreListed}
 use Rattle.plain_search.specs.Entries.{AreMateEntries}
-use Rattle.plain_search.proofs.Agendas.{Grows, at_place, contained, get_cases, grows_contains, grows_more, grows_none, added_cases}
+use Rattle.plain_search.proofs.Lists.{contained, at_place, from_map, contains_map, get_cases, more}
+use Rattle.plain_search.proofs.Steps.{step_by, by_of, step_checks}
+use Rattle.plain_search.proofs.Agendas.{Grows, grows_contains, grows_more, grows_none, added_cases}
 
--- 1. Steps and positions.
+-- 1. Positions.
 
 abbrev pub met : Graph → List Board
 met graph = graph.queue.positions.items
-
--- a move of steps is that of one of them
-pub record IsStepBy (steps : List Step) (move : Move) : Type 0 where
-  pub step : Step
-  pub is_step : Contains steps step
-  pub by : step.by ≡ move
-
-some_step : (move : Move) (o : Option Step) → option_map (λ (s : Step). s.by) o ≡ Some move → (s : Step) × (o ≡ Some s) × (s.by ≡ move)
-some_step move None e = absurd (cc)
-some_step move (Some s) e = (s, refl, same_Some s.by move e)
-
-pub step_by : (steps : List Step) (move : Move) → Contains (moves_of steps) move → IsStepBy steps move
-step_by steps move c =
-    let e = sym (slice_get-map (λ (s : Step). s.by) steps c.0) ∙ at_place (moves_of steps) move c in
-    let s = some_step move (slice_get steps c.0) e in
-    record { step = s.0; is_step = contained steps c.0 s.0 s.1; by = s.2 }
-
--- the move of a step is listed
-pub by_of : (steps : List Step) (step : Step) → Contains steps step → Contains (moves_of steps) step.by
-by_of steps step c =
-    let e = slice_get-map (λ (s : Step). s.by) steps c.0 ∙ ap (option_map (λ (s : Step). s.by)) (at_place steps step c) in
-    contained (moves_of steps) c.0 step.by e
-
-some_entry : (b : Board) (o : Option MateEntry) → option_map (λ (e : MateEntry). e.at) o ≡ Some b → (e : MateEntry) × (o ≡ Some e) × (e.at ≡ b)
-some_entry b None e = absurd (cc)
-some_entry b (Some x) e = (x, refl, same_Some x.at b e)
-
-entry_at : (entries : List MateEntry) (k : ℕ) (b : Board) → slice_get (positions_of entries) k ≡ Some b
-    → (e : MateEntry) × (slice_get entries k ≡ Some e) × (e.at ≡ b)
-entry_at entries k b h = some_entry b (slice_get entries k) (sym (slice_get-map (λ (e : MateEntry). e.at) entries k) ∙ h)
-
-at_of : (entries : List MateEntry) (entry : MateEntry) → Contains entries entry → Contains (positions_of entries) entry.at
-at_of entries entry c =
-    let e = slice_get-map (λ (x : MateEntry). x.at) entries c.0 ∙ ap (option_map (λ (x : MateEntry). x.at)) (at_place entries entry c) in
-    contained (positions_of entries) c.0 entry.at e
-
-pub other_side : (s : Side) → s ≡ other s → ⊥
-other_side Black e = cc
-other_side White e = cc
-
--- a step of the attacker is a check, one of the defender an answer
-pub step_checks : (attacker : Side) (b : Board) (move : Move) → b.side ≡ attacker → IsStep attacker b move → IsCheck attacker b move
-step_checks attacker b move side h = elim h [
-  | inl check ↦ check
-  | inr answer ↦ absurd (other_side attacker (sym side ∙ answer.mover))
-]
-
-pub step_answers : (attacker : Side) (b : Board) (move : Move) → b.side ≡ other attacker → IsStep attacker b move → IsAnswer attacker b move
-step_answers attacker b move side h = elim h [
-  | inl check ↦ absurd (other_side attacker (sym check.mover ∙ side))
-  | inr answer ↦ answer
-]
-
-pub legal_has_text : (b : Board) (m : Move) → IsLegal b m → order_of m < 13689 → HasText m
-legal_has_text b (moves.Board from to promote) legal listed =
-    λ same. legal NotThere (λ own. legal OwnPiece (subst (λ (s : ℕ). IsOwn b s) same own))
-legal_has_text b (moves.Drop k to) legal listed = λ king. let seven : place_of k ≡ 7 = ap place_of king in omega arith
 
 -- what play leads to is a problem, where the attacker is to move
 pub in_play_entry : (p : Board) (graph : Graph) (place : ℕ) (b : Board) → IsGraph p graph → slice_get (met graph) place ≡ Some b
@@ -141,13 +82,8 @@ answer_more ranks old places new answers n answer so_far is ranked there longer 
     | inl before ↦ so_far.ranked place before
     | inr same ↦ subst (λ (q : ℕ). 0 < slice_index ranks q) same ranked
   ];
-  listed = λ k a below e. elim (cases_eq k n) [
-    | inl same ↦
-        let s = same_Some answer a (sym is ∙ subst (λ (q : ℕ). slice_get answers q ≡ Some a) same e) in
-        subst (λ (x : Step). Contains new x.to) s there
-    | inr earlier ↦
-        grows_contains places new a.to (grows_more places places new answer.to (grows_none places) longer) (so_far.listed k a (omega arith) e)
-  ];
+  listed = more (λ (a : Step). Contains new a.to) answers n answer is there
+      (λ k a below e. grows_contains places new a.to (grows_more places places new answer.to (grows_none places) longer) (so_far.listed k a below e));
 }
 
 still_shown : (graph : Graph) (ranks old new : List ℕ) (k : ℕ) (entry : MateEntry) → Grows old new → IsShown graph ranks old k entry
@@ -304,7 +240,7 @@ module _ (p : Board) (graph : Graph) (ranks places : List ℕ) (entries : List M
       let is_step : IsStep p.side entry.at h.step.by =
       steps.lists.sound h.step.by (by_of (steps_at graph h.place) h.step h.is_step) in
       let check = step_checks p.side entry.at h.step.by w.1 is_step in
-      (subst (IsCheck p.side entry.at) h.by check, subst HasText h.by (legal_has_text entry.at h.step.by check.legal (steps.listed h.step h.is_step)))
+      (subst (IsCheck p.side entry.at) h.by check, subst HasText h.by (steps.texts h.step h.is_step))
 
   answer_below : (k : ℕ) (entry : MateEntry) → IsShown graph ranks places k entry → (count : ℕ) (listed : List Bool)
       → AreListed count listed places → count ≡ length ranks → (answer : Move)
@@ -332,8 +268,8 @@ module _ (p : Board) (graph : Graph) (ranks places : List ℕ) (entries : List M
 
   one_place : (count : ℕ) (listed : List Bool) → AreListed count listed places → AreApart (positions_of entries)
   one_place count listed l i j b e f =
-      let first = entry_at entries i b e in
-      let second = entry_at entries j b f in
+      let first = from_map (λ (entry : MateEntry). entry.at) entries i b e in
+      let second = from_map (λ (entry : MateEntry). entry.at) entries j b f in
       let h = s.shown i first.0 first.1 in
       let k = s.shown j second.0 second.1 in
       let same = g.kept.apart h.place k.place b
@@ -347,7 +283,7 @@ module _ (p : Board) (graph : Graph) (ranks places : List ℕ) (entries : List M
       λ entry c. s.shown c.0 entry (at_place entries entry c) in
       let first = entered 0 s.first in
       record {
-        listed = subst (Contains (positions_of entries)) (same_Some first.entry.at p (sym first.at ∙ g.begins)) (at_of entries first.entry first.listed);
+        listed = subst (Contains (positions_of entries)) (same_Some first.entry.at p (sym first.at ∙ g.begins)) (contains_map (λ (entry : MateEntry). entry.at) entries first.entry first.listed);
         borne_out = λ entry c. record {
           check = (shown_check (length ranks) listed l refl c.0 entry (shown entry c)).0;
           answers = answer_below c.0 entry (shown entry c) (length ranks) listed l refl;

@@ -5,7 +5,7 @@ use Rattle.std.specs.List.{AllZip}
 use Rattle.std.specs.Option.{option_map}
 use Rattle.std.proofs.lemmas.List.{take_more, take_all, length-map}
 use Rattle.std.proofs.lemmas.List.Elements.{Contains-get_or}
-use Rattle.std.proofs.lemmas.Option.{get_or_from_slice_get, slice_get_within, slice_get-map, slice_get_read}
+use Rattle.std.proofs.lemmas.Option.{slice_get-map, slice_get_read}
 use Rattle.board_core.specs.declared.piece.Side.{Side}
 use Rattle.board_core.specs.declared.moves.MateEntry.{MateEntry}
 use Rattle.board_core.specs.Board.{Board}
@@ -15,14 +15,9 @@ use Rattle.cert_text.specs.Certificate.{Mating, Escaping, IsMating, IsEscaping, 
 use Rattle.cert_check.specs.Valid.{IsListedBelow, ValidMate, ValidEscape}
 use Rattle.plain_search.specs.Plain.{IsPlainMate}
 use Rattle.plain_search.specs.Entries.{AreMateEntries, ArePlainEntries, mating_of, AreEscapeEntries, RiseAt, IsTextOrder}
+use Rattle.plain_search.proofs.Lists.{contained, at_place, from_map}
 
 -- 1. The members.
-
-contains_at : {X : Type 0} (xs : List X) (i : ℕ) (x : X) → slice_get xs i ≡ Some x → Contains xs x
-contains_at {X} xs i x e = (i, slice_get_within xs i x e, get_or_from_slice_get xs i x x e)
-
-at_contains : {X : Type 0} (xs : List X) (x : X) (c : Contains xs x) → slice_get xs c.0 ≡ Some x
-at_contains {X} xs x c = slice_get_read xs (length xs) c.0 x refl c.1 (sym c.2)
 
 module _ {X : Type 0} where
   -- each of the picked stands in the list at its place of the order
@@ -52,27 +47,27 @@ module _ {X : Type 0} where
   picked_at xs [] [] p k y e = absurd (cc)
   picked_at xs [] (z ∷ zs) p k y e = absurd p
   picked_at xs (o ∷ os) [] p k y e = absurd p
-  picked_at xs (o ∷ os) (z ∷ zs) p zero y e = contains_at xs o y (p.0 ∙ e)
+  picked_at xs (o ∷ os) (z ∷ zs) p zero y e = contained xs o y (p.0 ∙ e)
   picked_at xs (o ∷ os) (z ∷ zs) p (suc k) y e = picked_at xs os zs p.1 k y e
 
   -- a picked one is of the list
   pub of_picked : (xs : List X) (order : List ℕ) (ys : List X) → ArePicked xs order ys → (y : X) → Contains ys y → Contains xs y
-  of_picked xs order ys p y c = picked_at xs order ys p c.0 y (at_contains ys y c)
+  of_picked xs order ys p y c = picked_at xs order ys p c.0 y (at_place ys y c)
 
-  at_place : (xs : List X) (order : List ℕ) (ys : List X) → ArePicked xs order ys → (k place : ℕ) (x : X) → slice_get order k ≡ Some place
+  picked_place : (xs : List X) (order : List ℕ) (ys : List X) → ArePicked xs order ys → (k place : ℕ) (x : X) → slice_get order k ≡ Some place
       → slice_get xs place ≡ Some x → slice_get ys k ≡ Some x
-  at_place xs [] [] p k place x e f = absurd (cc)
-  at_place xs [] (z ∷ zs) p k place x e f = absurd p
-  at_place xs (o ∷ os) [] p k place x e f = absurd p
-  at_place xs (o ∷ os) (z ∷ zs) p zero place x e f = let same : o ≡ place = cc in sym p.0 ∙ (ap (slice_get xs) same ∙ f)
-  at_place xs (o ∷ os) (z ∷ zs) p (suc k) place x e f = at_place xs os zs p.1 k place x e f
+  picked_place xs [] [] p k place x e f = absurd (cc)
+  picked_place xs [] (z ∷ zs) p k place x e f = absurd p
+  picked_place xs (o ∷ os) [] p k place x e f = absurd p
+  picked_place xs (o ∷ os) (z ∷ zs) p zero place x e f = let same : o ≡ place = cc in sym p.0 ∙ (ap (slice_get xs) same ∙ f)
+  picked_place xs (o ∷ os) (z ∷ zs) p (suc k) place x e f = picked_place xs os zs p.1 k place x e f
 
   -- where all places are in the order, one of the list is picked
   pub is_picked : (xs : List X) (order : List ℕ) (ys : List X) → ((place : ℕ) → place < length xs → Contains order place) → ArePicked xs order ys
       → (x : X) → Contains xs x → Contains ys x
   is_picked xs order ys all p x c =
       let o = all c.0 c.1 in
-      contains_at ys o.0 x (at_place xs order ys p o.0 c.0 x (at_contains order c.0 o) (at_contains xs x c))
+      contained ys o.0 x (picked_place xs order ys p o.0 c.0 x (at_place order c.0 o) (at_place xs x c))
 
 picked_map : {X Y : Type 0} (f : X → Y) (xs : List X) (order : List ℕ) (ys : List X) → ArePicked xs order ys → ArePicked (map f xs) order (map f ys)
 picked_map {X} {Y} f xs [] [] p = tt
@@ -94,12 +89,6 @@ rising bs (o ∷ q ∷ os) (c ∷ d ∷ cs) p r = (r.0 c d p.0 p.1.0, rising bs 
 abbrev position_of : MateEntry → Board
 position_of entry = entry.at
 
-at_entry : (entries : List MateEntry) (k : ℕ) (b : Board) → slice_get (positions_of entries) k ≡ Some b
-    → (entry : MateEntry) × (slice_get entries k ≡ Some entry) × (entry.at ≡ b)
-at_entry [] k b e = absurd (cc)
-at_entry (x ∷ xs) zero b e = (x, refl, (cc))
-at_entry (x ∷ xs) (suc k) b e = at_entry xs k b e
-
 -- the positions of all entries
 pub all_positions : (entries : List MateEntry) (n : ℕ) (positions : List Board) → positions ≡ positions_of (take n entries) → length entries ≤ n
     → positions ≡ positions_of entries
@@ -117,8 +106,8 @@ within {X} positions order places xs i ordered same as_long h =
 pub of_entries : (P : Board → Type 0) (entries : List MateEntry) → ((entry : MateEntry) → Contains entries entry → P entry.at)
     → (b : Board) → Contains (positions_of entries) b → P b
 of_entries P entries h b c =
-    let found = at_entry entries c.0 b (at_contains (positions_of entries) b c) in
-    subst P found.2 (h found.0 (contains_at entries c.0 found.0 found.1))
+    let found = from_map position_of entries c.0 b (at_place (positions_of entries) b c) in
+    subst P found.2 (h found.0 (contained entries c.0 found.0 found.1))
 
 pub as_many : (entries : List MateEntry) → length (positions_of entries) ≡ length entries
 as_many entries = length-map entries position_of
@@ -190,9 +179,12 @@ escaping p entries sorted order accepted are ordered picked = record {
 
 closed_sorted : (attacker : Side) (entries sorted : List Board) → ((b : Board) → Contains entries b → Contains sorted b)
     → ((b : Board) → Contains sorted b → Contains entries b) → IsClosed attacker entries [] → IsClosed attacker sorted []
-closed_sorted attacker entries sorted kept of closed = λ b check c is_check.
-    let a = closed b check (of b c) is_check in
-    (a.0, a.1, ⊎_elim (λ h. inl (kept _ h)) (λ h. inr h) a.2)
+closed_sorted attacker entries sorted kept of closed = record {
+  turn = λ b c. closed.turn b (of b c);
+  answered = λ b check c is_check.
+      let a = closed.answered b check (of b c) is_check in
+      (a.0, a.1, ⊎_elim (λ h. inl (kept _ h)) (λ h. inr h) a.2);
+}
 
 pub valid_escape : (p : Board) (entries sorted : List Board) (order : List ℕ) (certificate : Escaping)
     → certificate ≡ record { problem = p; entries = sorted } → AreEscapeEntries p entries

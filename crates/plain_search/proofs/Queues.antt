@@ -1,61 +1,19 @@
 -- What stays in a queue when positions are put behind it.
-use Rattle.std.proofs.Common.{◌≡◌, ◌<◌, ◌≤◌, ◌++◌, ◌⊎◌, inl, inr, ℕ, zero, suc, List, [], ◌∷◌, length, Contains, arith, ap, sym, refl, ◌∙◌, subst}
+use Rattle.std.proofs.Common.{◌≡◌, ◌<◌, ◌≤◌, ◌++◌, inl, inr, ℕ, List, [], ◌∷◌, length, Contains, arith, sym, refl, subst}
 use Rattle.std.specs.Prelude.{Some, slice_get}
-use Rattle.std.proofs.lemmas.Option.{get_or_from_slice_get, slice_get_within, slice_get-get_or}
+use Rattle.std.proofs.lemmas.Option.{slice_get_within, slice_get-get_or}
 use Rattle.std.proofs.lemmas.List.Elements.{Contains-push_cases}
 use Rattle.board_core.specs.declared.moves.Move.{Move}
 use Rattle.board_core.specs.Board.{Board}
 use Rattle.shogi_rules.specs.Rules.{after}
 use Rattle.cert_check.specs.Places.{ArePlacesOf}
 use Rattle.plain_search.specs.Queue.{IsWith, IsWithAll}
-use Rattle.plain_search.specs.Graph.{AreApart, IsInPlay, IsKeptQueue}
+use Rattle.cert_text.specs.Certificate.{AreApart}
+use Rattle.plain_search.specs.Graph.{IsInPlay, IsKeptQueue}
 use Rattle.plain_search.specs.declared.graph.Queue.{Queue}
+use Rattle.plain_search.proofs.Lists.{get_kept, apart_more}
 
--- 1. Places of a list with one more behind it.
-
-pub get_kept : {X : Type 0} (xs : List X) (y : X) (place : ℕ) (x : X) → slice_get xs place ≡ Some x
-    → slice_get (xs ++ y ∷ []) place ≡ Some x
-get_kept [] y place x e = absurd (cc)
-get_kept (z ∷ xs) y zero x e = e
-get_kept (z ∷ xs) y (suc place) x e = get_kept xs y place x e
-
-pub get_before : {X : Type 0} (xs : List X) (y : X) (place : ℕ) → place < length xs
-    → slice_get (xs ++ y ∷ []) place ≡ slice_get xs place
-get_before [] y place h = absurd (omega arith)
-get_before (z ∷ xs) y zero h = refl
-get_before (z ∷ xs) y (suc place) h = get_before xs y place (omega arith)
-
-pub get_last : {X : Type 0} (xs : List X) (y : X) → slice_get (xs ++ y ∷ []) (length xs) ≡ Some y
-get_last [] y = refl
-get_last (z ∷ xs) y = get_last xs y
-
--- what a longer list has at a place is of the old list, or the last
-get_cases : {X : Type 0} (xs : List X) (y : X) (place : ℕ) (x : X) → slice_get (xs ++ y ∷ []) place ≡ Some x
-    → (slice_get xs place ≡ Some x) ⊎ ((place ≡ length xs) × (y ≡ x))
-get_cases [] y zero x e = inr (refl, cc)
-get_cases [] y (suc place) x e = absurd (cc)
-get_cases (z ∷ xs) y zero x e = inl e
-get_cases (z ∷ xs) y (suc place) x e = elim (get_cases xs y place x e) [
-  | inl old ↦ inl old
-  | inr last ↦ inr (ap suc last.0, last.1)
-]
-
-pub contains_at : {X : Type 0} (xs : List X) (place : ℕ) (x : X) → slice_get xs place ≡ Some x → Contains xs x
-contains_at xs place x e = (place, slice_get_within xs place x e, get_or_from_slice_get xs place x x e)
-
--- 2. A queue with one position more.
-
-apart_more : (xs : List Board) (y : Board) → AreApart xs → ¬ Contains xs y → AreApart (xs ++ y ∷ [])
-apart_more xs y apart new i j x ei ej = elim (get_cases xs y i x ei) [
-  | inl old ↦ elim (get_cases xs y j x ej) [
-    | inl older ↦ apart i j x old older
-    | inr last ↦ absurd (new (subst (Contains xs) (sym last.1) (contains_at xs i x old)))
-  ]
-  | inr last ↦ elim (get_cases xs y j x ej) [
-    | inl old ↦ absurd (new (subst (Contains xs) (sym last.1) (contains_at xs j x old)))
-    | inr too ↦ last.0 ∙ sym too.0
-  ]
-]
+-- 1. A queue with one position more.
 
 pub kept_more : (p b : Board) (old new : Queue) → IsKeptQueue p old → IsInPlay p b → ¬ Contains old.positions.items b
     → new.positions.items ≡ old.positions.items ++ b ∷ [] → ArePlacesOf new.places (old.positions.items ++ b ∷ [])
@@ -69,7 +27,7 @@ kept_more p b old new kept in_play absent longer places = record {
   ];
 }
 
--- 3. The queue with the position behind it, unless it is in it.
+-- 2. The queue with the position behind it, unless it is in it.
 
 pub with_kept : (queue : List Board) (b : Board) (longer : List Board) → IsWith queue b longer → (place : ℕ) (x : Board)
     → slice_get queue place ≡ Some x → slice_get longer place ≡ Some x

@@ -1,29 +1,15 @@
 -- How ranks grow by one rank more.
-use Rattle.std.proofs.Common.{◌≡◌, ◌≢◌, ◌<◌, ◌≤◌, ◌+◌, ◌==◌, inl, inr, ℕ, zero, suc, Bool, true, cond, List, [], ◌∷◌, ◌++◌, replicate, get_or, length, Contains, count_by, arith, ap, sym, refl, ◌∙◌, subst, ⊎_elim}
+use Rattle.std.proofs.Common.{◌≡◌, ◌≢◌, ◌<◌, ◌≤◌, ◌+◌, ◌==◌, inl, inr, ℕ, zero, suc, Bool, true, cond, List, [], ◌∷◌, ◌++◌, replicate, length, Contains, count_by, arith, ap, sym, refl, ◌∙◌, subst, ⊎_elim}
 use Rattle.std.specs.Prelude.{Some, slice_index, slice_get}
 use Rattle.std.proofs.lemmas.Bool.{cases_eq, cases_lt, ne_eqb}
 use Rattle.std.proofs.lemmas.List.{get_or_past, get_or_push, get_or_append_left, length-replicate}
 use Rattle.std.proofs.lemmas.List.Sums.{sum_by-cons, count_by-le-length}
-use Rattle.std.proofs.lemmas.Option.{get_or_from_slice_get, slice_get_read, slice_get_cases}
+use Rattle.std.proofs.lemmas.Option.{slice_get_cases}
 use Rattle.board_core.specs.Board.{Board}
 use Rattle.plain_search.specs.declared.graph.Step.{Step}
 use Rattle.plain_search.specs.declared.graph.Graph.{Graph}
 use Rattle.plain_search.specs.Graph.{steps_at, units_of, positions_of}
 use Rattle.plain_search.specs.Ranks.{IsRanked, IsBeaten, IsWon, AreWon, AreLeast, AreRanks, IsNext, AreNext}
-
--- what a place holds does not depend on what is read past the end
-at_same : {X : Type 0} (xs : List X) (i : ℕ) (x a : X) → i < length xs → x ≡ get_or xs i x → get_or xs i a ≡ a → x ≡ a
-at_same xs i x a h is e = sym (get_or_from_slice_get xs i x a (slice_get_read xs (length xs) i x refl h is)) ∙ e
-
--- one place further in a list
-pub more : {X : Type 0} (P : X → Type 0) (xs : List X) (i : ℕ) (x : X) → i < length xs → x ≡ get_or xs i x → P x
-    → ((k : ℕ) (a : X) → k < i → get_or xs k a ≡ a → P a)
-    → (k : ℕ) (a : X) → k < i + 1 → get_or xs k a ≡ a → P a
-more {X} P xs i x h is px below k a lt e =
-    ⊎_elim
-    (λ (s : k ≡ i). let f = subst (λ n. get_or xs n a ≡ a) s e in subst P (at_same xs i x a h is f) px)
-    (λ (ne : k ≢ i). below k a (omega arith) e)
-    (cases_eq k i)
 
 -- one number more at the end of a list
 pub one_more : (P : ℕ → ℕ → Type 0) (xs : List ℕ) (i x : ℕ) → length xs ≡ i → P i x → ((k : ℕ) → k < i → P k (slice_index xs k))

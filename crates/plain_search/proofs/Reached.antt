@@ -1,13 +1,14 @@
 -- Steps that rise, and entries that the others lead to.
-use Rattle.std.proofs.Common.{◌≡◌, ◌<◌, ◌≤◌, ◌+◌, ◌++◌, ◌⊎◌, inl, inr, ℕ, zero, suc, List, [], ◌∷◌, false, length, Contains, arith, ap, sym, ◌∙◌, subst}
+use Rattle.std.proofs.Common.{◌≡◌, ◌<◌, ◌≤◌, ◌++◌, ◌⊎◌, inl, inr, ℕ, List, [], ◌∷◌, false, length, Contains, arith, ap, sym, ◌∙◌, subst}
 use Rattle.std.specs.Prelude.{Some, slice_get, slice_index}
+use Rattle.std.proofs.lemmas.Bool.{cases_lt}
 use Rattle.std.proofs.lemmas.Option.{same_Some}
 use Rattle.std.proofs.lemmas.List.Elements.{Contains-push, Contains-push_cases, Contains-append_left}
 use Rattle.board_core.specs.declared.moves.Move.{Move}
 use Rattle.board_core.specs.declared.moves.MateEntry.{MateEntry}
 use Rattle.board_core.specs.Kind.{other}
 use Rattle.board_core.specs.Board.{Board}
-use Rattle.board_core.specs.Order.{order_of, RisesFrom}
+use Rattle.board_core.specs.Order.{order_of, RisesFrom, PlacesInOrder}
 use Rattle.shogi_rules.specs.Rules.{after}
 use Rattle.mate_def.specs.Mate.{after_both}
 use Rattle.plain_search.specs.declared.graph.Step.{Step}
@@ -17,44 +18,27 @@ use Rattle.plain_search.specs.Ranks.{IsBeaten, AreRanks}
 use Rattle.plain_search.specs.Plain.{IsPlainEntry, HoldsMate}
 use Rattle.plain_search.specs.Decision.{known_of}
 use Rattle.plain_search.specs.Entries.{mating_of, ArePlainEntries}
-use Rattle.plain_search.proofs.Agendas.{at_place, below_or_not, contained, added_cases}
-use Rattle.plain_search.proofs.Told.{after_side}
-use Rattle.plain_search.proofs.Mates.{AreShown, IsNext, by_of, known_beaten, step_answers}
+use Rattle.plain_search.proofs.Lists.{contained, at_place}
+use Rattle.plain_search.proofs.MoveOrder.{before_in}
+use Rattle.plain_search.proofs.Steps.{by_of, after_side, step_answers}
+use Rattle.plain_search.proofs.Agendas.{added_cases}
+use Rattle.plain_search.proofs.Mates.{AreShown, IsNext, known_beaten}
 use Rattle.plain_search.proofs.Exact.{plain_entry}
 
 -- 1. The first step comes first in the order of moves.
 
-from_low : (low : ℕ) (steps : List Step) → RisesFrom low (moves_of steps) → (j : ℕ) (b : Step) → slice_get steps j ≡ Some b → low ≤ order_of b.by
-from_low low [] rises j b e = absurd (cc)
-from_low low (s ∷ ss) rises zero b e =
-    let same : s ≡ b = cc in subst (λ (x : Step). low ≤ order_of x.by) same rises.0
-from_low low (s ∷ ss) rises (suc j) b e =
-    let w = from_low (order_of s.by + 1) ss rises.1 j b e in
-    omega (arith, w, rises.0)
-
-rise : (low : ℕ) (steps : List Step) → RisesFrom low (moves_of steps) → (i j : ℕ) (a b : Step) → slice_get steps i ≡ Some a
-    → slice_get steps j ≡ Some b → i ≤ j → order_of a.by ≤ order_of b.by
-rise low [] rises i j a b e f h = absurd (cc)
-rise low (s ∷ ss) rises zero zero a b e f h =
-    let same : a ≡ b = cc in let o = ap (λ (x : Step). order_of x.by) same in omega (arith, o)
-rise low (s ∷ ss) rises zero (suc j) a b e f h =
-    let w = from_low (order_of s.by + 1) ss rises.1 j b f in
-    let same : s ≡ a = cc in
-    let o = ap (λ (x : Step). order_of x.by) same in
-    omega (arith, w, o)
-rise low (s ∷ ss) rises (suc i) zero a b e f h = absurd (omega arith)
-rise low (s ∷ ss) rises (suc i) (suc j) a b e f h = rise (order_of s.by + 1) ss rises.1 i j a b e f (omega arith)
-
 -- before the first step of a kind, none is of it; so all of it come later in the order of moves
-pub first_of : (P : Step → Type 0) (items steps : List Step) (i : ℕ) (a : Step) → items ≡ steps → RisesFrom 0 (moves_of steps)
+pub first_of : PlacesInOrder → (P : Step → Type 0) (items steps : List Step) (i : ℕ) (a : Step) → items ≡ steps → RisesFrom 0 (moves_of steps)
     → slice_get items i ≡ Some a → ((k : ℕ) (s : Step) → k < i → slice_get items k ≡ Some s → P s → ⊥)
     → (b : Step) → Contains steps b → P b → order_of a.by ≤ order_of b.by
-first_of P items steps i a same rises at none b there is =
+first_of order P items steps i a same rises at none b there is =
     let c = subst (λ (xs : List Step). Contains xs b) (sym same) there in
     let e = at_place items b c in
-    elim (below_or_not c.0 i) [
-      | inl before ↦ absurd (none c.0 b before e is)
-      | inr later ↦ rise 0 items (subst (λ (xs : List Step). RisesFrom 0 (moves_of xs)) (sym same) rises) i c.0 a b at e later
+    elim (cases_lt (order_of b.by) (order_of a.by)) [
+      | inl sooner ↦
+          let before = before_in order items (subst (λ (xs : List Step). RisesFrom 0 (moves_of xs)) (sym same) rises) c.0 i b a e at sooner in
+          absurd (none c.0 b before e is)
+      | inr later ↦ later
     ]
 
 -- 2. Nothing is listed but what the entries lead to from the problem.

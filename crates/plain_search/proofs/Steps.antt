@@ -1,11 +1,14 @@
--- Steps that are listed one after the other.
+-- Steps: checks and answers, and lists of them.
 use Rattle.std.proofs.Common.{◌≡◌, ◌<◌, ◌++◌, ℕ, List, [], ◌∷◌, Contains, arith, ap, sym, refl, ◌∙◌, subst, inl, inr}
 use Rattle.std.specs.Prelude.{Some, slice_get}
+use Rattle.std.proofs.lemmas.List.{map-append}
 use Rattle.std.proofs.lemmas.List.Elements.{Contains-push_cases}
 use Rattle.board_core.specs.declared.moves.Move.{Move}
+use Rattle.board_core.specs.declared.moves.Move.TheVariants as moves
 use Rattle.board_core.specs.Board.{Board, kings_of}
 use Rattle.board_core.specs.Kind.{other}
-use Rattle.board_core.specs.Order.{order_of, Lists}
+use Rattle.board_core.specs.Order.{Lists}
+use Rattle.board_core.specs.Text.{HasText}
 use Rattle.board_core.specs.declared.piece.Side.{Side}
 use Rattle.board_core.specs.declared.piece.Side.TheVariants.{Black, White}
 use Rattle.shogi_rules.specs.Tsume.{IsCheck, IsAnswer}
@@ -14,25 +17,38 @@ use Rattle.plain_search.specs.Queue.{IsStep, IsWith, IsWithAll}
 use Rattle.plain_search.specs.Graph.{IsInPlay, IsKeptQueue, AreSteps, moves_of}
 use Rattle.plain_search.specs.declared.graph.Step.{Step}
 use Rattle.plain_search.specs.declared.graph.Queue.{Queue}
+use Rattle.plain_search.proofs.Lists.{contained, at_place, from_map, contains_map}
 use Rattle.plain_search.proofs.Queues.{with_kept, with_all_more}
+
+-- 1. Sides and moves.
+
+pub other_side : (side : Side) → side ≡ other side → ⊥
+other_side Black e = cc
+other_side White e = cc
+
+pub after_side : (b : Board) (move : Move) → (after b move).side ≡ other b.side
+after_side b (moves.Board _ _ _) = refl
+after_side b (moves.Drop _ _) = refl
 
 pub step_legal : (attacker : Side) (b : Board) (move : Move) → IsStep attacker b move → IsLegal b move
 step_legal attacker b move (inl check) = check.legal
 step_legal attacker b move (inr answer) = answer.legal
 
-other_is_other : (side : Side) → side ≡ other side → ⊥
-other_is_other Black e = cc
-other_is_other White e = cc
+-- a step of the attacker is a check, one of the defender an answer
+pub step_checks : (attacker : Side) (b : Board) (move : Move) → b.side ≡ attacker → IsStep attacker b move → IsCheck attacker b move
+step_checks attacker b move side (inl check) = check
+step_checks attacker b move side (inr answer) = absurd (other_side attacker (sym side ∙ answer.mover))
+
+pub step_answers : (attacker : Side) (b : Board) (move : Move) → b.side ≡ other attacker → IsStep attacker b move → IsAnswer attacker b move
+step_answers attacker b move side (inl check) = absurd (other_side attacker (sym check.mover ∙ side))
+step_answers attacker b move side (inr answer) = answer
 
 -- where the attacker is to move, the checks are the steps
 pub checks_are_steps : (attacker : Side) (b : Board) (moves : List Move) → b.side ≡ attacker → Lists (IsCheck attacker b) moves
     → Lists (IsStep attacker b) moves
 checks_are_steps attacker b moves same lists = record {
   sound = λ move there. inl (lists.sound move there);
-  complete = λ move step. elim step [
-    | inl check ↦ lists.complete move check
-    | inr answer ↦ absurd (other_is_other attacker (sym same ∙ answer.mover))
-  ];
+  complete = λ move step. lists.complete move (step_checks attacker b move same step);
   rises = lists.rises;
 }
 
@@ -48,13 +64,32 @@ answers_are_steps attacker b moves others lists = record {
   rises = lists.rises;
 }
 
+-- 2. The steps of a list, by their moves.
+
+-- a move of steps is that of one of them
+pub record IsStepBy (steps : List Step) (move : Move) : Type 0 where
+  pub step : Step
+  pub is_step : Contains steps step
+  pub by : step.by ≡ move
+
+pub step_by : (steps : List Step) (move : Move) → Contains (moves_of steps) move → IsStepBy steps move
+step_by steps move c =
+    let found = from_map (λ (step : Step). step.by) steps c.0 move (at_place (moves_of steps) move c) in
+    record { step = found.0; is_step = contained steps c.0 found.0 found.1; by = found.2 }
+
+-- the move of a step is listed
+pub by_of : (steps : List Step) (step : Step) → Contains steps step → Contains (moves_of steps) step.by
+by_of steps step c = contains_map (λ (s : Step). s.by) steps step c
+
+-- 3. Steps that are listed one after the other.
+
 -- What is known of the steps of the first moves, with the queue that they make of the old one.
 pub record AreFirstSteps (p : Board) (old : List Board) (b : Board) (moves : List Move) (queue : Queue) (steps : List Step) : Type 0 where
   pub kept : IsKeptQueue p queue
   pub made : moves_of steps ≡ moves
   pub longer : IsWithAll old b moves queue.positions.items
   pub lead : (step : Step) → Contains steps step → slice_get queue.positions.items step.to ≡ Some (after b step.by)
-  pub listed : (step : Step) → Contains steps step → order_of step.by < 13689
+  pub texts : (step : Step) → Contains steps step → HasText step.by
 
 pub no_steps : (p : Board) (old : List Board) (b : Board) (queue : Queue) → IsKeptQueue p queue → queue.positions.items ≡ old
     → AreFirstSteps p old b [] queue []
@@ -63,28 +98,24 @@ no_steps p old b queue kept same = record {
   made = refl;
   longer = same;
   lead = λ step there. let w = there.1 in absurd (omega arith);
-  listed = λ step there. let w = there.1 in absurd (omega arith);
+  texts = λ step there. let w = there.1 in absurd (omega arith);
 }
-
-moves_more : (steps : List Step) (step : Step) → moves_of (steps ++ step ∷ []) ≡ moves_of steps ++ step.by ∷ []
-moves_more [] step = refl
-moves_more (first ∷ steps) step = ap (λ (moves : List Move). first.by ∷ moves) (moves_more steps step)
 
 pub step_more : (p : Board) (old : List Board) (b : Board) (moves : List Move) (queue new : Queue) (steps : List Step) (step : Step)
     → AreFirstSteps p old b moves queue steps → IsKeptQueue p new → IsWith queue.positions.items (after b step.by) new.positions.items
-    → slice_get new.positions.items step.to ≡ Some (after b step.by) → order_of step.by < 13689
+    → slice_get new.positions.items step.to ≡ Some (after b step.by) → HasText step.by
     → AreFirstSteps p old b (moves ++ step.by ∷ []) new (steps ++ step ∷ [])
-step_more p old b moves queue new steps step first kept more leads listed = record {
+step_more p old b moves queue new steps step first kept more leads text = record {
   kept = kept;
-  made = moves_more steps step ∙ ap (λ (ms : List Move). ms ++ step.by ∷ []) first.made;
+  made = map-append (λ (s : Step). s.by) steps (step ∷ []) ∙ ap (λ (ms : List Move). ms ++ step.by ∷ []) first.made;
   longer = with_all_more old b moves step.by queue.positions.items new.positions.items first.longer more;
   lead = λ s there. elim (Contains-push_cases steps step s there) [
     | inl before ↦ with_kept queue.positions.items (after b step.by) new.positions.items more s.to (after b s.by) (first.lead s before)
     | inr same ↦ subst (λ (x : Step). slice_get new.positions.items x.to ≡ Some (after b x.by)) same leads
   ];
-  listed = λ s there. elim (Contains-push_cases steps step s there) [
-    | inl before ↦ first.listed s before
-    | inr same ↦ subst (λ (x : Step). order_of x.by < 13689) same listed
+  texts = λ s there. elim (Contains-push_cases steps step s there) [
+    | inl before ↦ first.texts s before
+    | inr same ↦ subst (λ (x : Step). HasText x.by) same text
   ];
 }
 
@@ -93,7 +124,7 @@ pub all_steps : (p : Board) (old : List Board) (b : Board) (moves : List Move) (
 all_steps p old b moves queue steps first lists = record {
   lists = subst (Lists (IsStep p.side b)) (sym first.made) lists;
   lead = first.lead;
-  listed = first.listed;
+  texts = first.texts;
 }
 
 -- play goes on after a legal move

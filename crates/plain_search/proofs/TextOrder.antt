@@ -1,6 +1,6 @@
 -- A map from texts to places holds the places of the positions in the order of their texts.
-use Rattle.std.proofs.Common.{◌≡◌, ◌≢◌, ◌<◌, ◌+◌, ◌⊎◌, inl, inr, ℕ, zero, suc, List, [], ◌∷◌, length, Contains, Vec, arith, ap, sym, refl, ◌∙◌, subst, cond, true, false, Bool, ⊎_elim}
-use Rattle.std.specs.Prelude.{Some, None, Option, slice_get}
+use Rattle.std.proofs.Common.{◌≡◌, ◌≢◌, ◌<◌, ◌+◌, ◌⊎◌, inl, inr, ℕ, suc, List, [], ◌∷◌, length, Contains, Vec, arith, ap, sym, refl, ◌∙◌, subst, cond, true, false, Bool, ⊎_elim}
+use Rattle.std.specs.Prelude.{Some, None, slice_get}
 use Rattle.std.specs.Global.{Global}
 use Rattle.std.specs.Ordering.{nat_cmp, is_eq}
 use Rattle.std.specs.Cmp.{IsTotalOrder}
@@ -15,13 +15,14 @@ use Rattle.std.proofs.lemmas.Cmp.{nat_list_cmp_total, tied_itself, on_total}
 use Rattle.std.proofs.lemmas.Map.Lookups.{exact_bytes}
 use Rattle.std.proofs.lemmas.Map.Entries.{place_from_lookup, btree_map_get_place}
 use Rattle.std.proofs.lemmas.Map.Keys.{Less-from_sorted, sorted_tail}
-use Rattle.std.proofs.lemmas.Option.{get_or_from_slice_get, slice_get_within, slice_get-map, slice_get_read}
+use Rattle.std.proofs.lemmas.Option.{same_Some}
 use Rattle.board_core.specs.Board.{Board}
 use Rattle.board_core.specs.Kept.{IsKept}
 use Rattle.sfen_text.specs.Spelling.{sfen_of}
 use Rattle.cert_text.specs.Certificate.{IsBefore}
-use Rattle.plain_search.specs.Graph.{AreApart}
+use Rattle.cert_text.specs.Certificate.{AreApart}
 use Rattle.plain_search.specs.Entries.{RiseAt, IsTextOrder}
+use Rattle.plain_search.proofs.Lists.{contained, at_place, from_map, contains_map}
 
 abbrev pub Text : Type 0
 Text = Vec ℕ Global
@@ -82,12 +83,6 @@ unwritten : (old new : BTreeMap Text ℕ) (key : Text) (place : ℕ) → Updates
 unwritten old new key place updates k h =
     subst (λ (t : Bool). get text_cmp new k ≡ cond t (Some place) (get text_cmp old k)) h (updates.0 k)
 
-same_place : (place q : ℕ) → Some place ≡ Some q → place ≡ q
-same_place place q e = cc
-
-contains_at : (positions : List Board) (i : ℕ) (b : Board) → slice_get positions i ≡ Some b → Contains positions b
-contains_at positions i b e = (i, slice_get_within positions i b e, get_or_from_slice_get positions i b b e)
-
 right_after : (positions : List Board) (n : ℕ) (p : Board) (key : Text) (old new : BTreeMap Text ℕ)
     → slice_get positions n ≡ Some p → key.items ≡ sfen_of p
     → Updates text_cmp old new key (Some n) → AreTextsBelow positions n old
@@ -95,7 +90,7 @@ right_after : (positions : List Board) (n : ℕ) (p : Board) (key : Text) (old n
 right_after positions n p key old new here words updates known text place h =
     ⊎_elim
     (λ (yes : is_at (text_cmp key) text ≡ true).
-    let same : n ≡ place = same_place n place (sym (written old new key n updates text yes) ∙ h) in
+    let same : n ≡ place = same_Some n place (sym (written old new key n updates text yes) ∙ h) in
     record {
       position = p;
       there = subst (λ (i : ℕ). slice_get positions i ≡ Some p) same here;
@@ -118,7 +113,7 @@ stays positions n p key old new apart kept here words own updates known place h 
     let s = known.right k.text place k.leads in
     ⊎_elim
     (λ (yes : is_at (text_cmp key) k.text ≡ true).
-    let same : s.position ≡ p = own s.position (kept s.position (contains_at positions place s.position s.there)) (s.text_of ∙ sym (same_text key k.text yes)) in
+    let same : s.position ≡ p = own s.position (kept s.position (contained positions place s.position s.there)) (s.text_of ∙ sym (same_text key k.text yes)) in
     let one : place ≡ n = apart place n p (s.there ∙ ap (λ (b : Board). Some b) same) here in
     absurd (omega arith))
     (λ (no : is_at (text_cmp key) k.text ≡ false). record { text = k.text; leads = unwritten old new key n updates k.text no ∙ k.leads })
@@ -142,9 +137,6 @@ one_text_more positions n p key old new apart kept here words own updates known 
 text_total : IsTotalOrder text_cmp
 text_total = on_total (λ (t : Text). t.items) nat_list_cmp_total
 
-value_of : Text × ℕ → ℕ
-value_of e = e.1
-
 -- each entry leads to the place of a position with its text
 abbrev AreRight : List Board → List (Text × ℕ) → Type 0
 AreRight positions entries = (i : ℕ) (text : Text) (place : ℕ) → slice_get entries i ≡ Some (text, place) → HasTextAt positions (length positions) place text
@@ -154,14 +146,11 @@ entries_right : (positions : List Board) (by_text : BTreeMap Text ℕ) → IsOrd
 entries_right positions by_text ordered known i text place e =
     known.right text place (btree_map_get_place text_total by_text i text place ordered e)
 
-same_some : {X : Type 0} (x y : X) → Some x ≡ Some y → x ≡ y
-same_some x y e = cc
-
 before : (positions : List Board) (e f : Text × ℕ) → HasTextAt positions (length positions) e.1 e.0 → HasTextAt positions (length positions) f.1 f.0
     → text_cmp e.0 f.0 ≡ Less → (a b : Board) → slice_get positions e.1 ≡ Some a → slice_get positions f.1 ≡ Some b → IsBefore a b
 before positions e f at_e at_f less a b ha hb =
-    let ea : at_e.position ≡ a = same_some at_e.position a (sym at_e.there ∙ ha) in
-    let fb : at_f.position ≡ b = same_some at_f.position b (sym at_f.there ∙ hb) in
+    let ea : at_e.position ≡ a = same_Some at_e.position a (sym at_e.there ∙ ha) in
+    let fb : at_f.position ≡ b = same_Some at_f.position b (sym at_f.there ∙ hb) in
     let ta : sfen_of a ≡ e.0.items = ap sfen_of (sym ea) ∙ at_e.text_of in
     let tb : sfen_of b ≡ f.0.items = ap sfen_of (sym fb) ∙ at_f.text_of in
     subst (λ (x : List ℕ). slice_cmp nat_cmp x (sfen_of b) ≡ Less) (sym ta)
@@ -176,17 +165,6 @@ rising positions (e ∷ f ∷ rest) sorted right = (
   rising positions (f ∷ rest) (sorted_tail text_cmp e.0 (keys_of (f ∷ rest)) sorted) (λ i text place h. right (suc i) text place h),
 )
 
-value_at : (entries : List (Text × ℕ)) (i place : ℕ) → slice_get (values_of entries) i ≡ Some place → (text : Text) × (slice_get entries i ≡ Some (text, place))
-value_at [] i place e = absurd (cc)
-value_at (x ∷ xs) zero place e = (x.0, ap (λ (n : ℕ). Some (x.0, n)) (same_some x.1 place e))
-value_at (x ∷ xs) (suc i) place e = value_at xs i place e
-
-at_value : (entries : List (Text × ℕ)) (i place : ℕ) (text : Text) → slice_get entries i ≡ Some (text, place) → slice_get (values_of entries) i ≡ Some place
-at_value entries i place text e = slice_get-map (λ (x : Text × ℕ). x.1) entries i ∙ ap (λ (o : Option (Text × ℕ)). elim o as (λ o. Option ℕ) [ None ↦ None | Some x ↦ Some x.1 ]) e
-
-place_in : (places : List ℕ) (i place : ℕ) → slice_get places i ≡ Some place → Contains places place
-place_in places i place e = (i, slice_get_within places i place e, get_or_from_slice_get places i place place e)
-
 pub text_ordered : (positions : List Board) (n : ℕ) (by_text : BTreeMap Text ℕ) (order : List ℕ) → n ≡ length positions → order ≡ values by_text
     → IsOrdered text_cmp by_text → AreTextsBelow positions n by_text → IsTextOrder positions order
 text_ordered positions n by_text order whole is ordered known =
@@ -197,10 +175,10 @@ text_ordered positions n by_text order whole is ordered known =
       all = λ place h.
           let k = known_all.all place h in
           let at = place_from_lookup (is_at (text_cmp k.text)) by_text.entries place k.leads in
-          place_in (values by_text) at.0 place (at_value by_text.entries at.0 place at.1 at.2);
+          contains_map (λ (e : Text × ℕ). e.1) by_text.entries (at.1, place) (contained by_text.entries at.0 (at.1, place) at.2);
       within = λ place c.
-          let v = value_at by_text.entries c.0 place (slice_get_read (values by_text) (length (values by_text)) c.0 place refl c.1 (sym c.2)) in
-          let r = right c.0 v.0 place v.1 in
-          r.below;
+          let e = from_map (λ (e : Text × ℕ). e.1) by_text.entries c.0 place (at_place (values by_text) place c) in
+          let r = right c.0 e.0.0 e.0.1 e.1 in
+          subst (λ (n : ℕ). n < length positions) e.2 r.below;
       rises = rising positions by_text.entries ordered right;
     })

@@ -1,13 +1,11 @@
 -- What ranks by places tell of the problem.
-use Rattle.std.proofs.Common.{◌≡◌, ◌≢◌, ◌<◌, inl, inr, ℕ, zero, suc, true, false, List, [], ◌∷◌, take, get_or, length, Contains, arith, ap, sym, refl, ◌∙◌, subst, ⊎_elim, length-take, get_or-take}
+use Rattle.std.proofs.Common.{◌≡◌, ◌≢◌, ◌<◌, inl, inr, ℕ, zero, suc, true, false, List, take, get_or, length, Contains, arith, ap, sym, refl, ◌∙◌, subst, ⊎_elim, length-take, get_or-take}
 use Rattle.std.specs.Prelude.{Bool, Some, slice_index, slice_get}
 use Rattle.std.proofs.lemmas.Bool.{cases_eq}
 use Rattle.std.proofs.lemmas.List.{get_or_read}
 use Rattle.std.proofs.lemmas.Option.{slice_get_read, slice_get_within}
 use Rattle.board_core.specs.declared.piece.Side.{Side}
-use Rattle.board_core.specs.declared.piece.Side.TheVariants.{Black, White}
 use Rattle.board_core.specs.declared.moves.Move.{Move}
-use Rattle.board_core.specs.declared.moves.Move.TheVariants as moves
 use Rattle.board_core.specs.Kind.{other}
 use Rattle.board_core.specs.Board.{Board}
 use Rattle.shogi_rules.specs.Rules.{after}
@@ -15,48 +13,15 @@ use Rattle.shogi_rules.specs.Tsume.{IsCheck, IsAnswer}
 use Rattle.mate_def.specs.Mate.{after_both}
 use Rattle.plain_search.specs.declared.graph.Step.{Step}
 use Rattle.plain_search.specs.declared.graph.Graph.{Graph}
-use Rattle.plain_search.specs.Graph.{AreApart, IsGraph, moves_of, steps_at, units_of, positions_of}
+use Rattle.cert_text.specs.Certificate.{AreApart}
+use Rattle.plain_search.specs.Graph.{IsGraph, steps_at, units_of, positions_of}
 use Rattle.plain_search.specs.Ranks.{IsRanked, IsBeaten, AreWon, AreLost, AreRanks}
 use Rattle.plain_search.specs.Within.{RankWithin, IsHeldWithin, IsUndecided}
+use Rattle.plain_search.proofs.Steps.{IsStepBy, step_by, by_of, after_side, step_checks, step_answers}
 
 -- what is read at the first place
 pub first_read : (ranks : List ℕ) (first : ℕ) → 0 < length ranks → first ≡ get_or ranks 0 first → first ≡ slice_index ranks 0
 first_read ranks first some is = get_or_read ranks 0 first some is 0
-
-pub after_side : (b : Board) (move : Move) → (after b move).side ≡ other b.side
-after_side b (moves.Board _ _ _) = refl
-after_side b (moves.Drop _ _) = refl
-
-other_differs : (side : Side) → side ≡ other side → ⊥
-other_differs Black e = cc
-other_differs White e = cc
-
--- of the attacker is no move an answer, and after a move of his none is a check
-not_mover : (attacker side : Side) → side ≡ attacker → side ≡ other attacker → ⊥
-not_mover attacker side is not = other_differs attacker (sym is ∙ not)
-
--- a step with this move
-record HasStep (steps : List Step) (move : Move) : Type 0 where
-  step : Step
-  is_step : Contains steps step
-  by : step.by ≡ move
-
-find_step : (steps : List Step) (move : Move) (k : ℕ) → k < length (moves_of steps) → get_or (moves_of steps) k move ≡ move → HasStep steps move
-find_step [] move k h e = absurd (omega arith)
-find_step (step ∷ steps) move zero h e = record { step = step; is_step = (0, omega arith, refl); by = e }
-find_step (step ∷ steps) move (suc k) h e =
-    let found = find_step steps move k (omega arith) e in
-    record {
-      step = found.step;
-      is_step = let at = found.is_step in (suc at.0, omega (arith, at.1), at.2);
-      by = found.by;
-    }
-
-move_at : (steps : List Step) (step : Step) (k : ℕ) → k < length steps → get_or steps k step ≡ step → Contains (moves_of steps) step.by
-move_at [] step k h e = absurd (omega arith)
-move_at (first ∷ steps) step zero h e = (0, omega arith, ap (λ (s : Step). s.by) e)
-move_at (first ∷ steps) step (suc k) h e =
-    let at = move_at steps step k (omega arith) e in (suc at.0, omega (arith, at.1), at.2)
 
 -- a position of a list of which none stands twice stands among the first so many where these hold it
 pub known_place : (positions : List Board) (units place : ℕ) (b : Board) → AreApart positions → Contains (take units positions) b
@@ -84,29 +49,23 @@ module _ (p : Board) (graph : Graph) (kept : IsGraph p graph) where
   is_check : (place : ℕ) (b : Board) → place < units_of graph → slice_get (positions_of graph) place ≡ Some b → (step : Step)
       → Contains (steps_at graph place) step → b.side ≡ p.side → IsCheck p.side b step.by
   is_check place b h there step is side =
-      ⊎_elim
-      (λ (check : IsCheck p.side b step.by). check)
-      (λ (answer : IsAnswer p.side b step.by). absurd (not_mover p.side b.side side answer.mover))
-      ((kept.steps place b h there).lists.sound step.by (move_at (steps_at graph place) step is.0 is.1 is.2))
+      step_checks p.side b step.by side ((kept.steps place b h there).lists.sound step.by (by_of (steps_at graph place) step is))
 
   -- a step from a position of the defender is an answer
   is_answer : (place : ℕ) (b : Board) → place < units_of graph → slice_get (positions_of graph) place ≡ Some b → (step : Step)
       → Contains (steps_at graph place) step → b.side ≡ other p.side → IsAnswer p.side b step.by
   is_answer place b h there step is side =
-      ⊎_elim
-      (λ (check : IsCheck p.side b step.by). absurd (not_mover p.side b.side check.mover side))
-      (λ (answer : IsAnswer p.side b step.by). answer)
-      ((kept.steps place b h there).lists.sound step.by (move_at (steps_at graph place) step is.0 is.1 is.2))
+      step_answers p.side b step.by side ((kept.steps place b h there).lists.sound step.by (by_of (steps_at graph place) step is))
 
   check_step : (place : ℕ) (b : Board) → place < units_of graph → slice_get (positions_of graph) place ≡ Some b → (check : Move)
-      → IsCheck p.side b check → HasStep (steps_at graph place) check
+      → IsCheck p.side b check → IsStepBy (steps_at graph place) check
   check_step place b h there check is =
-      let at = (kept.steps place b h there).lists.complete check (inl is) in find_step (steps_at graph place) check at.0 at.1 at.2
+      step_by (steps_at graph place) check ((kept.steps place b h there).lists.complete check (inl is))
 
   answer_step : (place : ℕ) (b : Board) → place < units_of graph → slice_get (positions_of graph) place ≡ Some b → (answer : Move)
-      → IsAnswer p.side b answer → HasStep (steps_at graph place) answer
+      → IsAnswer p.side b answer → IsStepBy (steps_at graph place) answer
   answer_step place b h there answer is =
-      let at = (kept.steps place b h there).lists.complete answer (inr is) in find_step (steps_at graph place) answer at.0 at.1 at.2
+      step_by (steps_at graph place) answer ((kept.steps place b h there).lists.complete answer (inr is))
 
   known_unit : (place : ℕ) (b : Board) → Contains (take (units_of graph) (positions_of graph)) b → slice_get (positions_of graph) place ≡ Some b
       → place < units_of graph

@@ -13,7 +13,8 @@ use Rattle.plain_search.specs.declared.outcome.Outcome.TheVariants.{Mate, NoMate
 abbrev pub known_of : Graph → List Board
 known_of graph = take (units_of graph) (positions_of graph)
 
--- What is decided of the position by the known positions of a graph: a plain mate, a plain escape, or neither.
+-- What is decided of the position by the known positions of a graph: a valid plain mate, a valid plain escape, or that as many
+-- units tell neither.
 abbrev pub IsDecided : Board → Graph → Outcome → Type 0
 IsDecided p graph (Mate c) = ValidMate c p × IsPlainMate p (known_of graph) c
 IsDecided p graph (NoMate c) = ValidEscape c p × IsPlainEscape p (known_of graph) c

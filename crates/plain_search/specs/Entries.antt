@@ -4,13 +4,14 @@ use Rattle.board_core.specs.declared.moves.MateEntry.{MateEntry}
 use Rattle.board_core.specs.Board.{Board}
 use Rattle.board_core.specs.Kept.{IsKept}
 use Rattle.mate_def.specs.Mate.{IsClosed}
-use Rattle.usi_text.specs.MoveText.{HasText}
+use Rattle.board_core.specs.Text.{HasText}
 use Rattle.cert_text.specs.Certificate.{Mating, IsBefore, IsEntry, positions_of}
 use Rattle.cert_check.specs.Valid.{IsBorneOut}
 use Rattle.plain_search.specs.Plain.{IsPlainMate}
-use Rattle.plain_search.specs.Graph.{AreApart}
+use Rattle.cert_text.specs.Certificate.{AreApart}
 
--- The entries of a mate: the problem is listed, each is borne out, none is listed twice.
+-- The entries of a mate: the problem is listed, each is borne out, none is listed twice, and each keeps what a certificate's
+-- entry keeps.
 pub record AreMateEntries (p : Board) (entries : List MateEntry) : Type 0 where
   pub listed : Contains (positions_of entries) p
   pub borne_out : (entry : MateEntry) → Contains entries entry → IsBorneOut entries p.side entry
@@ -28,7 +29,8 @@ mating_of p entries = record { problem = p; entries = entries }
 abbrev pub ArePlainEntries : Board → List Board → List MateEntry → Type 0
 ArePlainEntries p known entries = IsPlainMate p known (mating_of p entries)
 
--- The entries of an escape: the problem is listed, they are closed, none is listed twice.
+-- The entries of an escape: the problem is listed, they are closed, none is listed twice, and each keeps what a certificate's
+-- entry keeps.
 pub record AreEscapeEntries (p : Board) (positions : List Board) : Type 0 where
   pub listed : Contains positions p
   pub closed : IsClosed p.side positions []

@@ -5,17 +5,15 @@ use Rattle.board_core.specs.declared.piece.Side.{Side}
 use Rattle.board_core.specs.declared.moves.Move.{Move}
 use Rattle.board_core.specs.Kind.{other}
 use Rattle.board_core.specs.Board.{Board, kings_of}
-use Rattle.board_core.specs.Order.{order_of, Lists}
+use Rattle.board_core.specs.Order.{Lists}
+use Rattle.board_core.specs.Text.{HasText}
 use Rattle.shogi_rules.specs.Rules.{IsQuiet, after}
+use Rattle.cert_text.specs.Certificate.{AreApart}
 use Rattle.cert_check.specs.Places.{ArePlacesOf}
 use Rattle.plain_search.specs.Queue.{IsStep, IsQueue}
 use Rattle.plain_search.specs.declared.graph.Step.{Step}
 use Rattle.plain_search.specs.declared.graph.Queue.{Queue}
 use Rattle.plain_search.specs.declared.graph.Graph.{Graph}
-
--- No position stands at two places of the list.
-abbrev pub AreApart : List Board → Type 0
-AreApart positions = (i j : ℕ) (b : Board) → slice_get positions i ≡ Some b → slice_get positions j ≡ Some b → i ≡ j
 
 -- What every position keeps that play leads to from a problem: the side not to move isn't in check, and the defender has a
 -- king.
@@ -23,7 +21,7 @@ pub record IsInPlay (p b : Board) : Type 0 where
   pub quiet : IsQuiet b
   pub king : 0 < kings_of b (other p.side)
 
--- What a queue keeps: each position has its place, none stands twice, and play leads to each.
+-- What a queue keeps: each position is found by its key, none stands twice, and each is as play leads to it.
 pub record IsKeptQueue (p : Board) (queue : Queue) : Type 0 where
   pub places : ArePlacesOf queue.places queue.positions.items
   pub apart : AreApart queue.positions.items
@@ -33,18 +31,19 @@ pub record IsKeptQueue (p : Board) (queue : Queue) : Type 0 where
 abbrev pub moves_of : List Step → List Move
 moves_of steps = map (λ step. step.by) steps
 
--- The steps from a position: all of them, in the order of moves, each with the place of the position that it leads to. A
--- legal move is one of the list of all moves.
+-- The steps from a position: all of them, in the order of moves, each with the place of the position that it leads to. Each
+-- move has a text, as legal ones do.
 pub record AreSteps (attacker : Side) (positions : List Board) (b : Board) (steps : List Step) : Type 0 where
   pub lists : Lists (IsStep attacker b) (moves_of steps)
   pub lead : (step : Step) → Contains steps step → slice_get positions step.to ≡ Some (after b step.by)
-  pub listed : (step : Step) → Contains steps step → order_of step.by < 13689
+  pub texts : (step : Step) → Contains steps step → HasText step.by
 
+-- What was listed at a place; nothing, where nothing was listed yet.
 abbrev items_of : Option (Vec Step Global) → List Step
 items_of None = []
 items_of (Some steps) = steps.items
 
--- The steps that a graph has from a place.
+-- The steps that a graph has from a place; none, where they weren't listed yet.
 abbrev pub steps_at : Graph → ℕ → List Step
 steps_at graph place = items_of (slice_get graph.steps.items place)
 

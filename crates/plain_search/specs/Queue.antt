@@ -16,13 +16,13 @@ IsStep attacker b move = IsCheck attacker b move ⊎ IsAnswer attacker b move
 abbrev pub IsWith : List Board → Board → List Board → Type 0
 IsWith queue b longer = (Contains queue b × (longer ≡ queue)) ⊎ ((¬ Contains queue b) × (longer ≡ queue ++ b ∷ []))
 
--- The queue with the positions after these moves behind it, one after the other.
+-- The queue with the positions after these moves behind it, one after the other, each unless it is in the queue already.
 abbrev pub IsWithAll : List Board → Board → List Move → List Board → Type 0
 IsWithAll queue b [] longer = longer ≡ queue
 IsWithAll queue b (move ∷ moves) longer = (more : List Board) × IsWith queue (after b move) more × IsWithAll more b moves longer
 
--- One unit of a search: the steps from one position are listed, in the order of moves, and the positions after them are put
--- behind the queue.
+-- One unit of a search: the steps from the position at a place of the queue are listed, in the order of moves, and the positions
+-- after them are put behind the queue, those that aren't in it yet.
 pub record IsUnit (attacker : Side) (place : ℕ) (queue longer : List Board) : Type 0 where
   pub front : Board
   pub is_front : slice_get queue place ≡ Some front

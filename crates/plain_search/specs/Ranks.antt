@@ -1,5 +1,5 @@
--- Ranks by places. A place whose position had no steps listed, beyond the known ones, counts as ranked or not, as one likes:
--- as not, to find mates; as ranked, to find what surely is none.
+-- Ranks by places; 0 is no rank. A place whose position had no steps listed, beyond the known ones, counts as ranked or not, as
+-- one likes: as not, to find mates; as ranked, to find what surely is none.
 use Rattle.std.specs.Prelude.{◌≡◌, ◌<◌, ◌≤◌, ◌⊎◌, ℕ, List, Bool, true, Some, Contains, length, slice_get, slice_index}
 use Rattle.board_core.specs.Board.{Board}
 use Rattle.plain_search.specs.declared.graph.Step.{Step}
@@ -12,13 +12,13 @@ IsRanked beyond ranks below place =
     ((place < length ranks) × (0 < slice_index ranks place) × (slice_index ranks place < below))
     ⊎ ((length ranks ≤ place) × (beyond ≡ true))
 
--- All steps from the place lead to ranked places; or it lies beyond and counts as such.
+-- All steps from the place lead to places with ranks below this one; or it lies beyond and counts as such a place.
 abbrev pub IsBeaten : Bool → Graph → List ℕ → ℕ → ℕ → Type 0
 IsBeaten beyond graph ranks below place =
     ((place < length ranks) × ((step : Step) → Contains (steps_at graph place) step → IsRanked beyond ranks below step.to))
     ⊎ ((length ranks ≤ place) × (beyond ≡ true))
 
--- One of the steps from the place leads to a beaten one.
+-- One of the steps from the place leads to a place that is beaten below this rank.
 pub record IsWon (beyond : Bool) (graph : Graph) (ranks : List ℕ) (below place : ℕ) : Type 0 where
   pub step : Step
   pub is_step : Contains (steps_at graph place) step
@@ -46,8 +46,8 @@ pub record AreRanks (beyond : Bool) (p : Board) (graph : Graph) (ranks : List �
   pub least : AreLeast beyond graph ranks
   pub bounded : (place : ℕ) → slice_index ranks place < 4294967296
 
--- What the next ranks have at a place: what was there; or, where nothing was, this rank where the place is the attacker's and
--- won below it.
+-- What the next ranks have at a place: the rank that was there; or, where none was, this rank where the place is the attacker's
+-- and won below it, else none.
 abbrev pub IsNext : Bool → Board → Graph → List ℕ → ℕ → ℕ → ℕ → Type 0
 IsNext beyond p graph ranks rank place new =
     ((0 < slice_index ranks place) × (new ≡ slice_index ranks place))
@@ -59,7 +59,7 @@ pub record AreNext (beyond : Bool) (p : Board) (graph : Graph) (ranks : List ℕ
   pub all : length next ≡ length ranks
   pub each : (place : ℕ) → place < length ranks → IsNext beyond p graph ranks rank place (slice_index next place)
 
--- The first step from a place that leads to a known place without a rank leads there.
+-- A step from a place leads there, and each earlier one leads to a ranked place, or beyond the known ones.
 pub record IsWayOut (graph : Graph) (ranks : List ℕ) (place to : ℕ) : Type 0 where
   pub index : ℕ
   pub step : Step

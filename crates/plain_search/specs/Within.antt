@@ -8,8 +8,9 @@ use Rattle.shogi_rules.specs.Tsume.{IsCheck, IsAnswer}
 use Rattle.mate_def.specs.Mate.{after_both}
 use Rattle.plain_search.specs.Queue.{IsQueue}
 
--- The position is mate within a number of the attacker's moves, and only known positions are needed to see it: it is known,
--- there is a check that leads to a known position, and each answer leads to a known one that is mate within one move less.
+-- The position is mate within a number of the attacker's moves, and only known positions are needed to see it: never within 0;
+-- within n + 1 where it is known, there is a check that leads to a known position, and each answer leads to a known one that is
+-- mate within n.
 abbrev pub RankWithin : Side → List Board → ℕ → Board → Type 0
 RankWithin attacker known zero b = ⊥
 RankWithin attacker known (suc n) b =

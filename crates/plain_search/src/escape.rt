@@ -8,7 +8,7 @@ ghost use Rattle.plain_search.specs.Entries.{AreEscapeEntries};
 
 use crate::agenda::Agenda;
 use crate::graph::Graph;
-use board_core::{NoMemory, Position};
+use board_core::{NoMemory, Position, order_laws};
 use shogi_rules::Problem;
 use std::alloc::Global;
 
@@ -44,6 +44,8 @@ pub(crate) fn escape_entries(
     ensures entries { IfOk result (λ positions. AreEscapeEntries problem.now.position positions.items) }
     ensures plain { IfOk result (λ positions. IsPlainEscape problem.now.position (known_of graph.now) (record { problem = problem.now.position; entries = positions.items })) }
 {
+    // No two moves have one place in their order, and in a list in this order what comes sooner stands sooner.
+    order_laws();
     let mut agenda = Agenda::new(alloc, ranks.len())?;
     agenda.add(ranks.len(), 0)?;
     let mut positions = Vec::new(alloc);

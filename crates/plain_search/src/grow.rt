@@ -1,8 +1,8 @@
 // A unit of a search: the steps from one more position.
-ghost use Rattle.std.specs.Prelude.{◌≡◌, ◌<◌, ◌≤◌, ◌+◌, ◌∷◌, [], IfOk, OnOk, length};
+ghost use Rattle.std.specs.Prelude.{◌≡◌, ◌<◌, ◌≤◌, ◌+◌, IfOk, OnOk, length};
 ghost use Rattle.board_core.specs.Order.{Lists};
 ghost use Rattle.shogi_rules.specs.Rules.{IsQuiet};
-ghost use Rattle.plain_search.specs.Queue.{IsStep, IsUnit, IsWithAll};
+ghost use Rattle.plain_search.specs.Queue.{IsStep, IsWithAll};
 ghost use Rattle.plain_search.specs.Graph.{IsInPlay, IsKeptQueue, AreSteps, IsGraph, moves_of, units_of, positions_of};
 
 use crate::graph::{Graph, Queue, Step};

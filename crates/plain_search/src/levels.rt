@@ -15,7 +15,8 @@ use tsume_io::Gate;
 ///
 /// It decides after each whole level of positions, and where the units are used up. The mate's certificate takes at each
 /// position the least rank that the known positions tell, and the first check of that rank; the escape's takes after each
-/// check the first answer into known positions each check from which has an answer back into them. (The tsume rule.)
+/// check the first answer into known positions of the attacker each check from which has an answer back into them. (The tsume
+/// rule.)
 pub fn search<G: Gate>(
     alloc: Global,
     problem: &Problem,

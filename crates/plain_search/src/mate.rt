@@ -10,7 +10,7 @@ ghost use Rattle.plain_search.specs.Entries.{AreMateEntries, ArePlainEntries};
 use crate::agenda::Agenda;
 use crate::graph::{Graph, Step};
 use crate::ranks::is_beaten;
-use board_core::{MateEntry, NoMemory};
+use board_core::{MateEntry, NoMemory, order_laws};
 use shogi_rules::Problem;
 use std::alloc::Global;
 
@@ -25,6 +25,8 @@ fn winning_step(graph: &Graph, ranks: &[u32], place: usize) -> Step
     ensures first { (other : Step) → Contains (steps_at graph.now place) other → IsBeaten false graph.now ranks.now (slice_index ranks.now place) other.to
         → order_of result.by ≤ order_of other.by }
 {
+    // In a list in the order of moves, what comes sooner stands sooner.
+    order_laws();
     for step in graph.steps(place) {
         if is_beaten(graph, ranks, false, ranks[place], step.to) {
             return *step;

@@ -2,7 +2,7 @@
 ghost use Rattle.std.specs.Prelude.{IfOk, Contains};
 ghost use Rattle.board_core.specs.Board.{Board};
 ghost use Rattle.board_core.specs.Kept.{IsKept};
-ghost use Rattle.plain_search.specs.Graph.{AreApart};
+ghost use Rattle.cert_text.specs.Certificate.{AreApart};
 ghost use Rattle.plain_search.specs.Entries.{IsTextOrder};
 
 use board_core::{NoMemory, Position};

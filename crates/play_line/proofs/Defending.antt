@@ -4,7 +4,7 @@ use Rattle.std.specs.Prelude.{Some, None, Option}
 use Rattle.board_core.specs.declared.piece.Side.{Side}
 use Rattle.board_core.specs.declared.moves.Move.{Move}
 use Rattle.board_core.specs.Board.{Board}
-use Rattle.board_core.specs.Order.{order_of, Lists}
+use Rattle.board_core.specs.Order.{order_of, Lists, PlacesInOrder}
 use Rattle.shogi_rules.specs.Rules.{after}
 use Rattle.shogi_rules.specs.Tsume.{IsAnswer}
 use Rattle.cert_text.specs.Certificate.{Mating}
@@ -60,29 +60,29 @@ higher c b answers n longest highest x rank h is has above known = record {
   };
 }
 
-still_best : (c : Mating) (b : Board) (attacker : Side) (answers : List Move) (n : ℕ) (longest : Option Move) (highest : ℕ) (x : Move) (rank : ℕ)
+still_best : PlacesInOrder → (c : Mating) (b : Board) (attacker : Side) (answers : List Move) (n : ℕ) (longest : Option Move) (highest : ℕ) (x : Move) (rank : ℕ)
     → Lists (IsAnswer attacker b) answers → n < length answers → x ≡ get_or answers n x → HasOnlyRank c b x rank → rank ≤ highest
     → IsBestSoFar c b answers n highest longest → IsBestSoFar c b answers (n + 1) highest longest
-still_best c b attacker answers n None highest x rank l h is has low best = let w = has.least in let z = best.1 in absurd (omega arith)
-still_best c b attacker answers n (Some a) highest x rank l h is has low best = record {
+still_best places c b attacker answers n None highest x rank l h is has low best = let w = has.least in let z = best.1 in absurd (omega arith)
+still_best places c b attacker answers n (Some a) highest x rank l h is has low best = record {
   place = best.place;
   sooner = (let s = best.sooner in omega arith);
   there = best.there;
   leads = best.leads;
   first = more (λ (y : Move). IsRankAt c (after b y) highest → order_of a ≤ order_of y) answers n x h is
-      (λ at. in_order 0 answers l.rises best.place n a x best.sooner h best.there (sym is))
+      (λ at. in_order places answers l.rises best.place n a x best.sooner h best.there is)
       best.first;
 }
 
 -- no higher rank
-pub no_higher : (c : Mating) (b : Board) (attacker : Side) (answers : List Move) (n : ℕ) (longest : Option Move) (highest : ℕ) (x : Move) (rank : ℕ)
+pub no_higher : PlacesInOrder → (c : Mating) (b : Board) (attacker : Side) (answers : List Move) (n : ℕ) (longest : Option Move) (highest : ℕ) (x : Move) (rank : ℕ)
     → Lists (IsAnswer attacker b) answers → n < length answers → x ≡ get_or answers n x → HasOnlyRank c b x rank → rank ≤ highest
     → AreJudged c b answers n longest highest → AreJudged c b answers (n + 1) longest highest
-no_higher c b attacker answers n longest highest x rank l h is has low known = record {
+no_higher places c b attacker answers n longest highest x rank l h is has low known = record {
   none_higher = more (λ (y : Move). (r : ℕ) → IsRankAt c (after b y) r → r ≤ highest) answers n x h is
       (λ r at. let e = has.only r at in omega arith)
       known.none_higher;
-  best = still_best c b attacker answers n longest highest x rank l h is has low known.best;
+  best = still_best places c b attacker answers n longest highest x rank l h is has low known.best;
 }
 
 -- all are judged

@@ -4,28 +4,19 @@ use Rattle.std.specs.Prelude.{Some, None, Option, slice_get}
 use Rattle.std.proofs.Math.ListN.{length-map}
 use Rattle.std.proofs.lemmas.Option.{get_or_from_slice_get, slice_get_within, slice_get_read}
 use Rattle.board_core.specs.declared.moves.Move.{Move}
-use Rattle.board_core.specs.declared.moves.Move.TheVariants as moves
 use Rattle.board_core.specs.declared.moves.MateEntry.{MateEntry}
-use Rattle.board_core.specs.Kind.{place_of}
 use Rattle.board_core.specs.Board.{Board}
-use Rattle.board_core.specs.Order.{order_of}
-use Rattle.shogi_rules.specs.declared.illegal.Illegal.TheVariants.{NotThere, OwnPiece}
-use Rattle.shogi_rules.specs.Rules.{IsLegal, IsOwn, IsQuiet, after}
+use Rattle.shogi_rules.specs.Rules.{IsLegal, IsQuiet, after}
 use Rattle.shogi_rules.specs.Tsume.{IsAnswer}
 use Rattle.mate_def.specs.Mate.{after_both}
-use Rattle.usi_text.specs.MoveText.{HasText}
+use Rattle.board_core.specs.Text.{HasText}
 use Rattle.usi_text.specs.Lines.{AllHaveText}
-use Rattle.cert_text.specs.Certificate.{Mating, IsMating, positions_of}
+use Rattle.cert_text.specs.Certificate.{Mating, IsMating, AreApart, positions_of}
 use Rattle.cert_check.specs.Valid.{ValidMate}
 use Rattle.play_line.specs.Line.{IsMoveAt, IsLongest, IsMainLine}
-use Rattle.play_line.proofs.Listed.{listed_at, one_entry, entry_at}
+use Rattle.play_line.proofs.Listed.{position_of, listed_at, one_entry, entry_at}
 
 -- 1. Texts.
-
-pub legal_has_text : (b : Board) (m : Move) → IsLegal b m → order_of m < 13689 → HasText m
-legal_has_text b (moves.Board from to promote) legal listed =
-    λ same. legal NotThere (λ own. legal OwnPiece (subst (λ (s : ℕ). IsOwn b s) same own))
-legal_has_text b (moves.Drop k to) legal listed = λ king. let seven : place_of k ≡ 7 = ap place_of king in omega arith
 
 text_more : (ms : List Move) (m : Move) → AllHaveText ms → HasText m → AllHaveText (ms ++ m ∷ [])
 text_more [] m h t = (t, tt)
@@ -49,9 +40,6 @@ pub record IsOnLine (c : Mating) (p : Board) (entries : List MateEntry) (place :
 pub entry_in : (c : Mating) (entries : List MateEntry) (place : ℕ) (entry : MateEntry) → entries ≡ c.entries → place < length entries
     → entry ≡ get_or entries place entry → Contains c.entries entry
 entry_in c entries place entry same h is = subst (λ (es : List MateEntry). Contains es entry) same (place, h, sym is)
-
-abbrev position_of : MateEntry → Board
-position_of entry = entry.at
 
 within_entries : (c : Mating) (entries : List MateEntry) (place : ℕ) (b : Board) → entries ≡ c.entries → slice_get (positions_of c.entries) place ≡ Some b
     → place < length entries
@@ -160,17 +148,17 @@ at_entry (x ∷ xs) zero b e = (x, refl, (cc))
 at_entry (x ∷ xs) (suc k) b e = at_entry xs k b e
 
 pub rank_falls : (c : Mating) (p checked next : Board) (entries : List MateEntry) (place to : ℕ) (entry : MateEntry) (answer : Move)
-    → IsMating c → ValidMate c p → entries ≡ c.entries → place < length entries → entry ≡ get_or entries place entry
+    → AreApart (positions_of c.entries) → ValidMate c p → entries ≡ c.entries → place < length entries → entry ≡ get_or entries place entry
     → checked ≡ after entry.at entry.by → next ≡ after checked answer → IsAnswer p.side checked answer
     → slice_get (positions_of c.entries) to ≡ Some next → rank_at entries to < rank_at entries place
-rank_falls c p checked next entries place to entry answer kept valid same h is e f is_answer found =
+rank_falls c p checked next entries place to entry answer apart valid same h is e f is_answer found =
     let listed = entry_in c entries place entry same h is in
     let out = valid.entries entry listed in
     let below = out.answers answer (subst (λ (b : Board). IsAnswer p.side b answer) e is_answer) in
     let there : next ≡ after_both entry.at entry.by answer = f ∙ ap (λ (b : Board). after b answer) e in
     let at = at_entry c.entries to next found in
     let one : at.0 ≡ below.entry =
-    one_entry c.entries kept.rising at.0 below.entry
+    one_entry c.entries apart at.0 below.entry
     (to, slice_get_within c.entries to at.0 at.1, get_or_from_slice_get c.entries to at.0 at.0 at.1) below.listed
     (at.2 ∙ (there ∙ sym below.same)) in
     let new : rank_at entries to ≡ below.entry.rank =

@@ -8,7 +8,7 @@ ghost use Rattle.cert_check.specs.Places.{ArePlacesOf};
 ghost use Rattle.play_line.specs.Line.{IsDefence};
 
 use crate::finding::rank_after;
-use board_core::{Move, NoMemory, Position};
+use board_core::{Move, NoMemory, Position, order_laws};
 use cert_check::Places;
 use cert_text::MateCertificate;
 use shogi_rules::Problem;
@@ -28,6 +28,8 @@ pub(crate) fn defence(
     requires listed { (answer : Move) → IsAnswer problem.now.position.side checked.now answer → Contains (positions_of certificate.now.entries) (after checked.now answer) }
     ensures { IfOk result (λ answer. IsDefence certificate.now problem.now.position.side checked.now answer) }
 {
+    // In a list in the order of moves, what comes sooner stands sooner.
+    order_laws();
     let answers = trial_answers(alloc, problem, checked)?;
     let mut longest = None;
     // Ranks are at least 1, so the first answer is above this.

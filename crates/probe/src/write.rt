@@ -1,6 +1,7 @@
 // Answers as lines.
 ghost use Rattle.std.specs.Prelude.{◌≡◌, IfSome, IsSome};
-ghost use Rattle.usi_text.specs.MoveText.{move_text, HasText};
+ghost use Rattle.board_core.specs.Text.{HasText};
+ghost use Rattle.usi_text.specs.MoveText.{move_text};
 
 use crate::answer::Answer;
 use board_core::{Kind, Move, Position};

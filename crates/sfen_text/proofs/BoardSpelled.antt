@@ -17,7 +17,8 @@ use Rattle.sfen_text.specs.declared.fault.TextFault.{TextFault}
 use Rattle.sfen_text.specs.declared.fault.TextFault.TheVariants.{BadRow}
 use Rattle.sfen_text.specs.declared.squares.Sign.{Sign}
 use Rattle.sfen_text.specs.declared.squares.Sign.TheVariants.{Slash, Run, Stands, Broken}
-use Rattle.sfen_text.specs.Pieces.{kind_letter, letter_of, kind_of, capital_of, side_of_letter, plain_piece, promoted_piece, piece_of, promoted_of, piece_text}
+use Rattle.board_core.specs.Text.{kind_letter}
+use Rattle.sfen_text.specs.Pieces.{letter_of, kind_of, capital_of, side_of_letter, plain_piece, promoted_piece, piece_of, promoted_of, piece_text}
 use Rattle.sfen_text.specs.Spelling.{row_of, run_text}
 use Rattle.sfen_text.specs.Spells.{Stretch, empty, one, stretch_text, stretch_squares, row_squares, slashed, BoardSpells}
 use Rattle.sfen_text.specs.Signs.{plain_sign, stands, Signs, none, sign, signs, in_front, squares, reading_place, cells_of}

@@ -1,6 +1,7 @@
 -- The fields of a text that is written.
 use Rattle.std.proofs.Common.{◌≡◌, inl, inr, ℕ, suc, ◌+◌, ◌-◌, ◌≤◌, Bool, true, false, cond, eqb, List, [], ◌∷◌, ◌++◌, length, drop, refl, sym, ap, ◌∙◌, arith}
-use Rattle.std.specs.Prelude.{reverse, not, ◌&&◌}
+use Rattle.std.specs.Prelude.{reverse, not, ◌&&◌, codes, nat_eq}
+use Rattle.std.specs.List.{starts_with}
 use Rattle.std.proofs.lemmas.Bool.Decides.{eqb_tells, nat_tests}
 use Rattle.std.proofs.lemmas.List.{take_all, take_at, drop_at, reverse-append}
 use Rattle.std.proofs.lemmas.List.Sums.{take_while-cons}
@@ -102,4 +103,4 @@ unfolding front_len
 no_front x y text plain =
     let o : eqb 111 y ≡ false = elim (eqb_tells 111 y) [ inl t ↦ absurd (plain.not_o (sym t.1)) | inr n ↦ n.0 ] in
     let f : eqb 102 y ≡ false = elim (eqb_tells 102 y) [ inl t ↦ absurd (plain.not_f (sym t.1)) | inr n ↦ n.0 ] in
-    no_word (eqb 112 x) (eqb 111 y) _ (eqb 115 x) (eqb 102 y) _ o f
+    no_word (eqb 112 x) (eqb 111 y) (starts_with nat_eq text (codes "sition sfen ")) (eqb 115 x) (eqb 102 y) (starts_with nat_eq text (codes "en ")) o f

@@ -7,6 +7,7 @@ pub mod HandsAgain
 pub mod BytesAgain
 pub mod FieldsAgain
 pub mod TextAgain
+pub mod TextLaws
 pub mod BoardSpelled
 pub mod HandsSpelled
 pub mod FieldsSpelled

@@ -18,7 +18,7 @@ use Rattle.sfen_text.specs.declared.fault.TextFault.{TextFault}
 use Rattle.sfen_text.specs.declared.fault.TextFault.TheVariants as faults
 use Rattle.sfen_text.specs.Spelling.{board_text, side_letter, hand_text, hands_text, or_dash, sfen_of}
 use Rattle.sfen_text.specs.Hands.{items, hands_with, hands_of, is_byte, empty_hand}
-use Rattle.sfen_text.specs.Reading.{is_blank, leading, without_end_blanks, front_len, field, field_of, next_of, end_of, cells_at, side_at, ended, fields_at, reading, IsAnswer, HasDefender}
+use Rattle.sfen_text.specs.Reading.{is_blank, leading, without_end_blanks, front_len, field, field_of, next_of, end_of, cells_at, side_at, ended, fields_at, reading, IsReadingAnswer, HasDefender}
 use Rattle.sfen_text.proofs.RowsAgain.{board_again, cells_again}
 use Rattle.sfen_text.proofs.HandsAgain.{IsSmall, both_again}
 use Rattle.sfen_text.proofs.BytesAgain.{ArePlain, board_plain, board_long, hand_plain, both_plain}
@@ -178,7 +178,7 @@ no_fault b bad.TwoKings kept king h = omega (arith, h.1, kept.kings h.0)
 no_fault b (bad.DeadPiece square) kept king h = false≢true (sym (kept.alive square.number square.on_board) ∙ h)
 no_fault b (bad.TwoPawns file) kept king h = kept.pawns h.0 file h.1
 
-pub answer_again : (b : Board) (answer : Result Board TextFault) → IsKept b → HasDefender b → IsAnswer (Ok b) answer → answer ≡ Ok b
+pub answer_again : (b : Board) (answer : Result Board TextFault) → IsKept b → HasDefender b → IsReadingAnswer (Ok b) answer → answer ≡ Ok b
 answer_again b (Ok p) kept king is = ap (λ (q : Board). Ok q) is.0
 answer_again b (Err (faults.BadPosition fault)) kept king is = absurd (no_fault b fault kept king is.0)
 answer_again b (Err (faults.BadRow at)) kept king is = absurd is
@@ -189,8 +189,8 @@ answer_again b (Err (faults.HandTwice at)) kept king is = absurd is
 answer_again b (Err (faults.Trailing at)) kept king is = absurd is
 answer_again b (Err faults.DefenderInCheck) kept king is = absurd is
 
-pub read_again : (input : List ℕ) (answer : Result Board TextFault) → IsAnswer (reading input) answer → (b : Board) → IsKept b → HasDefender b → input ≡ sfen_of b → answer ≡ Ok b
-read_again input answer is b kept king e = answer_again b answer kept king (subst (λ (r : Result Board TextFault). IsAnswer r answer) (ap reading e ∙ text_again b kept) is)
+pub read_again : (input : List ℕ) (answer : Result Board TextFault) → IsReadingAnswer (reading input) answer → (b : Board) → IsKept b → HasDefender b → input ≡ sfen_of b → answer ≡ Ok b
+read_again input answer is b kept king e = answer_again b answer kept king (subst (λ (r : Result Board TextFault). IsReadingAnswer r answer) (ap reading e ∙ text_again b kept) is)
 
 pub only_text : (b : Board) (text : List ℕ) → IsKept b → text ≡ sfen_of b → (other : Board) → IsKept other → sfen_of other ≡ text → other ≡ b
 only_text b text kept e other keeps h = texts_apart other b keeps kept (h ∙ e)

@@ -14,9 +14,9 @@ use Rattle.board_core.specs.Kept.{IsKept}
 use Rattle.sfen_text.specs.declared.fault.TextFault.{TextFault}
 use Rattle.sfen_text.specs.declared.fault.TextFault.TheVariants as faults
 use Rattle.sfen_text.specs.Spelling.{side_letter}
-use Rattle.sfen_text.specs.Spells.{BoardSpells, HandsSpell, IsFront, IsGap, IsNumber, IsEnd, Spells}
+use Rattle.sfen_text.specs.Spells.{BoardSpells, HandsSpell, IsFrontWord, IsGap, IsNumber, IsEnd, Spells}
 use Rattle.sfen_text.specs.Hands.{is_digit, is_byte, hands_of}
-use Rattle.sfen_text.specs.Reading.{◌>>=◌, is_space, is_blank, leading, without_end_blanks, front_len, Field, field, field_of, next_of, end_of, cells_at, side_at, is_number, ended, fields_at, reading, IsAnswer, HasDefender}
+use Rattle.sfen_text.specs.Reading.{◌>>=◌, is_space, is_blank, leading, without_end_blanks, front_len, Field, field, field_of, next_of, end_of, cells_at, side_at, is_number, ended, fields_at, reading, IsReadingAnswer, HasDefender}
 use Rattle.sfen_text.proofs.FieldsAgain.{Ends, AreSolid, in_field, no_blank}
 use Rattle.sfen_text.proofs.TextAgain.{Begun, Two, no_words, answer_again}
 use Rattle.sfen_text.proofs.BoardSpelled.{cells_spelled}
@@ -117,7 +117,7 @@ text_read input p s kept = go s.is_front where
       (parts ∙ ap (λ (t : List ℕ). s.before ++ (t ++ (s.spaces ++ (core ++ s.after)))) is ∙ ap (λ (t : List ℕ). s.before ++ t) (ap (λ (t : List ℕ). word ++ t) (sym (append_assoc s.spaces core s.after)) ∙ sym (append_assoc word (s.spaces ++ core) s.after)))
       begins solid_first s.is_before s.is_after (solid_behind s.spaces core solid) size (good s.spaces s.is_spaces)
 
-  go : IsFront s.front → reading input ≡ Ok p
+  go : IsFrontWord s.front → reading input ≡ Ok p
   go (inl none) =
       without_front input (s.before ++ s.spaces) core s.after two.first ((two.second ∷ two.others) ++ behind) (Ok p)
       (parts ∙ ap (λ (t : List ℕ). s.before ++ (t ++ (s.spaces ++ (core ++ s.after)))) none ∙ sym (append_assoc s.before s.spaces (core ++ s.after)))
@@ -272,6 +272,23 @@ record Found (at : ℕ) (text : List ℕ) (p : Board) : Type 0 where
   over : Field
   good : ended (next_of (next_of (next_of (field_of at text)))) ≡ Ok over
 
+-- What each step gave is what the position has of it.
+found_with : (at : ℕ) (text : List ℕ) (p : Board) (cells : List (Option Piece)) (side : Side) (hands : List ℕ × List ℕ) (over : Field)
+    → cells_at (field_of at text).at (field_of at text).text ≡ Ok cells
+    → side_at (next_of (field_of at text)).at (next_of (field_of at text)).text ≡ Ok side
+    → hands_of (next_of (next_of (field_of at text))).at (next_of (next_of (field_of at text))).text ≡ Ok hands
+    → ended (next_of (next_of (next_of (field_of at text)))) ≡ Ok over
+    → well (record { cells = cells; black = hands.0; white = hands.1; side = side }) ≡ well p → Found at text p
+found_with at text p cells side hands over c s h o e =
+    let same : record { cells = cells; black = hands.0; white = hands.1; side = side } ≡ p = well_same (record { cells = cells; black = hands.0; white = hands.1; side = side }) p e in
+    record {
+      cells = c ∙ ap (λ (q : Board). Ok q.cells) same;
+      side = s ∙ ap (λ (q : Board). Ok q.side) same;
+      hands = h ∙ ap (λ (q : Board). Ok (q.black, q.white)) same;
+      over = over;
+      good = o;
+    }
+
 found : (at : ℕ) (text : List ℕ) (p : Board) → fields_at at text ≡ Ok p → Found at text p
 unfolding fields_at
 found at text p e =
@@ -283,14 +300,7 @@ found at text p e =
     let s = bind_ok (side_at turn.at turn.text) (λ side. hands_of held.at held.text >>= (λ hands. ended (next_of held) >>= last c.0 side hands)) p c.2 in
     let h = bind_ok (hands_of held.at held.text) (λ hands. ended (next_of held) >>= last c.0 s.0 hands) p s.2 in
     let o = bind_ok (ended (next_of held)) (last c.0 s.0 h.0) p h.2 in
-    let same : record { cells = c.0; black = h.0.0; white = h.0.1; side = s.0 } ≡ p = well_same (record { cells = c.0; black = h.0.0; white = h.0.1; side = s.0 }) p o.2 in
-    record {
-      cells = c.1 ∙ ap (λ (q : Board). Ok q.cells) same;
-      side = s.1 ∙ ap (λ (q : Board). Ok q.side) same;
-      hands = h.1 ∙ ap (λ (q : Board). Ok (q.black, q.white)) same;
-      over = o.0;
-      good = o.1;
-    }
+    found_with at text p c.0 s.0 h.0 o.0 c.1 s.1 h.1 o.1 o.2
 
 -- A text of fields, and what spells them.
 record FieldsAre (text : List ℕ) (p : Board) : Type 0 where
@@ -347,7 +357,7 @@ fields_spelled at text p e =
 -- The front of a text, and the rest of it.
 record FrontIs (text : List ℕ) : Type 0 where
   front : List ℕ
-  is : IsFront front
+  is : IsFrontWord front
   size : front_len text ≡ length front
   parts : text ≡ front ++ drop (length front) text
 
@@ -372,16 +382,12 @@ front_is text = long (starts_with nat_eq text (codes "position sfen ")) refl whe
   }
   long false t = short (starts_with nat_eq text (codes "sfen ")) refl t
 
-pub text_spelled : (input : List ℕ) (p : Board) → reading input ≡ Ok p → Spells input p
-text_spelled input p e =
-    let blanks = split is_blank input in
-    let ends = end_parts blanks.rest in
-    let body = without_end_blanks blanks.rest in
-    let word = front_is body in
-    let same = reading_as input blanks.lead blanks.rest body (length word.front) blanks.parts blanks.size refl word.size in
-    let fields = fields_spelled (length blanks.lead + length word.front) (drop (length word.front) body) p (sym same ∙ e) in
-    let whole : input ≡ blanks.lead ++ ((word.front ++ (fields.spaces ++ (fields.board ++ (fields.gap ++ (side_letter p.side ∷ (fields.next_gap ++ (fields.hands ++ (fields.end ++ fields.after)))))))) ++ ends.0)
-    = blanks.parts ∙ ap (λ (t : List ℕ). blanks.lead ++ t) (ends.1 ∙ ap (λ (t : List ℕ). t ++ ends.0) (word.parts ∙ ap (λ (t : List ℕ). word.front ++ t) fields.parts)) in
+-- What stands around a body is blank, and what stands behind its front is spelled by fields: they spell the input.
+spelled_with : (input body after : List ℕ) (p : Board) (blanks : Split is_blank input) → blanks.rest ≡ body ++ after → list_all is_blank after ≡ true
+    → (word : FrontIs body) → FieldsAre (drop (length word.front) body) p → Spells input p
+spelled_with input body after p blanks ends is_after word fields =
+    let whole : input ≡ blanks.lead ++ ((word.front ++ (fields.spaces ++ (fields.board ++ (fields.gap ++ (side_letter p.side ∷ (fields.next_gap ++ (fields.hands ++ (fields.end ++ fields.after)))))))) ++ after)
+    = blanks.parts ∙ ap (λ (t : List ℕ). blanks.lead ++ t) (ends ∙ ap (λ (t : List ℕ). t ++ after) (word.parts ∙ ap (λ (t : List ℕ). word.front ++ t) fields.parts)) in
     record {
       before = blanks.lead;
       front = word.front;
@@ -391,7 +397,7 @@ text_spelled input p e =
       next_gap = fields.next_gap;
       hands = fields.hands;
       end = fields.end;
-      after = fields.after ++ ends.0;
+      after = fields.after ++ after;
       parts = whole ∙ simp append_assoc;
       is_before = blanks.all;
       is_front = word.is;
@@ -401,18 +407,32 @@ text_spelled input p e =
       is_next_gap = fields.is_next_gap;
       is_hands = fields.is_hands;
       is_end = fields.is_end;
-      is_after = all_of_both is_blank fields.after ends.0 fields.is_after ends.2;
+      is_after = all_of_both is_blank fields.after after fields.is_after is_after;
     }
+
+fields_behind : (input body : List ℕ) (p : Board) (blanks : Split is_blank input) (word : FrontIs body) → without_end_blanks blanks.rest ≡ body → reading input ≡ Ok p
+    → FieldsAre (drop (length word.front) body) p
+fields_behind input body p blanks word cut e =
+    let same = reading_as input blanks.lead blanks.rest body (length word.front) blanks.parts blanks.size cut word.size in
+    fields_spelled (length blanks.lead + length word.front) (drop (length word.front) body) p (sym same ∙ e)
+
+pub text_spelled : (input : List ℕ) (p : Board) → reading input ≡ Ok p → Spells input p
+text_spelled input p e =
+    let blanks = split is_blank input in
+    let ends = end_parts blanks.rest in
+    let body = without_end_blanks blanks.rest in
+    let word = front_is body in
+    spelled_with input body ends.0 p blanks ends.1 ends.2 word (fields_behind input body p blanks word refl e)
 
 -- ---- the answer
 
-answer_from : (input : List ℕ) (read : Result Board TextFault) (p : Board) → reading input ≡ read → IsAnswer read (Ok p) → Spells input p
+answer_from : (input : List ℕ) (read : Result Board TextFault) (p : Board) → reading input ≡ read → IsReadingAnswer read (Ok p) → Spells input p
 answer_from input (Ok b) p e is = text_spelled input p (e ∙ ap (λ (q : Board). Ok q) (sym is.0))
 answer_from input (Err fault) p e is = absurd cc
 
-pub answer_spelled : (input : List ℕ) (answer : Result Board TextFault) → IsAnswer (reading input) answer → IfOk answer (λ p. Spells input p)
+pub answer_spelled : (input : List ℕ) (answer : Result Board TextFault) → IsReadingAnswer (reading input) answer → IfOk answer (λ p. Spells input p)
 answer_spelled input (Ok p) is = answer_from input (reading input) p refl is
 answer_spelled input (Err fault) is = tt
 
-pub spelled_answer : (input : List ℕ) (answer : Result Board TextFault) → IsAnswer (reading input) answer → (p : Board) → Spells input p → IsKept p → HasDefender p → answer ≡ Ok p
-spelled_answer input answer is p spells kept king = answer_again p answer kept king (subst (λ (r : Result Board TextFault). IsAnswer r answer) (text_read input p spells kept) is)
+pub spelled_answer : (input : List ℕ) (answer : Result Board TextFault) → IsReadingAnswer (reading input) answer → (p : Board) → Spells input p → IsKept p → HasDefender p → answer ≡ Ok p
+spelled_answer input answer is p spells kept king = answer_again p answer kept king (subst (λ (r : Result Board TextFault). IsReadingAnswer r answer) (text_read input p spells kept) is)

@@ -66,6 +66,6 @@ hands_of at text =
 
 -- One more byte was read, as an item's: what is behind it is read on from what was answered; or the fault is there, whatever
 -- is behind it.
-abbrev pub IsRead : Holding → ℕ → ℕ → Result Holding TextFault → Type 0
-IsRead holding byte at (Ok next) = (next.count ≤ 18) × ((rest : List ℕ) → hands_with holding.black holding.white (items holding.start holding.count at (byte ∷ rest)) ≡ hands_with next.black next.white (items next.start next.count (at + 1) rest))
-IsRead holding byte at (Err fault) = (rest : List ℕ) → hands_with holding.black holding.white (items holding.start holding.count at (byte ∷ rest)) ≡ Err fault
+abbrev pub IsItemRead : Holding → ℕ → ℕ → Result Holding TextFault → Type 0
+IsItemRead holding byte at (Ok next) = (next.count ≤ 18) × ((rest : List ℕ) → hands_with holding.black holding.white (items holding.start holding.count at (byte ∷ rest)) ≡ hands_with next.black next.white (items next.start next.count (at + 1) rest))
+IsItemRead holding byte at (Err fault) = (rest : List ℕ) → hands_with holding.black holding.white (items holding.start holding.count at (byte ∷ rest)) ≡ Err fault

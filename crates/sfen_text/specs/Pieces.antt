@@ -6,17 +6,7 @@ use Rattle.board_core.specs.declared.piece.Kind.TheVariants.{Pawn, Lance, Knight
 use Rattle.board_core.specs.declared.piece.Side.{Side}
 use Rattle.board_core.specs.declared.piece.Side.TheVariants.{Black, White}
 use Rattle.board_core.specs.declared.piece.Piece.{Piece}
-
--- The capital letter of a kind: P L N S G B R K.
-abbrev pub kind_letter : Kind → ℕ
-kind_letter Pawn = 80
-kind_letter Lance = 76
-kind_letter Knight = 78
-kind_letter Silver = 83
-kind_letter Gold = 71
-kind_letter Bishop = 66
-kind_letter Rook = 82
-kind_letter King = 75
+use Rattle.board_core.specs.Text.{kind_letter}
 
 -- The letter of a side's piece of a kind: Black's is a capital letter, White's a small one.
 abbrev pub letter_of : Side → Kind → ℕ

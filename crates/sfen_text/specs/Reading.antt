@@ -105,11 +105,11 @@ reading input =
     fields_at (blanks + front) (drop front body)
 
 -- The answer to an input: the position that it stands for; else its first fault, one of the text before one of the position.
-abbrev pub IsAnswer : Result Board TextFault → Result Board TextFault → Type 0
-IsAnswer (Err fault) answer = answer ≡ Err fault
-IsAnswer (Ok b) (Ok position) = IsBuilt b (Ok position)
-IsAnswer (Ok b) (Err (BadPosition bad)) = IsBuilt b (Err bad)
-IsAnswer (Ok b) (Err fault) = ⊥
+abbrev pub IsReadingAnswer : Result Board TextFault → Result Board TextFault → Type 0
+IsReadingAnswer (Err fault) answer = answer ≡ Err fault
+IsReadingAnswer (Ok b) (Ok position) = IsBuilt b (Ok position)
+IsReadingAnswer (Ok b) (Err (BadPosition bad)) = IsBuilt b (Err bad)
+IsReadingAnswer (Ok b) (Err fault) = ⊥
 
 -- The side that isn't to move has a king.
 abbrev pub HasDefender : Board → Type 0

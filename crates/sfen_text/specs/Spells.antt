@@ -78,9 +78,9 @@ ItemsHold side items hand = (kind : Kind) → kind ≢ King → counts_for side 
 abbrev pub HandsSpell : List ℕ → List ℕ → List ℕ → Type 0
 HandsSpell text black white = (items : List HandItem) × (text ≡ or_dash (flat_map hand_item_text items)) × ItemsHold Black items black × ItemsHold White items white
 
--- What may stand in front of the fields: nothing, or a word and a space.
-abbrev pub IsFront : List ℕ → Type 0
-IsFront front = (front ≡ []) ⊎ ((front ≡ codes "sfen ") ⊎ (front ≡ codes "position sfen "))
+-- What may stand in front of the fields: nothing, or `sfen ` or `position sfen `.
+abbrev pub IsFrontWord : List ℕ → Type 0
+IsFrontWord front = (front ≡ []) ⊎ ((front ≡ codes "sfen ") ⊎ (front ≡ codes "position sfen "))
 
 -- What stands between two fields: one space or more.
 abbrev pub IsGap : List ℕ → Type 0
@@ -108,7 +108,7 @@ pub record Spells (text : List ℕ) (p : Board) : Type 0 where
   pub after : List ℕ
   pub parts : text ≡ before ++ front ++ spaces ++ board ++ gap ++ (side_letter p.side ∷ []) ++ next_gap ++ hands ++ end ++ after
   pub is_before : list_all is_blank before ≡ true
-  pub is_front : IsFront front
+  pub is_front : IsFrontWord front
   pub is_spaces : list_all is_space spaces ≡ true
   pub is_board : BoardSpells board p.cells
   pub is_gap : IsGap gap

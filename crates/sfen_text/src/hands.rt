@@ -2,7 +2,7 @@
 ghost use Rattle.std.specs.Prelude.{◌≡◌, ◌≢◌, ◌≤◌, ◌<◌, ◌+◌, ◌^◌, length, slice_set, IsTrue, false};
 ghost use Rattle.board_core.specs.Kind.{place_of};
 ghost use Rattle.board_core.specs.declared.piece.Kind.TheVariants.{King};
-ghost use Rattle.sfen_text.specs.Hands.{items, hands_with, hands_of, empty_hand, is_digit, IsRead};
+ghost use Rattle.sfen_text.specs.Hands.{items, hands_with, hands_of, empty_hand, is_digit, IsItemRead};
 ghost use Rattle.sfen_text.specs.Reading.{Gives};
 
 use crate::TextFault;
@@ -33,7 +33,7 @@ fn with_count(hand: Hand, kind: Kind, count: u8) -> Hand
 fn take_digit(holding: Holding, byte: u8, at: usize) -> Result<Holding, TextFault>
     requires digit { IsTrue (is_digit byte) }
     requires count { holding.count ≤ 18 }
-    ensures { IsRead holding byte at result }
+    ensures { IsItemRead holding byte at result }
 {
     let count = 10 * holding.count + (byte - b'0');
     if count == 0 || count > 18 {
@@ -47,7 +47,7 @@ fn take_digit(holding: Holding, byte: u8, at: usize) -> Result<Holding, TextFaul
 fn take_letter(holding: Holding, byte: u8, at: usize) -> Result<Holding, TextFault>
     requires digit { is_digit byte ≡ false }
     requires next { at + 1 < 2 ^ 64 }
-    ensures { IsRead holding byte at result }
+    ensures { IsItemRead holding byte at result }
 {
     let Some(piece) = piece_of(byte) else {
         return Err(TextFault::BadHand(holding.start));
@@ -80,7 +80,7 @@ fn take_letter(holding: Holding, byte: u8, at: usize) -> Result<Holding, TextFau
 fn take_byte(holding: Holding, byte: u8, at: usize) -> Result<Holding, TextFault>
     requires next { at + 1 < 2 ^ 64 }
     requires count { holding.count ≤ 18 }
-    ensures { IsRead holding byte at result }
+    ensures { IsItemRead holding byte at result }
 {
     if byte.is_ascii_digit() {
         take_digit(holding, byte, at)

@@ -5,7 +5,7 @@ ghost use Rattle.board_core.specs.Board.{Board};
 ghost use Rattle.board_core.specs.Kept.{IsKept};
 ghost use Rattle.sfen_text.specs.Spelling.{sfen_of};
 ghost use Rattle.sfen_text.specs.Spells.{Spells};
-ghost use Rattle.sfen_text.specs.Reading.{is_space, is_blank, leading, without_end_blanks, front_len, field, field_of, next_of, end_of, cells_at, side_at, is_number, ended, fields_at, reading, IsAnswer, HasDefender, Gives};
+ghost use Rattle.sfen_text.specs.Reading.{is_space, is_blank, leading, without_end_blanks, front_len, field, field_of, next_of, end_of, cells_at, side_at, is_number, ended, fields_at, reading, IsReadingAnswer, HasDefender, Gives};
 ghost use Rattle.sfen_text.specs.Hands.{hands_of, is_digit};
 
 use crate::TextFault;
@@ -187,7 +187,7 @@ fn body_of(input: &[u8]) -> (usize, &[u8])
 }
 
 fn built(parts: Parts) -> Result<Position, TextFault>
-    ensures { IsAnswer (Ok (record { cells = parts.cells; black = parts.black; white = parts.white; side = parts.side })) result }
+    ensures { IsReadingAnswer (Ok (record { cells = parts.cells; black = parts.black; white = parts.white; side = parts.side })) result }
 {
     match Position::build(&parts.cells, parts.black, parts.white, parts.side) {
         Ok(position) => Ok(position),
@@ -196,7 +196,7 @@ fn built(parts: Parts) -> Result<Position, TextFault>
 }
 
 fn answer_of(input: &[u8]) -> Result<Position, TextFault>
-    ensures { IsAnswer (reading input.now) result }
+    ensures { IsReadingAnswer (reading input.now) result }
 {
     let (at, text) = body_of(input);
     let parts = parts_of(text, at)?;
@@ -210,7 +210,7 @@ fn answer_of(input: &[u8]) -> Result<Position, TextFault>
 /// (USI protocol: `position`). The rest is three or four fields with spaces between: the board from rank a to rank i, each
 /// from file 9 to file 1; the side to move; the hands; perhaps a move number of one to nine digits, which isn't used.
 pub fn read_sfen(input: &[u8]) -> Result<Position, TextFault>
-    ensures exact { IsAnswer (reading input.now) result }
+    ensures exact { IsReadingAnswer (reading input.now) result }
     // The text spells the position that is read.
     ensures spelled { IfOk result (λ p. Spells input.now p) }
     // A position that the text spells is read, where it keeps what every position keeps and the side that isn't to move has

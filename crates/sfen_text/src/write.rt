@@ -4,35 +4,19 @@ ghost use Rattle.board_core.specs.Board.{Board, held, hand_of};
 ghost use Rattle.board_core.specs.Kept.{IsKept};
 ghost use Rattle.board_core.specs.declared.piece.Kind.TheVariants.{King};
 ghost use Rattle.board_core.specs.declared.piece.Side.TheVariants.{Black, White};
-ghost use Rattle.sfen_text.specs.Pieces.{kind_letter, letter_of, piece_text};
+ghost use Rattle.sfen_text.specs.Pieces.{letter_of, piece_text};
 ghost use Rattle.sfen_text.specs.Spelling.{row_of, run_text, row_text, slashed_row, board_text, side_letter, count_text, held_text, hand_text, hands_text, sfen_of};
 
 use crate::NoMemory;
 use board_core::{Hand, Kind, Piece, Position, Side, Square};
 use std::alloc::Global;
 
-fn capital(kind: Kind) -> u8
-    ensures letter { result ≡ kind_letter kind }
-    ensures capital { result < 91 }
-{
-    match kind {
-        Kind::Pawn => b'P',
-        Kind::Lance => b'L',
-        Kind::Knight => b'N',
-        Kind::Silver => b'S',
-        Kind::Gold => b'G',
-        Kind::Bishop => b'B',
-        Kind::Rook => b'R',
-        Kind::King => b'K',
-    }
-}
-
 fn letter(side: Side, kind: Kind) -> u8
     ensures { result ≡ letter_of side kind }
 {
     match side {
-        Side::Black => capital(kind),
-        Side::White => capital(kind) + 32,
+        Side::Black => kind.letter(),
+        Side::White => kind.letter() + 32,
     }
 }
 

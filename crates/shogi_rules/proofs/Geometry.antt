@@ -1,7 +1,7 @@
-use Rattle.std.proofs.Common.{◌≡◌, ◌≢◌, ◌<◌, ◌≤◌, ◌+◌, ◌-◌, ◌*◌, ◌/◌, ◌%◌, ◌↔◌, inl, inr, ℕ, List, Option, None, arith, sym, subst}
+use Rattle.std.proofs.Common.{◌≡◌, ◌<◌, ◌≤◌, ◌+◌, ◌-◌, ◌*◌, ◌/◌, ◌%◌, ◌↔◌, inl, inr, ℕ, List, Option, None, arith, sym, subst}
 use Rattle.board_core.specs.declared.piece.Piece.{Piece}
 use Rattle.board_core.specs.Board.{piece_at}
-use Rattle.shogi_rules.specs.Rules.{distance, IsInside, IsBetween, IsClear}
+use Rattle.shogi_rules.specs.Rules.{IsInside, IsBetween, IsClear}
 use Rattle.shogi_rules.specs.Scan.{IsEmptyAlong}
 
 -- m is some number of steps above low, below count
@@ -34,10 +34,6 @@ ordered : (x y z : ℕ) → x ≤ z → IsInside x y z → Ordered x y z
 ordered x y z up (inl i) = record { low = i.0; high = i.1 }
 ordered x y z up (inr i) = absurd (omega arith)
 
-falling : (x y z : ℕ) → z ≤ x → IsInside x y z → Ordered z y x
-falling x y z down (inl i) = absurd (omega arith)
-falling x y z down (inr i) = record { low = i.0; high = i.1 }
-
 file_step : (low m high : ℕ) → low / 9 ≡ high / 9 → low ≤ high → IsBetween low m high
     → StepOf low 1 (high % 9 - low % 9) m
 file_step low m high same up (inl f) =
@@ -51,67 +47,6 @@ on_file low high same up = record {
   step_of = λ m b. file_step low m high same up b;
   between = λ j below above. inl (record { here = omega arith; there = omega arith; inside = inl (omega arith, omega arith) });
 }
-
-rank_step : (low m high : ℕ) → low % 9 ≡ high % 9 → low ≤ high → IsBetween low m high
-    → StepOf low 9 (high / 9 - low / 9) m
-rank_step low m high same up (inl f) = let i = ordered _ _ _ (omega arith) f.inside in absurd (omega arith)
-rank_step low m high same up (inr (inl r)) =
-    let i = ordered _ _ _ (omega arith) r.inside in
-    record { steps = m / 9 - low / 9; below = omega arith; above = omega arith; is = omega arith }
-rank_step low m high same up (inr (inr d)) = let i = ordered _ _ _ (omega arith) d.ranks in absurd (omega arith)
-
-pub on_rank : (low high : ℕ) → low % 9 ≡ high % 9 → low ≤ high → Passes low high 9 (high / 9 - low / 9)
-on_rank low high same up = record {
-  step_of = λ m b. rank_step low m high same up b;
-  between = λ j below above. inr (inl (record { here = omega arith; there = omega arith; inside = inl (omega arith, omega arith) }));
-}
-
-rise_step : (low m high : ℕ) → 0 < high / 9 - low / 9 → low % 9 + (high / 9 - low / 9) ≡ high % 9 → IsBetween low m high
-    → StepOf low 10 (high / 9 - low / 9) m
-rise_step low m high some same (inl f) = absurd (omega arith)
-rise_step low m high some same (inr (inl r)) = absurd (omega arith)
-rise_step low m high some same (inr (inr d)) =
-    let i = ordered _ _ _ (omega arith) d.files in
-    let k = ordered _ _ _ (omega arith) d.ranks in
-    record { steps = m / 9 - low / 9; below = omega arith; above = omega arith; is = omega arith }
-
-pub on_rise : (low high : ℕ) → 0 < high / 9 - low / 9 → low % 9 + (high / 9 - low / 9) ≡ high % 9 → Passes low high 10 (high / 9 - low / 9)
-on_rise low high some same = record {
-  step_of = λ m b. rise_step low m high some same b;
-  between = λ j below above. inr (inr (record {
-    here = omega arith;
-    there = omega arith;
-    files = inl (omega arith, omega arith);
-    ranks = inl (omega arith, omega arith);
-  }));
-}
-
-fall_step : (low m high : ℕ) → 0 < high / 9 - low / 9 → high % 9 + (high / 9 - low / 9) ≡ low % 9 → IsBetween low m high
-    → StepOf low 8 (high / 9 - low / 9) m
-fall_step low m high some same (inl f) = absurd (omega arith)
-fall_step low m high some same (inr (inl r)) = absurd (omega arith)
-fall_step low m high some same (inr (inr d)) =
-    let i = ordered _ _ _ (omega arith) d.files in
-    let k = falling _ _ _ (omega arith) d.ranks in
-    record { steps = m / 9 - low / 9; below = omega arith; above = omega arith; is = omega arith }
-
-pub on_fall : (low high : ℕ) → 0 < high / 9 - low / 9 → high % 9 + (high / 9 - low / 9) ≡ low % 9 → Passes low high 8 (high / 9 - low / 9)
-on_fall low high some same = record {
-  step_of = λ m b. fall_step low m high some same b;
-  between = λ j below above. inr (inr (record {
-    here = omega arith;
-    there = omega arith;
-    files = inl (omega arith, omega arith);
-    ranks = inr (omega arith, omega arith);
-  }));
-}
-
--- no square lies between squares that are on no line
-pub off_line : (cells : List (Option Piece)) (low high : ℕ) → low / 9 ≢ high / 9 → low % 9 ≢ high % 9
-    → distance (low / 9) (high / 9) ≢ distance (low % 9) (high % 9) → IsClear cells low high
-off_line cells low high files ranks diagonal m (inl f) = absurd (files (omega arith))
-off_line cells low high files ranks diagonal m (inr (inl r)) = absurd (ranks (omega arith))
-off_line cells low high files ranks diagonal m (inr (inr d)) = absurd (diagonal d.there)
 
 pub through : {P Q R : Type 0} → P ↔ Q → Q ↔ R → P ↔ R
 through a b = ((λ p. b.0 (a.0 p)), (λ r. a.1 (b.1 r)))

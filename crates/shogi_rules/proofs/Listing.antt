@@ -1,15 +1,13 @@
-use Rattle.std.proofs.Common.{◌≡◌, ◌<◌, ◌≤◌, ◌+◌, ◌*◌, ◌⊎◌, inl, inr, ℕ, List, [], ◌∷◌, ◌++◌, Bool, true, false, Contains, arith, ap, sym, refl, ◌∙◌, subst, cond, ◌==◌}
+use Rattle.std.proofs.Common.{◌≡◌, ◌<◌, ◌≤◌, ◌+◌, ◌*◌, ◌⊎◌, inl, inr, ℕ, List, [], ◌∷◌, ◌++◌, Bool, true, false, Contains, arith, sym, ◌∙◌, subst}
 use Rattle.std.proofs.lemmas.Bool.{cases_eq, cases_order}
 use Rattle.std.proofs.lemmas.List.Elements.{Contains-push, Contains-push_cases, Contains-append_left}
-use mathlib.Core.HLevel.{is_prop→PathP}
-use Rattle.std.proofs.Math.Bridge.{le_prop}
 use Rattle.board_core.specs.declared.square.Square.{Square}
 use Rattle.board_core.specs.declared.piece.Kind.{Kind}
 use Rattle.board_core.specs.declared.piece.Kind.TheVariants.{Pawn, Lance, Knight, Silver, Gold, Bishop, Rook, King}
 use Rattle.board_core.specs.declared.moves.Move.{Move}
 use Rattle.board_core.specs.declared.moves.Move.TheVariants as moves
 use Rattle.board_core.specs.Kind.{place_of}
-use Rattle.board_core.specs.Order.{bit_of, order_of, RisesFrom, Lists}
+use Rattle.board_core.specs.Order.{bit_of, order_of, RisesFrom, Lists, OrdersApart}
 use Rattle.board_core.specs.declared.piece.Side.{Side}
 use Rattle.board_core.specs.Board.{Board, held, hand_of}
 use Rattle.shogi_rules.specs.declared.illegal.Illegal.TheVariants.{NotThere, NotInHand}
@@ -18,51 +16,9 @@ use Rattle.shogi_rules.specs.declared.trial.Wanted.TheVariants.{Checks, Answers}
 use Rattle.shogi_rules.specs.Rules.{IsOwn, IsLegal}
 use Rattle.shogi_rules.specs.Trial.{IsWanted, RisesBelow, ListsBelow}
 
-square_same : (a b : Square) → a.number ≡ b.number → a ≡ b
-square_same a b h = λ i. record { number = h i; on_board = is_prop→PathP (λ j. h j < 81) (λ j. le_prop) a.on_board b.on_board i }
-
 bit_below : (p : Bool) → bit_of p < 2
 bit_below true = omega arith
 bit_below false = omega arith
-
-bit_same : (p q : Bool) → bit_of p ≡ bit_of q → p ≡ q
-bit_same true true h = refl
-bit_same true false h = absurd (omega arith)
-bit_same false true h = absurd (omega arith)
-bit_same false false h = refl
-
-abbrev kind_from : ℕ → Kind
-kind_from n = cond (n == 0) Pawn (cond (n == 1) Lance (cond (n == 2) Knight (cond (n == 3) Silver
-    (cond (n == 4) Gold (cond (n == 5) Bishop (cond (n == 6) Rook King))))))
-
-kind_back : (k : Kind) → kind_from (place_of k) ≡ k
-kind_back Pawn = refl
-kind_back Lance = refl
-kind_back Knight = refl
-kind_back Silver = refl
-kind_back Gold = refl
-kind_back Bishop = refl
-kind_back Rook = refl
-kind_back King = refl
-
-same_place : (a b : Kind) → place_of a ≡ place_of b → a ≡ b
-same_place a b h = sym (kind_back a) ∙ (ap kind_from h ∙ kind_back b)
-
--- no two moves have one code
-pub code_same : (a b : Move) → order_of a ≡ order_of b → a ≡ b
-code_same (moves.Board f t p) (moves.Board g u q) h =
-    let low = bit_below p in
-    let high = bit_below q in
-    let from : f ≡ g = square_same f g (omega (arith, t.on_board, u.on_board)) in
-    let to : t ≡ u = square_same t u (omega (arith, t.on_board, u.on_board)) in
-    let turn : p ≡ q = bit_same p q (omega (arith, t.on_board, u.on_board)) in
-    cc
-code_same (moves.Board f t p) (moves.Drop k u) h = let low = bit_below p in absurd (omega (arith, f.on_board, t.on_board))
-code_same (moves.Drop k t) (moves.Board g u q) h = let low = bit_below q in absurd (omega (arith, g.on_board, u.on_board))
-code_same (moves.Drop k t) (moves.Drop l u) h =
-    let kind : k ≡ l = same_place k l (omega (arith, t.on_board, u.on_board)) in
-    let to : t ≡ u = square_same t u (omega (arith, t.on_board, u.on_board)) in
-    cc
 
 rises_more : (low high : ℕ) (ms : List Move) → RisesBelow low high ms → RisesBelow low (high + 1) ms
 rises_more low high [] h = omega arith
@@ -72,30 +28,23 @@ rises_push : (low high : ℕ) (ms : List Move) (m : Move) → RisesBelow low hig
 rises_push low high [] m h e = (omega arith, omega arith)
 rises_push low high (x ∷ ms) m h e = (h.0, rises_push (order_of x + 1) high ms m h.1 e)
 
-pub lists_none : (P : Move → Type 0) → ListsBelow P 0 []
-lists_none P = record {
-  sound = λ m h. absurd (omega arith);
-  complete = λ m h below. absurd (omega arith);
-  rises = omega arith;
-}
-
-pub lists_more : (P : Move → Type 0) (n : ℕ) (xs : List Move) (m : Move) → ListsBelow P n xs → order_of m ≡ n → P m
+pub lists_more : OrdersApart → (P : Move → Type 0) (n : ℕ) (xs : List Move) (m : Move) → ListsBelow P n xs → order_of m ≡ n → P m
     → ListsBelow P (n + 1) (xs ++ m ∷ [])
-lists_more P n xs m l e holds = record {
+lists_more apart P n xs m l e holds = record {
   sound = λ q h. elim (Contains-push_cases xs m q h) [ inl old ↦ l.sound q old | inr is ↦ subst P is holds ];
   complete = λ q h below. elim (cases_eq (order_of q) n) [
-    | inl same ↦ subst (λ (x : Move). Contains (xs ++ m ∷ []) x) (code_same m q (e ∙ sym same)) (Contains-push xs m)
+    | inl same ↦ subst (λ (x : Move). Contains (xs ++ m ∷ []) x) (apart m q (e ∙ sym same)) (Contains-push xs m)
     | inr other ↦ Contains-append_left xs (m ∷ []) q (l.complete q h (omega arith))
   ];
   rises = rises_push 0 n xs m l.rises e;
 }
 
-pub lists_same : (P : Move → Type 0) (n : ℕ) (xs : List Move) (m : Move) → ListsBelow P n xs → order_of m ≡ n → ¬ P m
+pub lists_same : OrdersApart → (P : Move → Type 0) (n : ℕ) (xs : List Move) (m : Move) → ListsBelow P n xs → order_of m ≡ n → ¬ P m
     → ListsBelow P (n + 1) xs
-lists_same P n xs m l e fails = record {
+lists_same apart P n xs m l e fails = record {
   sound = l.sound;
   complete = λ q h below. elim (cases_eq (order_of q) n) [
-    | inl same ↦ absurd (fails (subst P (code_same q m (same ∙ sym e)) h))
+    | inl same ↦ absurd (fails (subst P (apart q m (same ∙ sym e)) h))
     | inr other ↦ l.complete q h (omega arith)
   ];
   rises = rises_more 0 n xs l.rises;
@@ -162,13 +111,18 @@ wanted_from w attacker b from within other (moves.Board f t p) h low high =
     wanted_legal w attacker b _ h NotThere (λ own. other (subst (λ (s : ℕ). IsOwn b s) same own))
 wanted_from w attacker b from within other (moves.Drop k t) h low high = omega arith
 
+-- kinds with one place are one: their drops to a square have one place in the order
+same_place : OrdersApart → (t : Square) (l k : Kind) → place_of l ≡ place_of k → l ≡ k
+same_place apart t l k e = let same = apart (moves.Drop l t) (moves.Drop k t) (omega (arith, e)) in cc
+
 -- a wanted move in the stretch of a kind's drops is a drop of that kind, which the mover has in hand
-pub wanted_drop : (w : Wanted) (attacker : Side) (b : Board) (k : Kind) → held (hand_of b b.side) k ≡ 0 → (m : Move) → IsWanted w attacker b m
+pub wanted_drop : OrdersApart → (w : Wanted) (attacker : Side) (b : Board) (k : Kind) → held (hand_of b b.side) k ≡ 0
+    → (m : Move) → IsWanted w attacker b m
     → 13122 + 81 * place_of k ≤ order_of m → order_of m < 13122 + 81 * place_of k + 81 → ⊥
-wanted_drop w attacker b k none (moves.Board f t p) h low high =
+wanted_drop apart w attacker b k none (moves.Board f t p) h low high =
     let bit = bit_below p in omega (arith, f.on_board, t.on_board)
-wanted_drop w attacker b k none (moves.Drop l t) h low high =
-    let same : l ≡ k = same_place l k (omega (arith, t.on_board)) in
+wanted_drop apart w attacker b k none (moves.Drop l t) h low high =
+    let same : l ≡ k = same_place apart t l k (omega (arith, t.on_board)) in
     wanted_legal w attacker b _ h NotInHand (rw same none)
 
 -- the same place, written in another way

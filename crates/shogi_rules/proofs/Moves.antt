@@ -121,6 +121,10 @@ pawn_alone b t u from to promote man kept start there fit first second pawn s wi
       | inl is ↦ absurd (no_second b t u from to s man kept start there first second kind plain moved within file is)
     ]
 
+-- one's own piece goes where none of one's own stands, so to another square
+pub goes_elsewhere : (b : Board) (from to : ℕ) → IsOwn b from → ¬ IsOwn b to → from ≢ to
+goes_elsewhere b from to own free same = free (subst (λ (s : ℕ). IsOwn b s) same own)
+
 -- a piece that a legal move may take is no king
 pub no_king_taken : (b : Board) (from to : ℕ) (man taken : Piece) → IsQuiet b → from < 81 → to < 81 → piece_at b.cells from ≡ Some man
     → man.side ≡ b.side → ¬ IsOwn b to → IsTrue (fits man from to) → IsClear b.cells from to → piece_at b.cells to ≡ Some taken → taken.kind ≢ King

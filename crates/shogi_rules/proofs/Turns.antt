@@ -1,13 +1,10 @@
 -- What legal says of a move, as the calls that make it ask for it.
-use Rattle.std.proofs.Common.{◌≡◌, ℕ, List, Bool, refl, subst}
+use Rattle.std.proofs.Common.{◌≡◌, ℕ, Bool, subst}
 use Rattle.board_core.specs.declared.piece.Kind.{Kind}
-use Rattle.board_core.specs.declared.piece.Side.{Side}
-use Rattle.board_core.specs.declared.piece.Side.TheVariants.{Black, White}
 use Rattle.board_core.specs.declared.square.Square.{Square}
 use Rattle.board_core.specs.declared.moves.Move.{Move}
 use Rattle.board_core.specs.declared.moves.Move.TheVariants as moves
-use Rattle.board_core.specs.Kind.{other}
-use Rattle.board_core.specs.Board.{Board, hand_of, with_hand}
+use Rattle.board_core.specs.Board.{Board}
 use Rattle.shogi_rules.specs.declared.illegal.Illegal.{Illegal}
 use Rattle.shogi_rules.specs.Rules.{RefusesBoard, RefusesDrop, IsLegal, IsInCheck, IsQuiet, after_board, after_drop}
 use Rattle.shogi_rules.proofs.Moves.{other_twice}
@@ -27,8 +24,3 @@ quiet_board b from to promote h = λ k. h (rw (other_twice b.side) at k)
 
 pub quiet_drop : (b : Board) (kind : Kind) (to : ℕ) → ¬ IsInCheck (after_drop b kind to).cells b.side → IsQuiet (after_drop b kind to)
 quiet_drop b k to h = λ k. h (rw (other_twice b.side) at k)
-
--- the other side's hand stays
-pub other_hand : (b : Board) (s : Side) (hand : List ℕ) → hand_of (with_hand b s hand) (other s) ≡ hand_of b (other s)
-other_hand b Black hand = refl
-other_hand b White hand = refl

@@ -1,7 +1,6 @@
 // Attack and check.
-ghost use Rattle.std.specs.Prelude.{◌≡◌, ◌<◌, ◌↔◌, IsTrue, true};
-ghost use Rattle.board_core.specs.Kind.{other};
-ghost use Rattle.board_core.specs.Board.{piece_at, kings_of};
+ghost use Rattle.std.specs.Prelude.{◌<◌, ◌↔◌, IsTrue};
+ghost use Rattle.board_core.specs.Board.{kings_of};
 ghost use Rattle.shogi_rules.specs.Rules.{AttacksFrom, Attacks, IsInCheck};
 
 use crate::movement::{Cells, at, reaches};

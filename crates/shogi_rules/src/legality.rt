@@ -1,10 +1,9 @@
 // Which moves are legal, and why the others aren't.
-ghost use Rattle.std.specs.Prelude.{◌≡◌, ◌≢◌, ◌<◌, ◌↔◌, IsTrue, OnOk, true};
-ghost use Rattle.board_core.specs.declared.piece.Kind.TheVariants.{Pawn, King};
-ghost use Rattle.board_core.specs.Kind.{other};
+ghost use Rattle.std.specs.Prelude.{◌≡◌, ◌≢◌, ◌<◌, ◌↔◌, IsTrue, OnOk};
+ghost use Rattle.board_core.specs.declared.piece.Kind.TheVariants.{King};
 ghost use Rattle.board_core.specs.Board.{piece_at, held, hand_of, is_pawn_of};
-ghost use Rattle.board_core.specs.Order.{order_of};
-ghost use Rattle.shogi_rules.specs.Rules.{is_in_zone, promotion_fits, IsOwn, Fits, PromotionFits, HasPawnOnFile, BoardMove, IsPawnMate, IsFirst, RefusesBoard, RefusesDrop, IsAnswered, IsLegal, IsQuiet, after};
+ghost use Rattle.board_core.specs.Text.{HasText};
+ghost use Rattle.shogi_rules.specs.Rules.{is_in_zone, promotion_fits, IsOwn, Fits, PromotionFits, HasPawnOnFile, BoardMove, IsFirst, RefusesBoard, RefusesDrop, IsAnswered, IsQuiet};
 ghost use Rattle.shogi_rules.specs.declared.illegal.Illegal.TheVariants.{TwoPawns};
 ghost use Rattle.shogi_rules.specs.Scan.{GoesTo, GoesFrom, IsStuck};
 
@@ -61,7 +60,8 @@ fn may_promote(position: &Position, from: Square, to: Square, promote: bool) -> 
 
 fn legal_board(position: &Position, from: Square, to: Square, promote: bool) -> Result<(), Illegal>
     requires quiet { IsQuiet position.now }
-    ensures { IsFirst (RefusesBoard position.now from.number to.number promote) result }
+    ensures first { IsFirst (RefusesBoard position.now from.number to.number promote) result }
+    ensures moves { OnOk result (from.number ≢ to.number) }
 {
     if !owns(position, from) {
         return Err(Illegal::NotThere);
@@ -180,7 +180,7 @@ fn is_stuck(position: &Position, kind: Kind) -> bool
 fn legal_drop(position: &Position, kind: Kind, to: Square) -> Result<(), Illegal>
     requires { IsQuiet position.now }
     ensures first { IsFirst (RefusesDrop position.now kind to.number) result }
-    ensures listed { OnOk result (kind ≢ King) }
+    ensures king { OnOk result (kind ≢ King) }
 {
     if let Some(_) = position.piece_at(to) {
         return Err(Illegal::Occupied);
@@ -212,8 +212,8 @@ pub fn legal(position: &Position, by: Move) -> Result<(), Illegal>
     requires { IsQuiet position.now }
     ensures answer { IsAnswered position.now by result }
 
-    // Each legal move is one of the list of all moves: 81 x 81 x 2 on the board, and 7 x 81 drops.
-    ensures listed { OnOk result (order_of by < 13689) }
+    // A legal move goes to another square, and drops no king.
+    ensures has_text { OnOk result (HasText by) }
 {
     match by {
         Move::Board { from, to, promote } => legal_board(position, from, to, promote),

@@ -1,7 +1,7 @@
 // How pieces move.
-ghost use Rattle.std.specs.Prelude.{◌≡◌, ◌<◌, ◌≤◌, ◌+◌, ◌*◌, ◌↔◌, ℕ, None, IsTrue};
+ghost use Rattle.std.specs.Prelude.{◌≡◌, ◌<◌, ◌≤◌, ◌+◌, ◌*◌, ◌↔◌, IsTrue};
 ghost use Rattle.board_core.specs.Board.{piece_at};
-ghost use Rattle.shogi_rules.specs.Rules.{distance, height, gold_steps, steps, slides, fits, IsClear, Reaches};
+ghost use Rattle.shogi_rules.specs.Rules.{height, gold_steps, steps, slides, fits, IsClear, Reaches};
 ghost use Rattle.shogi_rules.specs.Scan.{IsEmptyAlong};
 
 use board_core::{Kind, Piece, Side};

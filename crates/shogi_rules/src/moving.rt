@@ -5,7 +5,7 @@ ghost use Rattle.board_core.specs.declared.piece.Kind.{Kind};
 ghost use Rattle.board_core.specs.declared.piece.Side.{Side};
 ghost use Rattle.board_core.specs.declared.piece.Kind.TheVariants.{King};
 ghost use Rattle.board_core.specs.Kind.{total_of, other};
-ghost use Rattle.board_core.specs.Order.{order_of};
+ghost use Rattle.board_core.specs.Text.{HasText};
 ghost use Rattle.board_core.specs.Board.{hand_of, with_hand, is_of_kind, count_of, kings_of, one_if};
 ghost use Rattle.shogi_rules.specs.Rules.{landed, dropped, gained, after_board, after_drop, IsQuiet, IsOwn, Fits, IsClear, PromotionFits, RefusesDrop, IsLegal, IsDropped, after};
 ghost use Rattle.board_core.specs.declared.square.Square.{Square};
@@ -57,6 +57,7 @@ pub(crate) fn move_piece(position: &Position, from: Square, to: Square, promote:
     ensures position { result ≡ after_board position.now from.number to.number promote }
     ensures conserved { (kind : Kind) → count_of result kind ≡ count_of position.now kind }
     ensures kings { (side : Side) → kings_of result side ≡ kings_of position.now side }
+    ensures moves { from.number ≢ to.number }
 {
     match at(position.cells(), from.number) {
         Some(piece) => {
@@ -104,8 +105,8 @@ pub fn apply(position: &Position, by: Move) -> Position
     ensures turn { result.side ≡ other position.now.side }
     ensures quiet { IsQuiet result }
 
-    // A legal move is one of the list of all moves: 81 x 81 x 2 on the board, and 7 x 81 drops.
-    ensures listed { order_of by < 13689 }
+    // A legal move goes to another square, and drops no king.
+    ensures has_text { HasText by }
 
     // No piece is lost or made: of each kind there are as many as before, on the board and in the hands.
     ensures conserved { (kind : Kind) → count_of result kind ≡ count_of position.now kind }

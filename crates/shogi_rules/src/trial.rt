@@ -1,9 +1,9 @@
 //! The plain lists of moves: every move is tried by the rules. Slow and simple, they stay as the yardstick that faster
 //! lists are compared with.
-ghost use Rattle.std.specs.Prelude.{◌≡◌, ◌<◌, ◌+◌, ◌*◌, ◌↔◌, IsTrue, IfOk, OnOk, false};
+ghost use Rattle.std.specs.Prelude.{◌≡◌, ◌<◌, ◌+◌, ◌*◌, ◌↔◌, IsTrue, IfOk, OnOk};
 ghost use Rattle.board_core.specs.Kind.{place_of};
 ghost use Rattle.board_core.specs.Order.{order_of, Lists};
-ghost use Rattle.shogi_rules.specs.Rules.{IsOwn, IsQuiet};
+ghost use Rattle.shogi_rules.specs.Rules.{IsQuiet};
 ghost use Rattle.shogi_rules.specs.Tsume.{IsCheck, IsAnswer};
 ghost use Rattle.shogi_rules.specs.Trial.{IsWanted, ListsBelow};
 
@@ -11,7 +11,7 @@ use crate::checking::in_check;
 use crate::legality::{has_in_hand, legal, owns};
 use crate::moving::apply;
 use crate::problem::Problem;
-use board_core::{Kind, Move, NoMemory, Position, Side, Square};
+use board_core::{Kind, Move, NoMemory, Position, Side, Square, order_laws};
 use std::alloc::Global;
 
 /// What a list is to hold.
@@ -93,6 +93,8 @@ fn add_from(
     requires before { ListsBelow (IsWanted wanted attacker position.now) (162 * from.number) moves.old.items }
     ensures { OnOk result (ListsBelow (IsWanted wanted attacker position.now) (162 * from.number + 162) moves.new.items) }
 {
+    // No two moves have one place in the order.
+    order_laws();
     if !owns(position, from) {
         return Ok(());
     }
@@ -117,6 +119,8 @@ fn add_drops(
     requires before { ListsBelow (IsWanted wanted attacker position.now) (13122 + 81 * place_of kind) moves.old.items }
     ensures { OnOk result (ListsBelow (IsWanted wanted attacker position.now) (13122 + 81 * place_of kind + 81) moves.new.items) }
 {
+    // No two moves have one place in the order.
+    order_laws();
     if !has_in_hand(position, kind) {
         return Ok(());
     }

@@ -9,7 +9,7 @@ use Rattle.tsume_io.specs.Faults.{Rose}
 use Rattle.tsume_io.specs.Source.{TookAll}
 use Rattle.sfen_text.specs.declared.fault.TextFault.{TextFault}
 use Rattle.sfen_text.specs.declared.fault.TextFault.TheVariants.{BadRow, BadPiece, BadSide, BadHand, HandTwice, Trailing, BadPosition, DefenderInCheck}
-use Rattle.sfen_text.specs.Reading.{reading, IsAnswer}
+use Rattle.sfen_text.specs.Reading.{reading, IsReadingAnswer}
 use Rattle.tsume_app.specs.declared.answer.Answer.{Answer}
 use Rattle.tsume_app.specs.declared.fault.Fault.{Fault}
 use Rattle.tsume_app.specs.declared.fault.Fault.TheVariants.{Words, TooLong, Text, Cert, Read, Write, NoMemory}
@@ -29,7 +29,7 @@ pub record ReadAs (rest : Bool) (text : Result Board TextFault) (p : Board) : Ty
   pub problem : p ≡ given rest read
   pub quiet : ¬ IsInCheck p.cells (other p.side)
 
-read_as : (rest : Bool) (text read : Result Board TextFault) (p : Board) → IsAnswer text read → Continues rest read (Ok p) → ReadAs rest text p
+read_as : (rest : Bool) (text read : Result Board TextFault) (p : Board) → IsReadingAnswer text read → Continues rest read (Ok p) → ReadAs rest text p
 read_as rest text (Err fault) p answer continues = absurd (cc)
 read_as rest (Err e) (Ok b) p answer continues = absurd (cc)
 read_as rest (Ok g) (Ok b) p answer continues =
@@ -43,7 +43,7 @@ read_as rest (Ok g) (Ok b) p answer continues =
     }
 
 not_also : (rest : Bool) (g p : Board) (read : Result Board TextFault) (f : TextFault) → ((fault : Bad) → HasFault g fault → ⊥) → p ≡ given rest g
-    → ¬ IsInCheck p.cells (other p.side) → IsAnswer (Ok g) read → Continues rest read (Err f) → ⊥
+    → ¬ IsInCheck p.cells (other p.side) → IsReadingAnswer (Ok g) read → Continues rest read (Err f) → ⊥
 not_also rest g p (Ok b) f sound is quiet answer continues =
     quiet (subst (λ (q : Board). IsInCheck q.cells (other q.side)) (sym is)
     (subst (λ (q : Board). IsInCheck (given rest q).cells (other (given rest q).side)) answer.0 continues.1))
@@ -60,7 +60,7 @@ not_also rest g p (Err DefenderInCheck) f sound is quiet answer continues = answ
 pub problem_has_no_fault : (rest : Bool) (input : List ℕ) (p : Board) (f : TextFault) → StandsFor rest input (Ok p) → StandsFor rest input (Err f) → ⊥
 problem_has_no_fault rest input p f s t =
     let r = read_as rest (reading input) s.read p s.is_read s.continues in
-    not_also rest r.read p t.read f r.sound r.problem r.quiet (subst (λ (g : Result Board TextFault). IsAnswer g t.read) r.is t.is_read) t.continues
+    not_also rest r.read p t.read f r.sound r.problem r.quiet (subst (λ (g : Result Board TextFault). IsReadingAnswer g t.read) r.is t.is_read) t.continues
 
 -- what was taken is what was left
 took_it : (left left_after : Option (List ℕ)) (input told : List ℕ) → left ≡ Some told → TookAll left left_after input → input ≡ told

@@ -1,2 +1,3 @@
 pub mod Running
 pub mod Complete
+pub mod Counted

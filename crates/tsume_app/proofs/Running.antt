@@ -5,7 +5,7 @@ use Rattle.board_core.specs.Kind.{other}
 use Rattle.board_core.specs.Board.{Board, kings_of}
 use Rattle.tsume_io.specs.Source.{Took, TookAll, TookAtMost}
 use Rattle.sfen_text.specs.declared.fault.TextFault.{TextFault}
-use Rattle.sfen_text.specs.Reading.{IsAnswer}
+use Rattle.sfen_text.specs.Reading.{IsReadingAnswer}
 use Rattle.tsume_words.specs.Given.{Wish}
 use Rattle.tsume_words.specs.Given.Wish.{to_solve, to_check}
 use Rattle.tsume_app.specs.declared.answer.Answer.{Answer}
@@ -20,7 +20,7 @@ some_king : (n : ℕ) → (n ≡ 0 → ⊥) → 0 < n
 some_king n h = omega arith
 
 -- the side not to move of a position that was read has a king
-pub read_has_king : (read : Result Board TextFault) (p : Board) → IsAnswer read (Ok p) → 0 < kings_of p (other p.side)
+pub read_has_king : (read : Result Board TextFault) (p : Board) → IsReadingAnswer read (Ok p) → 0 < kings_of p (other p.side)
 read_has_king (Err fault) p h = absurd (cc)
 read_has_king (Ok b) p h =
     subst (λ (q : Board). 0 < kings_of q (other q.side)) (sym h.0) (some_king (kings_of b (other b.side)) (h.1 NoDefenderKing))

@@ -7,7 +7,7 @@ use Rattle.shogi_rules.specs.Rules.{IsInCheck}
 use Rattle.shogi_rules.specs.Tsume.{IsProblem}
 use Rattle.sfen_text.specs.declared.fault.TextFault.{TextFault}
 use Rattle.sfen_text.specs.declared.fault.TextFault.TheVariants.{DefenderInCheck}
-use Rattle.sfen_text.specs.Reading.{reading, IsAnswer}
+use Rattle.sfen_text.specs.Reading.{reading, IsReadingAnswer}
 
 -- A position that was read, with the rest of the pieces in the defender's hand where that is asked for.
 abbrev pub given : Bool → Board → Board
@@ -27,5 +27,5 @@ Continues rest (Err fault) answer = answer ≡ Err fault
 -- What an SFEN input stands for: a problem, or its first fault, one of the text before one of the problem.
 pub record StandsFor (rest : Bool) (input : List ℕ) (answer : Result Board TextFault) : Type 0 where
   pub read : Result Board TextFault
-  pub is_read : IsAnswer (reading input) read
+  pub is_read : IsReadingAnswer (reading input) read
   pub continues : Continues rest read answer

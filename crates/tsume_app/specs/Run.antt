@@ -114,7 +114,7 @@ pub record Outside : Type 0 where
   pub sink_faults : ℕ
   pub sink_faults_after : ℕ
 
--- Nothing was written, nor tried to be.
+-- Nothing was written, and no write failed.
 pub record IsSilent (o : Outside) : Type 0 where
   pub kept : o.kept_after ≡ o.kept
   pub faults : o.sink_faults_after ≡ o.sink_faults
@@ -142,7 +142,7 @@ IsEnded wish o answer (Some Write) = IsSomeAnd answer (λ a. IsCutShort wish o a
 IsEnded wish o answer (Some (Words fault)) = ⊥
 IsEnded wish o answer (Some fault) = (answer ≡ None) × IsSilent o × Decided wish o (Err fault)
 
--- Nothing was read, nor tried to be.
+-- Nothing was read, and no read failed.
 pub record IsUnread (o : Outside) : Type 0 where
   pub left : o.left_after ≡ o.left
   pub faults : o.source_faults_after ≡ o.source_faults
@@ -183,6 +183,18 @@ IsReadFault limit left left_after faults faults_after Read = Rose faults faults_
 IsReadFault limit left left_after faults faults_after NoMemory = TookAtMost limit left left_after
 IsReadFault limit left left_after faults faults_after fault = ⊥
 
+-- The outside's counts of faults tell how a run ended: unless reading failed the source's is as it was, and unless writing did
+-- the sink's.
+abbrev pub IsCounted : Outside → Option Fault → Type 0
+IsCounted o (Some Read) = o.sink_faults_after ≡ o.sink_faults
+IsCounted o (Some Write) = o.source_faults_after ≡ o.source_faults
+IsCounted o fault = (o.source_faults_after ≡ o.source_faults) × (o.sink_faults_after ≡ o.sink_faults)
+
+-- A count of faults is as it was, unless reading failed.
+abbrev pub IsReadCounted : ℕ → ℕ → Fault → Type 0
+IsReadCounted faults faults_after Read = Unit {0}
+IsReadCounted faults faults_after fault = faults_after ≡ faults
+
 -- What a certificate is answered with: an answer that is true of it.
 abbrev pub IsCertificateAnswered : Certificate → Result Answer Fault → Type 0
 IsCertificateAnswered c (Ok answer) = IsTrueOfCertificate c answer
@@ -192,7 +204,8 @@ IsCertificateAnswered c (Err fault) = ⊥
 -- What writing an answer came to: its text written whole; or a part of it, where the sink failed and the answer stands; or
 -- nothing, for want of memory.
 abbrev pub HasWritten : Option (List ℕ) → Option (List ℕ) → ℕ → ℕ → Answer → Option Answer → Option Fault → Type 0
-HasWritten kept kept_after faults faults_after answer ended None = (ended ≡ Some answer) × GrewBy kept kept_after (answer_text answer)
+HasWritten kept kept_after faults faults_after answer ended None =
+    (ended ≡ Some answer) × GrewBy kept kept_after (answer_text answer) × (faults_after ≡ faults)
 HasWritten kept kept_after faults faults_after answer ended (Some Write) =
     (ended ≡ Some answer) × GrewByPrefix kept kept_after (answer_text answer) × Rose faults faults_after
 HasWritten kept kept_after faults faults_after answer ended (Some NoMemory) = (ended ≡ None) × (kept_after ≡ kept) × (faults_after ≡ faults)

@@ -1,12 +1,12 @@
 // The run of the program.
-ghost use Rattle.std.specs.Prelude.{◌≡◌, ◌≤◌, ◌⊎◌, IfOk, IfErr, Some, None, length};
+ghost use Rattle.std.specs.Prelude.{◌≡◌, ◌≤◌, ◌⊎◌, IfOk, IfErr, MatchResult, Some, None, length};
 ghost use Rattle.tsume_io.specs.Faults.{Rose};
 ghost use Rattle.tsume_io.specs.Source.{TookAll};
 ghost use Rattle.tsume_words.specs.Given.{Wish};
 ghost use Rattle.tsume_words.specs.Meaning.{FailsFirst, command_of, texts_of, wish_of};
 ghost use Rattle.tsume_words.specs.declared.faults.WordFault.{WordFault};
 ghost use Rattle.tsume_app.specs.Answer.{HasLine};
-ghost use Rattle.tsume_app.specs.Run.{limit_of, status_of, answer_status, fault_status, IsReadFault, IsInputAnswered, IsDecided, HasWritten, IsEnded, AreWordsRefused, IsWellPosed};
+ghost use Rattle.tsume_app.specs.Run.{limit_of, status_of, answer_status, fault_status, IsReadFault, IsReadCounted, IsInputAnswered, IsDecided, HasWritten, IsEnded, IsCounted, AreWordsRefused, IsWellPosed};
 
 use crate::answer::Answer;
 use crate::fault::Fault;
@@ -21,6 +21,7 @@ fn read_input<S: Source>(alloc: Global, source: &mut S, limit: usize) -> Result<
     ensures took { IfOk result (λ input. TookAll (S.left source.old) (S.left source.new) input.items) }
     ensures short { IfOk result (λ input. length input.items ≤ limit) }
     ensures refused { IfErr result (λ fault. IsReadFault limit (S.left source.old) (S.left source.new) (S.faults source.old) (S.faults source.new) fault) }
+    ensures counted { MatchResult result (λ input. S.faults source.new ≡ S.faults source.old) (IsReadCounted (S.faults source.old) (S.faults source.new)) }
 {
     match read_all(alloc, source, limit) {
         Ok(input) => Ok(input),
@@ -64,6 +65,7 @@ fn decide<S: Source, G: Gate>(
 ) -> Result<Answer, Fault>
     ensures decided { IsDecided (wish_of command.now) (S.left source.old) (S.left source.new) (S.faults source.old) (S.faults source.new) result }
     ensures line { IfOk result HasLine }
+    ensures counted { MatchResult result (λ answer. S.faults source.new ≡ S.faults source.old) (IsReadCounted (S.faults source.old) (S.faults source.new)) }
 {
     let input = read_input(alloc, source, limit_of(command))?;
     answer_input(alloc, command, &input, gate)
@@ -152,6 +154,16 @@ fn answer<S: Source, K: Sink, G: Gate>(
       sink_faults_after = K.faults sink.new;
     }) result.answer result.fault }
     ensures status { result.status ≡ status_of result.answer result.fault }
+    ensures counted { IsCounted (record {
+      left = S.left source.old;
+      left_after = S.left source.new;
+      kept = K.kept sink.old;
+      kept_after = K.kept sink.new;
+      source_faults = S.faults source.old;
+      source_faults_after = S.faults source.new;
+      sink_faults = K.faults sink.old;
+      sink_faults_after = K.faults sink.new;
+    }) result.fault }
 {
     match decide(alloc, command, source, gate) {
         Ok(answer) => write_answer(alloc, sink, answer),
@@ -192,6 +204,18 @@ pub fn run<S: Source, K: Sink, G: Gate>(
       sink_faults_after = K.faults sink.new;
     }) result.answer result.fault }
     ensures status { result.status ≡ status_of result.answer result.fault }
+
+    // The source's count of faults rises only where the run ends for it, and the sink's likewise.
+    ensures counted { IsCounted (record {
+      left = S.left source.old;
+      left_after = S.left source.new;
+      kept = K.kept sink.old;
+      kept_after = K.kept sink.new;
+      source_faults = S.faults source.old;
+      source_faults_after = S.faults source.new;
+      sink_faults = K.faults sink.old;
+      sink_faults_after = K.faults sink.new;
+    }) result.fault }
 
     // Words that ask for nothing are refused before anything is read, with the cause.
     ensures words { command_of (texts_of words.items) ≡ None → AreWordsRefused (texts_of words.items) (record {

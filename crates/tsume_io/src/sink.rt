@@ -15,11 +15,12 @@ pub trait Sink {
 
     /// Keeps the first bytes of `piece` and answers how many: at least one, unless `piece` is empty.
     /// `Failed` comes only where the count of faults rose in this call, and then no byte was kept. The
-    /// count never falls.
+    /// count never falls, and rises only so.
     fn write(&mut self, piece: &[u8]) -> Result<usize, Failed>
         ensures count { IfOk result (λ n. IsWriteOf n piece.now) }
         ensures grew { IfOk result (λ n. GrewBy (kept self.old) (kept self.new) (take n piece.now)) }
         ensures failed { OnErr result (Rose (faults self.old) (faults self.new)) }
+        ensures counted { OnOk result (faults self.new ≡ faults self.old) }
         ensures unchanged { OnErr result (kept self.new ≡ kept self.old) }
         ensures never_falls { faults self.old ≤ faults self.new };
 }
@@ -39,8 +40,9 @@ impl From<Failed> for WriteFault {
 pub fn write_all<K: Sink>(sink: &mut K, bytes: &[u8]) -> Result<(), WriteFault>
     ensures whole { OnOk result (GrewBy (K.kept sink.old) (K.kept sink.new) bytes.now) }
 
-    // A fault is answered only where one was counted in this call.
+    // A fault is answered only where one was counted in this call, and none is counted otherwise.
     ensures fault { OnErr result (Rose (K.faults sink.old) (K.faults sink.new)) }
+    ensures counted { OnOk result (K.faults sink.new ≡ K.faults sink.old) }
     ensures prefix { OnErr result (GrewByPrefix (K.kept sink.old) (K.kept sink.new) bytes.now) }
     ensures never_falls { K.faults sink.old ≤ K.faults sink.new }
 {

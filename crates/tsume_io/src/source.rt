@@ -1,5 +1,5 @@
 // Where bytes come from, and a read of all of them.
-ghost use Rattle.std.specs.Prelude.{◌≡◌, ℕ, ◌<◌, ◌≤◌, List, Option, length, take, IfOk, OnErr, IsErrOf, vec_len};
+ghost use Rattle.std.specs.Prelude.{◌≡◌, ℕ, ◌<◌, ◌≤◌, List, Option, length, take, IfOk, OnOk, OnErr, IsErrOf, vec_len};
 ghost use Rattle.tsume_io.specs.Faults.{Rose};
 ghost use Rattle.tsume_io.specs.Source.{Took, TookAll, TookAtMost, TookOneMoreThan, HasMoreThan, IsAtEnd};
 ghost use Rattle.tsume_io.specs.declared.source.ReadEnd.TheVariants.{Fault as FaultEnd, NoMemory as NoMemoryEnd};
@@ -17,12 +17,13 @@ pub trait Source {
 
     /// Moves bytes to the front of `into` and answers how many: 0 only at the end, or where `into` is
     /// empty. What stands in `into` behind them isn't said. `Failed` comes only where the count of
-    /// faults rose in this call, and then no byte was moved. The count never falls.
+    /// faults rose in this call, and then no byte was moved. The count never falls, and rises only so.
     fn read(&mut self, into: &mut [u8]) -> Result<usize, Failed>
         ensures within { IfOk result (λ n. n ≤ length into.new) }
         ensures took { IfOk result (λ n. Took (left self.old) (left self.new) (take n into.new)) }
         ensures end { IfOk result (λ n. n ≡ 0 → 0 < length into.new → IsAtEnd (left self.new)) }
         ensures failed { OnErr result (Rose (faults self.old) (faults self.new)) }
+        ensures counted { OnOk result (faults self.new ≡ faults self.old) }
         ensures unchanged { OnErr result (left self.new ≡ left self.old) }
         ensures never_falls { faults self.old ≤ faults self.new };
 }
@@ -66,8 +67,11 @@ pub fn read_all<S: Source>(alloc: Global, source: &mut S, limit: usize) -> Resul
         (λ bytes. TookAll (S.left source.old) (S.left source.new) bytes.items) }
     ensures within { IfOk result (λ bytes. length bytes.items ≤ limit) }
 
-    // A fault is answered only where one was counted in this call.
+    // A fault is answered only where one was counted in this call, and none is counted otherwise.
     ensures fault { IsErrOf result ReadEnd.Fault → Rose (S.faults source.old) (S.faults source.new) }
+    ensures counted { OnOk result (S.faults source.new ≡ S.faults source.old) }
+    ensures too_long_counted { IsErrOf result ReadEnd.TooLong → S.faults source.new ≡ S.faults source.old }
+    ensures no_memory_counted { IsErrOf result ReadEnd.NoMemory → S.faults source.new ≡ S.faults source.old }
     ensures fault_within { IsErrOf result ReadEnd.Fault
         → TookAtMost limit (S.left source.old) (S.left source.new) }
     ensures never_falls { S.faults source.old ≤ S.faults source.new }

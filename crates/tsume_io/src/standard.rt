@@ -1,6 +1,6 @@
 // std's readers and writers as a source and a sink: the edge that is trusted, since nothing is told of
 // a real file's bytes.
-ghost use Rattle.std.specs.Prelude.{◌≡◌, ◌≤◌, None, length, IfOk, OnErr};
+ghost use Rattle.std.specs.Prelude.{◌≡◌, ◌≤◌, None, length, IfOk, OnOk, OnErr};
 ghost use Rattle.std.specs.Io.KnownBytes.{ReadConsumes, WriteAppends};
 ghost use Rattle.tsume_io.specs.Faults.{Rose};
 
@@ -46,6 +46,7 @@ impl<R: io::Read + Drop> Source for StdSource<R> {
         // As each source that doesn't tell its bytes.
         ensures within { IfOk result (λ n. n ≤ length into.new) }
         ensures failed { OnErr result (Rose (source_faults self.old) (source_faults self.new)) }
+        ensures counted { OnOk result (source_faults self.new ≡ source_faults self.old) }
         ensures never_falls { source_faults self.old ≤ source_faults self.new }
 
         // What std tells of the reader's bytes holds here too.
@@ -102,6 +103,7 @@ impl<W: io::Write + Drop> Sink for StdSink<W> {
         // As each sink that doesn't tell its bytes.
         ensures count { IfOk result (λ n. IsWriteOf n piece.now) }
         ensures failed { OnErr result (Rose (sink_faults self.old) (sink_faults self.new)) }
+        ensures counted { OnOk result (sink_faults self.new ≡ sink_faults self.old) }
         ensures never_falls { sink_faults self.old ≤ sink_faults self.new }
 
         // What std tells of the writer's bytes holds here too.

@@ -1,5 +1,5 @@
 -- What the words of the command line mean: what clap gives for them, where it passes the three tests after it.
-use Rattle.std.specs.Prelude.{◌≡◌, ◌<◌, Result, Ok, Err, String, map, string_bytes, ◌&&◌, Bool, List, Option, Some, None, option_and_then}
+use Rattle.std.specs.Prelude.{◌≡◌, ◌<◌, ℕ, Result, Ok, Err, String, map, string_bytes, ◌&&◌, Bool, List, Option, Some, None, option_and_then}
 use Rattle.std.specs.Prelude.{if◌then◌else◌, nat_le, IsSomeAnd, ⊤}
 use Rattle.std.specs.Int.{IsPowerOfTwo, is_power_of_two}
 use Rattle.clap.specs.Words.{Text}
@@ -41,6 +41,11 @@ numbers_in s = record {
 abbrev pub wish_of : Command → Wish
 wish_of (Solve settings rest) = to_solve (numbers_in settings) rest
 wish_of (Check workers) = to_check workers
+
+-- By how many workers a command is to be done.
+abbrev pub workers_of : Command → ℕ
+workers_of (Solve settings rest) = settings.workers
+workers_of (Check workers) = workers
 
 -- The numbers fail this test and pass those before it: the rows are a power of two, then the shards, and then there are
 -- no more shards than rows.

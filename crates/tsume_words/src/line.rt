@@ -114,6 +114,10 @@ fn check_command<'a>(alloc: Global) -> Result<Command<'a>, AllocError>
             "Reads what `solve` printed, or a certificate alone, from standard input and prints whether it proves its \
              verdict",
         )
+        .after_help(
+            "Today's check runs on one thread: --workers is checked and not used yet.\n\nExample:\n  tsume solve < \
+             problem.sfen | tsume check",
+        )
         .arg(workers)
 }
 

@@ -7,7 +7,8 @@ ghost use Rattle.tsume_words.specs.Given.{HasFlag, HasNumber, IsForCommand, IsFo
 ghost use Rattle.tsume_words.specs.Given.{all_words, is_flagged, number_of, numbers_of, wish_named};
 ghost use Rattle.tsume_words.specs.Given.Wish.{to_solve};
 ghost use Rattle.tsume_words.specs.Meaning.{Answers, FailsFirst, IsClapsOrMemory, Refuses, command_of};
-ghost use Rattle.tsume_words.specs.Meaning.{texts_of, wish_of};
+ghost use Rattle.tsume_words.specs.Meaning.{texts_of, wish_of, workers_of};
+ghost use Rattle.tsume_words.specs.Sizes.{IsFromTo};
 ghost use Rattle.tsume_words.specs.declared.faults.WordFault.{WordFault};
 
 use crate::line::command_line;
@@ -23,6 +24,9 @@ use std::alloc::{AllocError, Global};
 /// takes for one of its type, `+5` and `05` too. Want of memory is `NoMemory`.
 pub fn read_words(alloc: Global, words: Vec<String>) -> Result<Command, WordsEnd>
     ensures command { IfOk result (λ command. command_of (texts_of words.items) ≡ Some (wish_of command)) }
+
+    // By 1 to 64 workers, to check as to solve.
+    ensures workers { IfOk result (λ command. IsFromTo 1 64 (workers_of command)) }
 
     // Clap's fault comes only where clap refuses the words, each other only where its test is the first to fail.
     ensures refused { IfErr result (Refuses (texts_of words.items)) }
@@ -70,8 +74,9 @@ fn refusal(alloc: Global, error: &clap::Error) -> WordsEnd
 // The command that clap found, tested.
 fn asked(matches: &ArgMatches<'_>) -> Result<Command, WordsEnd>
     requires { IsSomeAnd (subcommand_rows_of matches.now) IsForCommand }
-    ensures { IsSomeAnd (option_and_then wish_named (subcommand_rows_of matches.now))
+    ensures answer { IsSomeAnd (option_and_then wish_named (subcommand_rows_of matches.now))
         (λ wish. Answers wish result) }
+    ensures workers { IfOk result (λ command. IsFromTo 1 64 (workers_of command)) }
 {
     match matches.subcommand_matches("solve") {
         Some(given) => solve(given),
@@ -91,7 +96,8 @@ fn number(given: &ArgMatches<'_>, name: &str) -> u64
 
 fn workers(given: &ArgMatches<'_>) -> u32
     requires { HasNumber (codes "workers") 1 64 (rows_of (found_of given.now)) }
-    ensures { result ≡ number_of (codes "workers") (rows_of (found_of given.now)) }
+    ensures number { result ≡ number_of (codes "workers") (rows_of (found_of given.now)) }
+    ensures range { IsFromTo 1 64 result }
 {
     number(given, "workers") as u32
 }
@@ -122,8 +128,9 @@ fn is_power_of_two(number: u64) -> bool
 // What clap gives for `solve`, tested.
 fn solve(given: &ArgMatches<'_>) -> Result<Command, WordsEnd>
     requires { IsForSolve (rows_of (found_of given.now)) }
-    ensures { let found = rows_of (found_of given.now) in
+    ensures answer { let found = rows_of (found_of given.now) in
         Answers (to_solve (numbers_of found) (is_flagged (codes "rest") found)) result }
+    ensures workers { IfOk result (λ command. IsFromTo 1 64 (workers_of command)) }
 {
     let workers = workers(given);
     let expansions = number(given, "expansions");

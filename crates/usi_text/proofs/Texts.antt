@@ -8,7 +8,8 @@ use Rattle.board_core.specs.declared.piece.Kind.TheVariants.{Pawn, Lance, Knight
 use Rattle.board_core.specs.declared.moves.Move.{Move}
 use Rattle.board_core.specs.declared.moves.Move.TheVariants as moves
 use Rattle.board_core.specs.Square.{file_of, rank_of}
-use Rattle.usi_text.specs.MoveText.{square_text, kind_letter, promotion_text, move_text, HasText, IsRead}
+use Rattle.board_core.specs.Text.{kind_letter, HasText}
+use Rattle.usi_text.specs.MoveText.{square_text, promotion_text, move_text, IsRead}
 
 square_same : (a b : Square) → a.number ≡ b.number → a ≡ b
 square_same a b h = λ i. record { number = h i; on_board = is_prop→PathP (λ j. h j < 81) (λ j. le_prop) a.on_board b.on_board i }

@@ -2,7 +2,8 @@
 use Rattle.std.specs.Prelude.{ℕ, List, ◌∷◌, ◌++◌, codes}
 use Rattle.std.specs.List.{AllByRecursion, flat_map}
 use Rattle.board_core.specs.declared.moves.Move.{Move}
-use Rattle.usi_text.specs.MoveText.{move_text, HasText}
+use Rattle.board_core.specs.Text.{HasText}
+use Rattle.usi_text.specs.MoveText.{move_text}
 
 -- A space and the move.
 abbrev pub spaced : Move → List ℕ

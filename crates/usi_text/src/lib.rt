@@ -5,11 +5,13 @@
 //! answers to a question for a mate, without a line feed. Nothing here knows which moves are legal.
 #![tactic(auto)]
 
+mod laws;
 mod lines;
 mod read;
 mod write;
 
 pub use board_core::NoMemory;
+pub use laws::move_laws;
 pub use lines::{mate_line, nomate_line, timeout_line};
 pub use read::read_move;
 pub use write::{MoveText, write_move};

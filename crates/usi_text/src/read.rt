@@ -4,7 +4,8 @@ ghost use Rattle.board_core.specs.declared.moves.Move.{Move};
 ghost use Rattle.board_core.specs.declared.square.Square.{Square};
 ghost use Rattle.board_core.specs.declared.piece.Kind.{Kind};
 ghost use Rattle.board_core.specs.declared.piece.Kind.TheVariants.{King};
-ghost use Rattle.usi_text.specs.MoveText.{square_text, kind_letter, promotion_text, move_text, HasText, IsRead};
+ghost use Rattle.board_core.specs.Text.{kind_letter, HasText};
+ghost use Rattle.usi_text.specs.MoveText.{square_text, promotion_text, move_text, IsRead};
 
 use board_core::{Kind, Move, Square};
 

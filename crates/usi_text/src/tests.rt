@@ -1,4 +1,4 @@
-ghost use Rattle.usi_text.specs.MoveText.{HasText};
+ghost use Rattle.board_core.specs.Text.{HasText};
 
 use crate::{mate_line, nomate_line, read_move, timeout_line, write_move};
 use board_core::{Kind, Move, Square};

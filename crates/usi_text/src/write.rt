@@ -2,9 +2,9 @@
 ghost use Rattle.std.specs.Prelude.{◌≡◌, ◌≢◌, ◌≤◌, ◌+◌, List, ℕ, [], ◌∷◌, length};
 ghost use Rattle.board_core.specs.Square.{file_of, rank_of};
 ghost use Rattle.board_core.specs.declared.moves.Move.{Move};
-ghost use Rattle.usi_text.specs.MoveText.{kind_letter, move_text};
+ghost use Rattle.usi_text.specs.MoveText.{move_text};
 
-use board_core::{Kind, Move, Square};
+use board_core::{Move, Square};
 use std::fmt::{self, Write};
 use std::marker::Model;
 
@@ -57,21 +57,6 @@ impl fmt::Display for MoveText {
     }
 }
 
-fn letter(kind: Kind) -> u8
-    ensures { result ≡ kind_letter kind }
-{
-    match kind {
-        Kind::Pawn => b'P',
-        Kind::Lance => b'L',
-        Kind::Knight => b'N',
-        Kind::Silver => b'S',
-        Kind::Gold => b'G',
-        Kind::Bishop => b'B',
-        Kind::Rook => b'R',
-        Kind::King => b'K',
-    }
-}
-
 fn file_digit(square: Square) -> u8
     ensures { result ≡ 48 + file_of square.number }
 {
@@ -99,7 +84,7 @@ fn text_of(m: Move) -> MoveText
             long: promote,
         },
         Move::Drop { kind, to } => MoveText {
-            bytes: [letter(kind), b'*', file_digit(to), rank_letter(to), 0],
+            bytes: [kind.letter(), b'*', file_digit(to), rank_letter(to), 0],
             long: false,
         },
     }

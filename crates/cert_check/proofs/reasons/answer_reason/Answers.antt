@@ -10,6 +10,6 @@ returns-then-entries-place c =
 pub returns-else-entries-place : goal.returns-else-entries-place
 returns-else-entries-place c = (
   refl,
-  found_not_lower c.args.entries.now c.in-Some.place c.args.rank c.args.next.now c.index-entries-place.result c.requires.rising
+  found_not_lower c.args.entries.now c.in-Some.place c.args.rank c.args.next.now c.index-entries-place.result c.requires.apart
       (c.in-Some.ensures _ c.requires.places) c.index-entries-place.is c.if-entries-place.false,
 )

@@ -14,7 +14,7 @@ is_answered-requires-clause-check c =
 
 pub returns-then-not-branch : goal.returns-then-not-branch
 returns-then-not-branch c = λ positions places.
-    first_unanswered positions c.args.problem.now.position.side c.args.position.now c.deref-check-items.result.now c.loop-check.check-index
+    first_unanswered c.order_laws.ensures.places positions c.args.problem.now.position.side c.args.position.now c.deref-check-items.result.now c.loop-check.check-index
     c.check-item.result
     (subst (Lists (IsCheck c.args.problem.now.position.side c.args.position.now)) (sym c.deref-check-items.ensures.value) c.in_ok-checks.ensures)
     (omega arith) c.check-item.is

@@ -18,7 +18,7 @@ apply-next-requires-clause-legal c =
 
 pub returns-in-Some : goal.returns-in-Some
 returns-in-Some c =
-    first_against c.args.entries.now c.args.problem.now.position.side c.args.entry.now c.apply-checked.result c.apply-next.result
+    first_against c.order_laws.ensures.places c.args.entries.now c.args.problem.now.position.side c.args.entry.now c.apply-checked.result c.apply-next.result
     c.deref-answer-items.result.now c.loop-answer.answer-index c.answer-item.result c.in-Some.why
     c.apply-checked.ensures.position c.apply-next.ensures.position (subst (λ (s : Side). IsCheck s c.args.entry.now.at c.args.entry.now.by) c.attacker.ensures (c.is_check.ensures.0 c.if-not-is_check.false))
     (subst (Lists (IsAnswer c.args.problem.now.position.side c.apply-checked.result)) (sym c.deref-answer-items.ensures.value) c.in_ok-answers.ensures)

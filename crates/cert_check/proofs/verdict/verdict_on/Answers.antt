@@ -16,5 +16,5 @@ returns-in-Some-clause-verdict c =
 
 pub returns-clause-verdict : goal.returns-clause-verdict
 returns-clause-verdict c =
-    accepted c.args.certificate.now c.args.problem.now.position c.loop-place.place (c.lists_root.ensures.yes c.if-not-lists_root.false)
-    (omega arith) c.loop-place.invariant
+    accepted c.args.certificate.now c.args.problem.now.position c.loop-place.place c.in_ok-places.ensures.kept
+    (c.lists_root.ensures.yes c.if-not-lists_root.false) (omega arith) c.loop-place.invariant

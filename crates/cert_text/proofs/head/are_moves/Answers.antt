@@ -2,7 +2,7 @@ use Rattle.std.proofs.Common.{◌≡◌, ◌++◌, ◌∷◌, [], sym, ◌∙◌
 use Rattle.std.proofs.Common.{arith}
 use Rattle.std.specs.Option.{is_some}
 use Rattle.std.proofs.lemmas.Bool.{false≢true, not-true, not-false}
-use Rattle.usi_text.specs.MoveText.{HasText}
+use Rattle.board_core.specs.Text.{HasText}
 use Rattle.cert_text.proofs.Cuts.{all_push}
 use Rattle.cert_text.proofs.Heads.{moves_cut, moves_last, no_move_read, some_read, read_some, no_space, moves_push, moves_end}
 use Rattle.cert_text.proofs.head.are_moves.Goals as goal

@@ -1,7 +1,7 @@
 use Rattle.std.proofs.Common.{◌≡◌, subst, sym, ◌∙◌, inl, inr}
 use Rattle.std.proofs.lemmas.Bool.{true≢false}
 use Rattle.cert_text.specs.declared.head.Claim.{Claim}
-use Rattle.cert_text.specs.Reading.{IsFront}
+use Rattle.cert_text.specs.Reading.{IsFrontLine}
 use Rattle.cert_text.proofs.Cuts.{if_none}
 use Rattle.cert_text.proofs.Heads.{no_line, head_cut, front_apart, one_front, one_bare, fronted_head}
 use Rattle.cert_text.proofs.head.head_of.Goals as goal
@@ -37,6 +37,6 @@ returns-then-not-is_same-clause-none c = λ claim count sfen rest h.
 pub returns-clause-found : goal.returns-clause-found
 returns-clause-found c =
     let same : c.in-Some-bare_head_of.head.claim ≡ c.in-Some-front_of.claim = c.is_same.ensures.0 c.if-not-is_same.false in
-    let front = subst (λ (claim : Claim). IsFront claim c.in-Some.first.now) (sym same) c.in-Some-front_of.ensures.found in
+    let front = subst (λ (claim : Claim). IsFrontLine claim c.in-Some.first.now) (sym same) c.in-Some-front_of.ensures.found in
     fronted_head c.in-Some-bare_head_of.head.claim c.in-Some-bare_head_of.head.count c.in-Some-bare_head_of.head.sfen.now c.in-Some-bare_head_of.head.rest.now
     c.args.text.now c.in-Some.first.now c.in-Some.more.now c.in-Some.ensures.parts front c.in-Some-bare_head_of.ensures.count c.in-Some-bare_head_of.ensures.sfen c.in-Some-bare_head_of.ensures.text

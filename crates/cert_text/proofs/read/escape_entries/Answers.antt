@@ -12,7 +12,7 @@ use Rattle.cert_text.proofs.read.escape_entries.Goals as goal
 pub loop-line-init : goal.loop-line-init
 loop-line-init c =
     subst (λ (entries : List Board). HasRead (escape_form c.args.problem.now.position) c.args.text.now entries c.args.text.now []) (sym c.new-entries.ensures.items)
-    (read_none (escape_form c.args.problem.now.position) c.args.text.now)
+    (read_none (escape_form c.args.problem.now.position) c.args.text.now c.sfen_laws.ensures.bytes)
 
 pub returns-in-Ok-None : goal.returns-in-Ok-None
 returns-in-Ok-None c =

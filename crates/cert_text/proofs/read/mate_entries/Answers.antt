@@ -12,7 +12,7 @@ use Rattle.cert_text.proofs.read.mate_entries.Goals as goal
 pub loop-line-init : goal.loop-line-init
 loop-line-init c =
     subst (λ (entries : List MateEntry). HasRead (mate_form c.args.problem.now.position) c.args.text.now entries c.args.text.now []) (sym c.new-entries.ensures.items)
-    (read_none (mate_form c.args.problem.now.position) c.args.text.now)
+    (read_none (mate_form c.args.problem.now.position) c.args.text.now c.sfen_laws.ensures.bytes)
 
 pub returns-in-Ok-None : goal.returns-in-Ok-None
 returns-in-Ok-None c =

@@ -1,7 +1,7 @@
 use Rattle.std.proofs.Common.{◌<◌, ◌∙◌, arith, ap, sym, subst, refl, List, Contains, get_or, length}
 use Rattle.board_core.specs.Board.{Board}
 use Rattle.board_core.specs.Kept.{IsKept}
-use Rattle.plain_search.specs.Graph.{AreApart}
+use Rattle.cert_text.specs.Certificate.{AreApart}
 use Rattle.plain_search.specs.Entries.{IsTextOrder}
 use Rattle.plain_search.proofs.Picked.{pick_more, all_picked, all_positions, within, as_many, of_entries, mating, valid_mate, plain_mate}
 use Rattle.plain_search.proofs.certificate.mate_certificate.Goals as goal

@@ -2,7 +2,7 @@ use Rattle.std.proofs.Common.{◌<◌, ◌≤◌, ℕ, List, arith, ap, sym, ref
 use Rattle.std.proofs.lemmas.Option.{slice_get_read}
 use Rattle.board_core.specs.Board.{Board}
 use Rattle.plain_search.specs.Graph.{steps_at}
-use Rattle.plain_search.proofs.Agendas.{item_of}
+use Rattle.plain_search.proofs.Lists.{item_of}
 use Rattle.plain_search.proofs.Escapes.{AreHeld, IsNextFree, next_free, not_beaten, led_more, held_more, escape_held, escape_plain}
 use Rattle.plain_search.proofs.escape.escape_entries.Goals as goal
 use Rattle.plain_search.proofs.escape.escape_entries.Goals.{After-len-in-loop-agenda}
@@ -44,6 +44,7 @@ loop-check-preserved c =
     record {
       kept = c.in_ok-add-2.ensures.kept;
       led = led_more c.args.problem.now.position c.args.graph.now c.args.ranks.now c.requires.graph c.requires.all c.requires.lost c.requires.won c.type_inv.ranks
+          c.order_laws.ensures.places
           c.loop-agenda.agenda.places.items c.loop-check.agenda.places.items c.add-in-loop-check.new.self.places.items
           c.steps-check-items.result.now c.loop-check.check-index place c.way_out.result c.check-item.result c.loop-check.invariant.led
           is_item found.known found.free is_check c.way_out.ensures.known c.way_out.ensures.unranked c.way_out.ensures.first c.in_ok-add-2.ensures.there
@@ -74,8 +75,9 @@ returns c =
     record {
       entries = escape_held c.args.problem.now.position c.args.graph.now c.args.ranks.now c.requires.graph c.requires.all c.requires.lost
           c.requires.won c.type_inv.ranks c.loop-agenda.agenda.listed.items c.loop-agenda.agenda.places.items
-          c.loop-agenda.positions.items c.loop-agenda.invariant.kept c.loop-agenda.invariant.held whole;
+          c.loop-agenda.positions.items c.loop-agenda.invariant.kept c.loop-agenda.invariant.held whole c.order_laws.ensures.places;
       plain = escape_plain c.args.problem.now.position c.args.graph.now c.args.ranks.now c.requires.graph c.requires.all c.requires.lost
           c.requires.won c.type_inv.ranks c.loop-agenda.agenda.listed.items c.loop-agenda.agenda.places.items
-          c.loop-agenda.positions.items c.loop-agenda.invariant.kept c.loop-agenda.invariant.held whole;
+          c.loop-agenda.positions.items c.loop-agenda.invariant.kept c.loop-agenda.invariant.held whole
+          c.order_laws.ensures.places c.order_laws.ensures.apart;
     }

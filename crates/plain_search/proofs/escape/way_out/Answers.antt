@@ -1,10 +1,11 @@
 use Rattle.std.proofs.Common.{◌≡◌, inl, inr, List, true, arith, refl, sym, subst, length}
 use Rattle.std.specs.Prelude.{Some, slice_get}
+use Rattle.std.proofs.lemmas.Bool.{cases_lt}
 use Rattle.std.proofs.lemmas.Option.{slice_get_read}
 use Rattle.plain_search.specs.declared.graph.Step.{Step}
 use Rattle.plain_search.specs.Graph.{steps_at}
 use Rattle.plain_search.specs.Ranks.{IsRanked}
-use Rattle.plain_search.proofs.Agendas.{below_or_not, more, of_all}
+use Rattle.plain_search.proofs.Lists.{more, of_all}
 use Rattle.plain_search.proofs.escape.way_out.Goals as goal
 use Rattle.plain_search.proofs.escape.way_out.Goals.{else-step-ranks-via-then-step-ranks+else-ranks-step-eq0, else-step-ranks-via-else-step-ranks}
 
@@ -24,8 +25,9 @@ returns-then-ranks-step-eq0-clause-first c =
 
 pub loop-step-preserved : goal.loop-step-preserved
 loop-step-preserved c =
-    more (λ (step : Step). IsRanked true c.args.ranks.now 4294967296 step.to) c.steps-step-items.result.now c.loop-step.step-index
-    c.step-item.result (omega arith) c.step-item.is
+    let items = c.steps-step-items.result.now in
+    more (λ (step : Step). IsRanked true c.args.ranks.now 4294967296 step.to) items c.loop-step.step-index c.step-item.result
+    (slice_get_read items (length items) c.loop-step.step-index c.step-item.result refl (omega arith) c.step-item.is)
     (elim c.else-step-ranks.branch [
       | else-step-ranks-via-then-step-ranks+else-ranks-step-eq0 w ↦
           let fits = c.type_inv.ranks c.step-item.result.to in
@@ -36,7 +38,7 @@ loop-step-preserved c =
     c.loop-step.invariant
 
 pub unreachable-requires : goal.unreachable-requires
-unreachable-requires c = elim (below_or_not c.args.place (length c.args.ranks.now)) [
+unreachable-requires c = elim (cases_lt c.args.place (length c.args.ranks.now)) [
   | inl known ↦ c.requires.free (inl (
     known,
     of_all (λ (step : Step). IsRanked true c.args.ranks.now 4294967296 step.to) c.steps-step-items.result.now

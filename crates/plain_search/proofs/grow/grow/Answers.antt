@@ -1,13 +1,13 @@
 use Rattle.std.proofs.Common.{◌≡◌, ℕ, subst, arith}
 use Rattle.std.specs.Prelude.{Some, slice_get}
 use Rattle.plain_search.specs.Graph.{positions_of}
-use Rattle.plain_search.proofs.Queues.{contains_at}
+use Rattle.plain_search.proofs.Lists.{contained}
 use Rattle.plain_search.proofs.Growth.{graph_more, graph_longer}
 use Rattle.plain_search.proofs.grow.grow.Goals as goal
 
 pub steps_from-requires-clause-in_play : goal.steps_from-requires-clause-in_play
 steps_from-requires-clause-in_play c =
-    c.requires.graph.kept.in_play c.position.result.now (contains_at (positions_of c.args.graph.now) c.units.result c.position.result.now c.position.ensures)
+    c.requires.graph.kept.in_play c.position.result.now (contained (positions_of c.args.graph.now) c.units.result c.position.result.now c.position.ensures)
 
 pub returns-clause-graph : goal.returns-clause-graph
 returns-clause-graph c =

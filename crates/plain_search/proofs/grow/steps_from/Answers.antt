@@ -37,7 +37,7 @@ loop-by-preserved c =
     (subst (λ (x : Board). IsWith c.loop-by.queue.positions.items x c.place_of.new.self.positions.items) c.apply-next.ensures.position
     (c.in_ok-to.ensures.longer p before.kept))
     (c.in_ok-to.ensures.there p before.kept ∙ ap (λ (x : Board). Some x) c.apply-next.ensures.position)
-    c.apply-next.ensures.listed in
+    c.apply-next.ensures.has_text in
     subst (λ (ms : List Move). AreFirstSteps p c.args.queue.now.positions.items b ms c.place_of.new.self c.push.new.self.items) (sym moves)
     (subst (λ (ss : List Step). AreFirstSteps p c.args.queue.now.positions.items b (take c.loop-by.by-index c.deref-by-items.result.now ++ move ∷ []) c.place_of.new.self ss)
     (sym c.in_ok-push.ensures.items) more)

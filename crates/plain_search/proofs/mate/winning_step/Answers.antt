@@ -3,7 +3,7 @@ use Rattle.std.specs.Prelude.{slice_index}
 use Rattle.plain_search.specs.declared.graph.Step.{Step}
 use Rattle.plain_search.specs.Graph.{steps_at}
 use Rattle.plain_search.specs.Ranks.{IsBeaten}
-use Rattle.plain_search.proofs.Agendas.{item_of, more, of_all}
+use Rattle.plain_search.proofs.Lists.{item_of, more, of_all}
 use Rattle.std.proofs.lemmas.Option.{slice_get_read}
 use Rattle.plain_search.proofs.Reached.{first_of}
 use Rattle.plain_search.proofs.mate.winning_step.Goals as goal
@@ -16,8 +16,9 @@ returns-then-is_beaten-clause-step c =
 pub loop-step-preserved : goal.loop-step-preserved
 loop-step-preserved c =
     let rank = slice_index c.args.ranks.now c.args.place in
-    more (λ (step : Step). IsBeaten false c.args.graph.now c.args.ranks.now rank step.to → ⊥) c.steps-step-items.result.now
-    c.loop-step.step-index c.step-item.result (omega arith) c.step-item.is
+    let items = c.steps-step-items.result.now in
+    more (λ (step : Step). IsBeaten false c.args.graph.now c.args.ranks.now rank step.to → ⊥) items c.loop-step.step-index c.step-item.result
+    (slice_get_read items (length items) c.loop-step.step-index c.step-item.result refl (omega arith) c.step-item.is)
     (λ beaten. let yes = c.is_beaten.ensures.1 beaten in cc)
     c.loop-step.invariant
 
@@ -33,7 +34,7 @@ pub returns-then-is_beaten-clause-first : goal.returns-then-is_beaten-clause-fir
 returns-then-is_beaten-clause-first c =
     let rank = slice_index c.args.ranks.now c.args.place in
     let items = c.steps-step-items.result.now in
-    first_of (λ (step : Step). IsBeaten false c.args.graph.now c.args.ranks.now rank step.to) items
+    first_of c.order_laws.ensures.places (λ (step : Step). IsBeaten false c.args.graph.now c.args.ranks.now rank step.to) items
     (steps_at c.args.graph.now c.args.place) c.loop-step.step-index c.step-item.result c.steps-step-items.ensures c.requires.rises
     (slice_get_read items (length items) c.loop-step.step-index c.step-item.result refl c.loop-step-test.true c.step-item.is)
     c.loop-step.invariant

@@ -30,7 +30,7 @@ loop-answer-preserved c =
           c.answer-item.result c.rank_after-rank.result c.loop-answer-test.true c.answer-item.is has (omega arith) c.loop-answer.invariant)
       | else-rank-highest w ↦
           judged_as c.args.certificate.now c.args.checked.now c.deref-answer-items.result.now _ _ _ _ _ w.longest-is w.highest-is
-          (no_higher c.args.certificate.now c.args.checked.now c.args.problem.now.position.side c.deref-answer-items.result.now c.loop-answer.answer-index c.loop-answer.longest c.loop-answer.highest
+          (no_higher c.order_laws.ensures.places c.args.certificate.now c.args.checked.now c.args.problem.now.position.side c.deref-answer-items.result.now c.loop-answer.answer-index c.loop-answer.longest c.loop-answer.highest
           c.answer-item.result c.rank_after-rank.result lists c.loop-answer-test.true c.answer-item.is has (omega arith) c.loop-answer.invariant)
     ]
 

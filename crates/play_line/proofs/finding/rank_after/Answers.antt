@@ -10,4 +10,4 @@ pub returns-clause-least : goal.returns-clause-least
 returns-clause-least c = rank_least c.args.certificate.now c.entries.ensures.kept _ _ (returns-clause-rank c)
 
 pub returns-clause-only : goal.returns-clause-only
-returns-clause-only c rank at = rank_only c.args.certificate.now c.entries.ensures.kept _ _ rank (returns-clause-rank c) at
+returns-clause-only c rank at = rank_only c.args.certificate.now c.entries.ensures.apart _ _ rank (returns-clause-rank c) at

@@ -2,7 +2,7 @@ use Rattle.std.proofs.Common.{arith, subst}
 use Rattle.std.specs.Prelude.{Option}
 use Rattle.board_core.specs.declared.moves.Move.{Move}
 use Rattle.play_line.specs.Line.{IsDefence}
-use Rattle.play_line.proofs.Following.{legal_has_text, texts_more, begins, entry_in, ends, goes_on, is_quiet, is_legal, answers_listed, longest_listed, rank_falls}
+use Rattle.play_line.proofs.Following.{texts_more, begins, entry_in, ends, goes_on, is_quiet, is_legal, answers_listed, longest_listed, rank_falls}
 use Rattle.play_line.proofs.line.main_line.Goals as goal
 
 pub loop-moves-init : goal.loop-moves-init
@@ -46,10 +46,8 @@ returns-in-None-clause-line c =
 
 pub returns-in-None-clause-texts : goal.returns-in-None-clause-texts
 returns-in-None-clause-texts c =
-    let listed = entry_in c.args.certificate.now c.entries-entries.result.now c.loop-moves.place c.index-entries-place.result c.entries-entries.ensures.entries
-    c.loop-moves.invariant.within c.index-entries-place.is in
     texts_more c.loop-moves.moves.items c.push.new.self.items c.index-entries-place.result.by c.in_ok-push.ensures.items c.loop-moves.invariant.texts
-    (c.entries-entries.ensures.kept.texts c.index-entries-place.result listed)
+    c.apply-checked.ensures.has_text
 
 pub apply-requires-clause-legal : goal.apply-requires-clause-legal
 apply-requires-clause-legal c =
@@ -65,16 +63,13 @@ pub loop-moves-smaller : goal.loop-moves-smaller
 loop-moves-smaller c =
     let best = subst (λ (o : Option Move). IsDefence c.args.certificate.now c.args.problem.now.position.side c.apply-checked.result o) c.in-Some.is c.in_ok-defence.ensures in
     rank_falls c.args.certificate.now c.args.problem.now.position c.apply-checked.result c.apply.result c.entries-entries.result.now c.loop-moves.place
-    c.place_of-place-in-Some.result c.index-entries-place.result c.in-Some.answer c.entries-entries.ensures.kept c.requires c.entries-entries.ensures.entries
+    c.place_of-place-in-Some.result c.index-entries-place.result c.in-Some.answer c.entries-entries.ensures.apart c.requires c.entries-entries.ensures.entries
     c.loop-moves.invariant.within c.index-entries-place.is c.apply-checked.ensures.position c.apply.ensures.position best.is_answer c.place_of-place-in-Some.ensures
 
 pub loop-moves-preserved : goal.loop-moves-preserved
 loop-moves-preserved c =
     let best = subst (λ (o : Option Move). IsDefence c.args.certificate.now c.args.problem.now.position.side c.apply-checked.result o) c.in-Some.is c.in_ok-defence.ensures in
-    let listed = entry_in c.args.certificate.now c.entries-entries.result.now c.loop-moves.place c.index-entries-place.result c.entries-entries.ensures.entries
-    c.loop-moves.invariant.within c.index-entries-place.is in
     goes_on c.args.certificate.now c.args.problem.now.position c.apply-checked.result c.apply.result c.entries-entries.result.now c.loop-moves.place
     c.place_of-place-in-Some.result c.loop-moves.moves.items c.push.new.self.items c.push-in-Some.new.self.items c.index-entries-place.result c.in-Some.answer
     c.entries-entries.ensures.entries c.index-entries-place.is c.apply-checked.ensures.position c.apply.ensures.position best c.place_of-place-in-Some.ensures
-    c.in_ok-push.ensures.items c.in_ok-push-in-Some.ensures.items (c.entries-entries.ensures.kept.texts c.index-entries-place.result listed)
-    (legal_has_text c.apply-checked.result c.in-Some.answer best.is_answer.legal c.apply.ensures.listed) c.loop-moves.invariant
+    c.in_ok-push.ensures.items c.in_ok-push-in-Some.ensures.items c.apply-checked.ensures.has_text c.apply.ensures.has_text c.loop-moves.invariant

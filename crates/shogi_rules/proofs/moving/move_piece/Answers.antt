@@ -1,7 +1,7 @@
-use Rattle.std.proofs.Common.{◌≡◌, ◌+◌, ◌∙◌, ℕ, Some, IsTrue, sym, refl, subst}
+use Rattle.std.proofs.Common.{◌≡◌, ◌+◌, ◌∙◌, Some, IsTrue, sym, refl}
 use Rattle.board_core.specs.Board.{piece_at, is_of_kind, is_king_of, count_of, kings_of, one_if}
-use Rattle.shogi_rules.specs.Rules.{fits, IsOwn}
-use Rattle.shogi_rules.proofs.Moves.{king_gone, pawn_alone, no_king_taken, taken_left, moved_is, conserves, no_king_there, kings_stay}
+use Rattle.shogi_rules.specs.Rules.{fits}
+use Rattle.shogi_rules.proofs.Moves.{king_gone, pawn_alone, goes_elsewhere, no_king_taken, taken_left, moved_is, conserves, no_king_there, kings_stay}
 use Rattle.shogi_rules.proofs.moving.move_piece.Goals as goal
 
 pub put-requires-clause-king : goal.put-requires-clause-king
@@ -27,9 +27,12 @@ capture-requires c = λ taken is.
     c.requires.quiet c.args.from.on_board c.args.to.on_board there owner c.requires.free fit c.requires.clear at in (
       king,
       taken_left c.args.position.now c.take.new.self c.take-in-Some.new.self c.put.new.self c.args.from.number c.args.to.number c.args.promote c.in-Some.piece taken
-          c.cells.ensures.kept (λ same. c.requires.free (subst (λ (s : ℕ). IsOwn c.args.position.now s) same c.requires.own)) king there at
+          c.cells.ensures.kept (goes_elsewhere c.args.position.now c.args.from.number c.args.to.number c.requires.own c.requires.free) king there at
           c.take.ensures.changes c.take-in-Some.ensures.changes (rw c.landed.ensures at c.put.ensures.changes),
     )
+
+pub returns-clause-moves : goal.returns-clause-moves
+returns-clause-moves c = goes_elsewhere c.args.position.now c.args.from.number c.args.to.number c.requires.own c.requires.free
 
 pub returns-clause-position : goal.returns-clause-position
 returns-clause-position c =
@@ -45,7 +48,7 @@ returns-clause-conserved c = λ kind.
     let last : count_of c.pass.new.self kind ≡ count_of c.put.new.self kind + one_if (is_of_kind kind (piece_at c.args.position.now.cells c.args.to.number)) =
     rw c.pass.ensures caught in
     conserves c.args.position.now c.take.new.self c.take-in-Some.new.self c.put.new.self c.pass.new.self c.args.from.number c.args.to.number c.args.promote c.in-Some.piece kind
-    (λ same. c.requires.free (subst (λ (s : ℕ). IsOwn c.args.position.now s) same c.requires.own)) there
+    (goes_elsewhere c.args.position.now c.args.from.number c.args.to.number c.requires.own c.requires.free) there
     c.take.ensures.changes c.take-in-Some.ensures.changes (rw c.landed.ensures at c.put.ensures.changes) last
 
 pub returns-clause-kings : goal.returns-clause-kings
@@ -59,5 +62,5 @@ returns-clause-kings c = λ side.
     c.requires.quiet c.args.from.on_board c.args.to.on_board there owner c.requires.free fit c.requires.clear is) in
     let last : kings_of c.pass.new.self side ≡ kings_of c.put.new.self side = rw (c.pass.ensures, c.capture.ensures.position) refl in
     kings_stay c.args.position.now c.take.new.self c.take-in-Some.new.self c.put.new.self c.pass.new.self c.args.from.number c.args.to.number c.args.promote c.in-Some.piece side
-    (λ same. c.requires.free (subst (λ (s : ℕ). IsOwn c.args.position.now s) same c.requires.own)) there free
+    (goes_elsewhere c.args.position.now c.args.from.number c.args.to.number c.requires.own c.requires.free) there free
     c.take.ensures.changes c.take-in-Some.ensures.changes (rw c.landed.ensures at c.put.ensures.changes) last

@@ -12,12 +12,12 @@ pub returns-then-not-has_in_hand : goal.returns-then-not-has_in_hand
 returns-then-not-has_in_hand c =
     let none : held (hand_of c.args.position.now c.args.position.now.side) c.args.kind ≡ 0 = none_held _ (λ some. let t = c.has_in_hand.ensures.some.1 some in cc) in
     lists_past _ (13122 + 81 * place_of c.args.kind) 81 _ c.requires.before
-    (wanted_drop c.args.wanted c.args.attacker c.args.position.now c.args.kind none)
+    (wanted_drop c.order_laws.ensures.apart c.args.wanted c.args.attacker c.args.position.now c.args.kind none)
 
 pub loop-number-preserved : goal.loop-number-preserved
 loop-number-preserved c = at_place _ (13122 + 81 * place_of c.args.kind + c.loop-number.number + 1) _ _ (omega arith) (elim c.if-is_wanted.branch [
   | then-is_wanted+in_ok-push w ↦ rw (w.moves-is, w.in_ok-push.ensures.items)
-      (lists_more _ _ _ _ c.loop-number.invariant refl (c.is_wanted.ensures.0 w.if-is_wanted.true))
+      (lists_more c.order_laws.ensures.apart _ _ _ _ c.loop-number.invariant refl (c.is_wanted.ensures.0 w.if-is_wanted.true))
   | else-is_wanted w ↦ rw w.moves-is
-      (lists_same _ _ _ _ c.loop-number.invariant refl (λ h. let t = c.is_wanted.ensures.1 h in cc))
+      (lists_same c.order_laws.ensures.apart _ _ _ _ c.loop-number.invariant refl (λ h. let t = c.is_wanted.ensures.1 h in cc))
 ])

@@ -10,7 +10,7 @@ returns-then-not-owns c = lists_past _ (162 * c.args.from.number) 162 _ c.requir
 pub loop-code-preserved : goal.loop-code-preserved
 loop-code-preserved c = at_place _ (162 * c.args.from.number + c.loop-code.code + 1) _ _ (omega arith) (elim c.if-is_wanted.branch [
   | then-is_wanted+in_ok-push w ↦ rw (w.moves-is, w.in_ok-push.ensures.items)
-      (lists_more _ _ _ _ c.loop-code.invariant c.board_move-by.ensures (c.is_wanted.ensures.0 w.if-is_wanted.true))
+      (lists_more c.order_laws.ensures.apart _ _ _ _ c.loop-code.invariant c.board_move-by.ensures (c.is_wanted.ensures.0 w.if-is_wanted.true))
   | else-is_wanted w ↦ rw w.moves-is
-      (lists_same _ _ _ _ c.loop-code.invariant c.board_move-by.ensures (λ h. let t = c.is_wanted.ensures.1 h in cc))
+      (lists_same c.order_laws.ensures.apart _ _ _ _ c.loop-code.invariant c.board_move-by.ensures (λ h. let t = c.is_wanted.ensures.1 h in cc))
 ])

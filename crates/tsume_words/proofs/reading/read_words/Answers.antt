@@ -23,8 +23,8 @@ returns-in-Ok c =
     let texts : map (λ s. s.now) c.as_slice.result.now ≡ all_words words = ap (map (λ s. s.now)) c.as_slice.ensures.value ∙ c.in_ok-texts.ensures in
     let taken : IsTaken words = sym (ap₂ fault_of app texts) ∙ c.in-Ok.ensures.kinds (ap is_simple_and_free app ∙ is_simple_line) in
     let rows = (c.in-Ok.ensures.matches (ap is_simple app ∙ is_simple_alone)).1 ∙ ap₂ subcommand_of app texts in
-    let promises = promised_by_answer words c.asked.result (given_where_taken words _ c.asked.result taken rows c.asked.ensures) in
-    record { command = promises.command; refused = promises.refused; stopped = promises.stopped; complete = promises.complete }
+    let promises = promised_by_answer words c.asked.result (given_where_taken words _ c.asked.result taken rows c.asked.ensures.answer) in
+    record { command = promises.command; workers = c.asked.ensures.workers; refused = promises.refused; stopped = promises.stopped; complete = promises.complete }
 
 pub returns : goal.returns
 returns c =
@@ -37,4 +37,4 @@ returns c =
       | inr among ↦ inr (λ taken. fault_there _ _ among (ap₂ fault_of app texts ∙ taken))
     ] in
     let promises = promised_by_clap words c.refusal.result c.refusal.ensures.text why in
-    record { command = promises.command; refused = promises.refused; stopped = promises.stopped; complete = promises.complete }
+    record { command = promises.command; workers = tt; refused = promises.refused; stopped = promises.stopped; complete = promises.complete }

@@ -10,3 +10,6 @@ pub overflow_cast-result : goal.overflow_cast-result
 overflow_cast-result c =
     let w = within_is (codes "workers") 1 64 c.number.result (rows_of (found_of c.args.given.now)) c.number.ensures c.requires in
     omega (arith, w.1)
+
+pub returns-clause-range : goal.returns-clause-range
+returns-clause-range c = within_is (codes "workers") 1 64 c.number.result (rows_of (found_of c.args.given.now)) c.number.ensures c.requires

@@ -1,7 +1,8 @@
 use Rattle.std.proofs.Common.{◌≡◌, ◌++◌, ◌∷◌, [], List, ℕ, length, subst, sym, arith}
 use Rattle.std.specs.Prelude.{Some, slice_get}
 use Rattle.board_core.specs.Board.{Board}
-use Rattle.plain_search.proofs.Queues.{get_last, kept_more}
+use Rattle.plain_search.proofs.Lists.{get_last}
+use Rattle.plain_search.proofs.Queues.{kept_more}
 use Rattle.plain_search.proofs.graph.Queue.place_of.Goals as goal
 
 pub returns-clause-kept : goal.returns-clause-kept

@@ -1,0 +1,22 @@
+-- What the texts of positions and of moves share (SFEN, the USI protocol).
+use Rattle.std.specs.Prelude.{◌≢◌, ℕ}
+use Rattle.board_core.specs.declared.piece.Kind.{Kind}
+use Rattle.board_core.specs.declared.piece.Kind.TheVariants.{Pawn, Lance, Knight, Silver, Gold, Bishop, Rook, King}
+use Rattle.board_core.specs.declared.moves.Move.{Move}
+use Rattle.board_core.specs.declared.moves.Move.TheVariants as moves
+
+-- The capital letter of a kind: P L N S G B R K.
+abbrev pub kind_letter : Kind → ℕ
+kind_letter Pawn = 80
+kind_letter Lance = 76
+kind_letter Knight = 78
+kind_letter Silver = 83
+kind_letter Gold = 71
+kind_letter Bishop = 66
+kind_letter Rook = 82
+kind_letter King = 75
+
+-- The move has a text in the USI protocol: it is no board move to where it began, and no drop of a king.
+abbrev pub HasText : Move → Type 0
+HasText (moves.Board from to promote) = from.number ≢ to.number
+HasText (moves.Drop kind to) = kind ≢ King

@@ -1,0 +1,12 @@
+use Rattle.sfen_text.proofs.TextAgain.{texts_apart}
+use Rattle.sfen_text.proofs.TextLaws.{text_long, text_on_line}
+use Rattle.sfen_text.proofs.laws.sfen_laws.Goals as goal
+
+pub returns-clause-apart : goal.returns-clause-apart
+returns-clause-apart c = texts_apart
+
+pub returns-clause-bytes : goal.returns-clause-bytes
+returns-clause-bytes c = text_long
+
+pub returns-clause-lines : goal.returns-clause-lines
+returns-clause-lines c = text_on_line

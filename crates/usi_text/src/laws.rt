@@ -1,0 +1,8 @@
+// What is true of the texts of all moves.
+ghost use Rattle.usi_text.specs.MoveText.{TextsApart};
+
+/// A law: no two moves have one text (USI protocol: moves). Does nothing; whoever reads texts that hold moves calls it to
+/// know this. Takes no memory.
+pub fn move_laws()
+    ensures { TextsApart }
+{}
