@@ -32,7 +32,8 @@ pub record IsClosed (attacker : Side) (s t : List Board) : Type 0 where
       → (answer : Move) × IsAnswer attacker (after b check) answer
       × (Contains s (after_both b check answer) ⊎ Contains t (after_both b check answer))
 
--- From the position the defender escapes, or gets into the positions of t: it is one of some closed positions, but for those of t.
+-- The position is one of some closed positions, but for those of t: from it the defender escapes, or gets to one of t by checks and
+-- answers.
 abbrev pub EscapesInto : Side → Board → List Board → Type 0
 EscapesInto attacker b t = (s : List Board) × Contains s b × IsClosed attacker s t
 

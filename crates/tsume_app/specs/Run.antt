@@ -114,7 +114,7 @@ pub record Outside : Type 0 where
   pub sink_faults : ℕ
   pub sink_faults_after : ℕ
 
--- Nothing was written, and no write failed.
+-- Nothing was written to a sink that tells what it keeps, and no write failed.
 pub record IsSilent (o : Outside) : Type 0 where
   pub kept : o.kept_after ≡ o.kept
   pub faults : o.sink_faults_after ≡ o.sink_faults
@@ -142,7 +142,7 @@ IsEnded wish o answer (Some Write) = IsSomeAnd answer (λ a. IsCutShort wish o a
 IsEnded wish o answer (Some (Words fault)) = ⊥
 IsEnded wish o answer (Some fault) = (answer ≡ None) × IsSilent o × Decided wish o (Err fault)
 
--- Nothing was read, and no read failed.
+-- Nothing was read of a source that tells its bytes, and no read failed.
 pub record IsUnread (o : Outside) : Type 0 where
   pub left : o.left_after ≡ o.left
   pub faults : o.source_faults_after ≡ o.source_faults
@@ -183,7 +183,7 @@ IsReadFault limit left left_after faults faults_after Read = Rose faults faults_
 IsReadFault limit left left_after faults faults_after NoMemory = TookAtMost limit left left_after
 IsReadFault limit left left_after faults faults_after fault = ⊥
 
--- The outside's counts of faults tell how a run ended: unless reading failed the source's is as it was, and unless writing did
+-- What the outside's counts of faults tell of an ending: unless reading failed the source's is as it was, and unless writing did
 -- the sink's.
 abbrev pub IsCounted : Outside → Option Fault → Type 0
 IsCounted o (Some Read) = o.sink_faults_after ≡ o.sink_faults

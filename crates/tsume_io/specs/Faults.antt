@@ -1,10 +1,10 @@
--- A count of faults, which stops at its last value, 2 ^ 64 - 1.
+-- A count of faults. It is of 64 bits and stops at its last value, 2 ^ 64 - 1, where no rise can be told.
 use Rattle.std.specs.Prelude.{ℕ, ◌+◌, ◌-◌, ◌^◌, ◌<◌, min}
 
--- The count rose, or it stands at its last value.
+-- The count rose; nothing is said where it stood at its last value before, or above.
 abbrev pub Rose : ℕ → ℕ → Type 0
 Rose before after = before < 2 ^ 64 - 1 → before < after
 
--- one more, up to the last value
+-- One more, up to the last value.
 abbrev pub one_more : ℕ → ℕ
 one_more count = min (count + 1) (2 ^ 64 - 1)

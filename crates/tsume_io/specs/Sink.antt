@@ -1,7 +1,8 @@
--- What a write does to the bytes that a sink has kept. They are `None` where the sink doesn't tell them.
+-- What a write does to the bytes that a sink has kept. They are `None` where the sink doesn't tell them; of these nothing is said,
+-- but that they still aren't told.
 use Rattle.std.specs.Prelude.{◌≡◌, ℕ, ◌<◌, ◌≤◌, List, ◌++◌, length, take, Option, None, Some}
 
--- The kept bytes grew by these at the end. What wasn't told isn't told now.
+-- The kept bytes grew by these at the end. What was told is still told, what wasn't isn't.
 abbrev pub GrewBy : Option (List ℕ) → Option (List ℕ) → List ℕ → Type 0
 GrewBy None None bytes = Unit {0}
 GrewBy (Some before) (Some after) bytes = after ≡ before ++ bytes

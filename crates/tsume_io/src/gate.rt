@@ -1,7 +1,7 @@
 // Where a worker may be held up.
 
-/// A gate that a worker passes after each unit of work that it has drawn, with no lock held. Workers
-/// and units are numbered from 1. It answers nothing, so no result depends on it.
+/// A gate that a worker passes once for each unit of work, when it has drawn the unit and before it
+/// does it, with no lock held. Workers and units are numbered from 1. It answers nothing, so no result depends on it.
 pub trait Gate: Sync {
     /// The worker of this number has drawn the unit of this number.
     fn pass(&self, worker: u32, unit: u64);

@@ -1,6 +1,7 @@
 //! What the program knows of the outside world: a source of bytes, a sink for bytes, and a gate that
 //! a worker passes. Code that is generic over these traits reaches nothing else, and can't raise a
-//! count of faults itself, so "a fault only where the count rose" rules out a body that gives up.
+//! count of faults itself, so "a fault only where the count rose" rules out a body that gives up (but
+//! where the count stands at its last value).
 //!
 //! `read_all` and `write_all` are the two calls that the layers above make. `StdSource` and `StdSink`
 //! adapt std's readers and writers; `MemSource`, `MemSink` and `NeverFails` stand in memory.

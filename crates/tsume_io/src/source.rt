@@ -59,7 +59,7 @@ impl From<AllocError> for ReadEnd {
 const PIECE: usize = 65_536;
 
 /// Reads the bytes of a source to their end, at most `limit` of them. Every turn takes a byte or ends,
-/// and a source that never ends is left after `limit` + 1 bytes. It asks for pieces of 64 KiB, and takes
+/// and a source that never ends is left after `limit` + 1 bytes. It asks for 64 KiB at most at a time, and takes
 /// memory for the bytes that came, which grows by doubling. After a refusal, what was taken from the
 /// source is lost.
 pub fn read_all<S: Source>(alloc: Global, source: &mut S, limit: usize) -> Result<Vec<u8>, ReadEnd>

@@ -119,7 +119,9 @@ impl Tired {
         match self.calls {
             1 => Ok(asked.min(2)),
             2 => Ok(0),
-            _ => Err(io::Error::from(io::ErrorKind::Other)),
+            3 => Err(io::Error::from(io::ErrorKind::Other)),
+            // A call again would succeed.
+            _ => Ok(asked.min(1)),
         }
     }
 }

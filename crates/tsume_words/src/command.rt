@@ -7,6 +7,6 @@ pub enum Command {
     /// Solve the problem on standard input. With `rest` the defender is first given all pieces but kings that are neither on
     /// the board nor in a hand.
     Solve { settings: Settings, rest: bool },
-    /// Check the certificate on standard input, by this many threads, 1 to 64.
+    /// Check the certificate on standard input, by this many threads; from the words come 1 to 64.
     Check { workers: u32 },
 }

@@ -7,7 +7,7 @@ use board_core::Move;
 use std::alloc::Global;
 
 /// The answer that these moves mate: `checkmate` and the moves, a space before each (USI protocol: `checkmate`). No line
-/// feed. Each move has a text, as [`write_move`] asks for. Answers `NoMemory` only where the memory ends.
+/// feed. Each move has a text in the protocol. Answers `NoMemory` only where the memory ends.
 pub fn mate_line(alloc: Global, moves: &[Move]) -> Result<Vec<u8>, NoMemory>
     requires { AllHaveText moves.now }
     ensures { IfOk result (λ line. line.items ≡ mate_text moves.now) }
