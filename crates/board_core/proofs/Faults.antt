@@ -1,7 +1,7 @@
-use Rattle.std.proofs.Common.{◌≡◌, ◌≢◌, ◌<◌, ◌≤◌, ◌+◌, ℕ, List, Option, false, refl, arith, ◌∙◌}
+use Rattle.std.proofs.Common.{◌≡◌, ◌≢◌, ◌<◌, ◌≤◌, ◌+◌, ℕ, List, Option, false, arith, ◌∙◌}
 use Rattle.board_core.specs.declared.piece.Piece.{Piece}
 use Rattle.board_core.specs.declared.piece.Kind.{Kind}
-use Rattle.board_core.specs.declared.piece.Kind.TheVariants.{Pawn, Lance, Knight, Silver, Gold, Bishop, Rook, King}
+use Rattle.board_core.specs.declared.piece.Kind.TheVariants.{King}
 use Rattle.board_core.specs.declared.piece.Side.{Side}
 use Rattle.board_core.specs.declared.piece.Side.TheVariants.{Black, White}
 use Rattle.board_core.specs.declared.build.BadPosition.{BadPosition}
@@ -10,25 +10,7 @@ use Rattle.board_core.specs.Kind.{other, place_of, total_of}
 use Rattle.board_core.specs.Board.{Board, piece_at, is_dead, count_of, kings_of}
 use Rattle.board_core.specs.Kept.{TwoPawnsOn}
 use Rattle.board_core.specs.Build.{HasFault, fault_order}
-
--- what holds of each kind but the king
-pub each_kind : (P : Kind → Type 0) → P Pawn → P Lance → P Knight → P Silver → P Gold → P Bishop → P Rook → (k : Kind) → k ≢ King → P k
-each_kind P p l n s g b r Pawn h = p
-each_kind P p l n s g b r Lance h = l
-each_kind P p l n s g b r Knight h = n
-each_kind P p l n s g b r Silver h = s
-each_kind P p l n s g b r Gold h = g
-each_kind P p l n s g b r Bishop h = b
-each_kind P p l n s g b r Rook h = r
-each_kind P p l n s g b r King h = absurd (h refl)
-
--- what holds of both sides
-pub each_side : (P : Side → Type 0) → P Black → P White → (s : Side) → P s
-each_side P b w Black = b
-each_side P b w White = w
-
-pub place_below : (k : Kind) → k ≢ King → place_of k < 7
-place_below k h = each_kind (λ j. place_of j < 7) (omega arith) (omega arith) (omega arith) (omega arith) (omega arith) (omega arith) (omega arith) k h
+use Rattle.board_core.proofs.EachKind.{each_side, place_below}
 
 -- no fault is there that comes before this place in the order of faults
 abbrev pub Clear : Board → ℕ → Type 0

@@ -1,63 +1,15 @@
-use Rattle.std.proofs.Common.{◌≡◌, ◌≢◌, ◌<◌, ◌≤◌, ◌⊎◌, ◌&&◌, inl, inr, ℕ, zero, suc, List, Option, Some, None, Bool, true, false, length, slice_set, arith, ap, sym, refl, ◌∙◌, subst}
-use Rattle.std.proofs.lemmas.Bool.{cases_eq}
-use Rattle.std.proofs.lemmas.Bool.Decides.{eqb_tells}
+use Rattle.std.proofs.Common.{◌≡◌, ◌≢◌, ◌<◌, ◌≤◌, ◌⊎◌, inl, inr, ℕ, List, Option, Some, None, Bool, true, false, length, slice_set, arith, ap, sym, refl, ◌∙◌, subst}
+use Rattle.std.proofs.lemmas.Bool.{cases_eq, cases_Bool, and_parts}
 use Rattle.board_core.specs.declared.piece.Piece.{Piece}
 use Rattle.board_core.specs.declared.piece.Kind.{Kind}
-use Rattle.board_core.specs.declared.piece.Kind.TheVariants.{Pawn, Lance, Knight, Silver, Gold, Bishop, Rook, King}
+use Rattle.board_core.specs.declared.piece.Kind.TheVariants.{King}
 use Rattle.board_core.specs.declared.piece.Side.{Side}
-use Rattle.board_core.specs.declared.piece.Side.TheVariants.{Black, White}
 use Rattle.board_core.specs.Square.{file_of}
-use Rattle.board_core.specs.Kind.{same_kind, same_side, place_of, total_of}
+use Rattle.board_core.specs.Kind.{same_kind, total_of}
 use Rattle.board_core.specs.Board.{Board, piece_at, is_of_kind, is_king_of, is_pawn_of, is_dead, count_of, kings_of, with_cell, one_if}
 use Rattle.board_core.specs.Kept.{IsKept, TwoPawnsOn}
+use Rattle.board_core.proofs.EachKind.{same_kind_is, same_side_is}
 use Rattle.board_core.proofs.Cells.{piece_at-set_same, piece_at-set_other, count_by-set, length-set}
-
--- the kind at a place
-kind_at : ℕ → Kind
-kind_at zero = Pawn
-kind_at (suc zero) = Lance
-kind_at (suc (suc zero)) = Knight
-kind_at (suc (suc (suc zero))) = Silver
-kind_at (suc (suc (suc (suc zero)))) = Gold
-kind_at (suc (suc (suc (suc (suc zero))))) = Bishop
-kind_at (suc (suc (suc (suc (suc (suc zero)))))) = Rook
-kind_at (suc (suc (suc (suc (suc (suc (suc n))))))) = King
-
-kind_at-place_of : (k : Kind) → kind_at (place_of k) ≡ k
-unfolding kind_at
-kind_at-place_of Pawn = refl
-kind_at-place_of Lance = refl
-kind_at-place_of Knight = refl
-kind_at-place_of Silver = refl
-kind_at-place_of Gold = refl
-kind_at-place_of Bishop = refl
-kind_at-place_of Rook = refl
-kind_at-place_of King = refl
-
--- kinds of one place are one
-pub same_place : (k l : Kind) → place_of k ≡ place_of l → k ≡ l
-same_place k l e = sym (kind_at-place_of k) ∙ (ap kind_at e ∙ kind_at-place_of l)
-
-pub same_kind_is : (k l : Kind) → same_kind k l ≡ true → k ≡ l
-same_kind_is k l h = same_place k l (grind (arith, eqb_tells (place_of k) (place_of l)))
-
-pub and_left : (a b : Bool) → (a && b) ≡ true → a ≡ true
-and_left true b h = refl
-and_left false b h = h
-
-pub and_right : (a b : Bool) → (a && b) ≡ true → b ≡ true
-and_right true b h = h
-and_right false b h = absurd (cc)
-
-pub true_or_false : (b : Bool) → (b ≡ true) ⊎ (b ≡ false)
-true_or_false true = inl refl
-true_or_false false = inr refl
-
-pub same_side_is : (a b : Side) → same_side a b ≡ true → a ≡ b
-same_side_is Black Black h = refl
-same_side_is Black White h = absurd (cc)
-same_side_is White Black h = absurd (cc)
-same_side_is White White h = refl
 
 -- a cell after one was written: the one that was, or an old one
 pub cell_cases : (P : Option Piece → Type 0) (cells : List (Option Piece)) (i j : ℕ) (v : Option Piece) → i < length cells
@@ -104,10 +56,10 @@ take_kept b i k within =
     }
 
 pawn_side : (side : Side) (p : Piece) → is_pawn_of side (Some p) ≡ true → p.side ≡ side
-pawn_side side p h = same_side_is p.side side (and_right _ _ (and_right _ _ h))
+pawn_side side p h = same_side_is p.side side ((and_parts _ _ (and_parts _ _ h).1).1)
 
 king_facts : (side : Side) (p : Piece) → is_king_of side (Some p) ≡ true → (p.kind ≡ King) × (p.side ≡ side)
-king_facts side p h = (same_kind_is p.kind King (and_left _ _ h), same_side_is p.side side (and_right _ _ h))
+king_facts side p h = (same_kind_is p.kind King ((and_parts _ _ h).0), same_side_is p.side side ((and_parts _ _ h).1))
 
 one_if_most : (t : Bool) → one_if t ≤ 1
 one_if_most true = omega arith
@@ -127,7 +79,7 @@ put_total : (b : Board) (i : ℕ) (p : Piece) (d : Kind) → IsKept b → MaySta
 put_total b i p d k m n =
     let c = rw m.empty at (count_by-set (is_of_kind d) b.cells i (Some p) (omega (arith, k.cells, m.within))) in
     let t = k.totals d n in
-    elim (true_or_false (same_kind p.kind d)) [
+    elim (cases_Bool (same_kind p.kind d)) [
       | inl same ↦
           let is = same_kind_is p.kind d same in
           let more : count_of b d < total_of d = subst (λ (q : Kind). count_of b q < total_of q) is (m.left_over (λ e. n (sym is ∙ e))) in
@@ -140,7 +92,7 @@ put_kings : (b : Board) (i : ℕ) (p : Piece) (side : Side) → IsKept b → May
 put_kings b i p side k m =
     let c = rw m.empty at (count_by-set (is_king_of side) b.cells i (Some p) (omega (arith, k.cells, m.within))) in
     let t = k.kings side in
-    elim (true_or_false (is_king_of side (Some p))) [
+    elim (cases_Bool (is_king_of side (Some p))) [
       | inl same ↦
           let is = king_facts side p same in
           let none : kings_of b side ≡ 0 = subst (λ (s : Side). kings_of b s ≡ 0) is.1 (m.king is.0) in

@@ -9,9 +9,9 @@ use Rattle.board_core.specs.declared.piece.Kind.TheVariants.{Pawn, Lance, Knight
 use Rattle.board_core.specs.declared.piece.Side.{Side}
 use Rattle.board_core.specs.declared.piece.Side.TheVariants.{Black, White}
 use Rattle.board_core.specs.Kind.{can_promote, total_of}
-use Rattle.board_core.specs.Board.{Board, held}
+use Rattle.board_core.specs.Board.{Board, hand_count}
 use Rattle.board_core.specs.Kept.{IsKept}
-use Rattle.board_core.specs.Key.{kind_code, side_code, code_of, beside, packed, word_of, hand_code, side_bit, key_of}
+use Rattle.board_core.specs.Key.{kind_code, side_code, code_of, low_and_high, packed_cells, key_word, hand_code, side_bit, key_of}
 use Rattle.board_core.proofs.Packing.{kind_code_small, code_small}
 
 -- a number below `m` beside a multiple of `m` is told from it
@@ -22,8 +22,8 @@ apart m a b x y small low e =
       sym (div-mul-add x m a small) ∙ (ap (λ (n : ℕ). n / m) one ∙ div-mul-add y m b low),
     )
 
-pub beside_exact : (w a b x y : ℕ) → a < 2 ^ w → b < 2 ^ w → beside w a x ≡ beside w b y → (a ≡ b) × (x ≡ y)
-beside_exact w a b x y small low e = apart (2 ^ w) a b x y small low e
+pub low_and_high_exact : (w a b x y : ℕ) → a < 2 ^ w → b < 2 ^ w → low_and_high w a x ≡ low_and_high w b y → (a ≡ b) × (x ≡ y)
+low_and_high_exact w a b x y small low e = apart (2 ^ w) a b x y small low e
 
 -- what a piece keeps
 abbrev Promotes : Bool → Kind → Type 0
@@ -104,12 +104,12 @@ cell_exact (Some a) None e = absurd (omega (arith, some_code a.promoted a.kind a
 cell_exact (Some a) (Some b) e = ap (λ (p : Piece). Some p) (piece_code_exact a b e)
 
 -- as many squares with one word are the same
-packed_exact : (xs ys : List (Option Piece)) → length xs ≡ length ys → packed xs ≡ packed ys → xs ≡ ys
+packed_exact : (xs ys : List (Option Piece)) → length xs ≡ length ys → packed_cells xs ≡ packed_cells ys → xs ≡ ys
 packed_exact [] [] long e = refl
 packed_exact [] (y ∷ ys) long e = absurd (omega arith)
 packed_exact (x ∷ xs) [] long e = absurd (omega arith)
 packed_exact (x ∷ xs) (y ∷ ys) long e =
-    let both = beside_exact 5 (code_of x) (code_of y) (packed xs) (packed ys) (code_small x) (code_small y) e in
+    let both = low_and_high_exact 5 (code_of x) (code_of y) (packed_cells xs) (packed_cells ys) (code_small x) (code_small y) e in
     let first : x ≡ y = cell_exact x y both.0 in
     let others : xs ≡ ys = packed_exact xs ys (omega arith) both.1 in
     cc
@@ -117,7 +117,7 @@ packed_exact (x ∷ xs) (y ∷ ys) long e =
 twelve_more : (xs : List (Option Piece)) (i : ℕ) → drop i xs ≡ take 12 (drop i xs) ++ drop (i + 12) xs
 twelve_more xs i = sym (take-append-drop 12 (drop i xs)) ∙ ap (λ zs. take 12 (drop i xs) ++ zs) (drop-drop 12 i xs)
 
-word_exact : (xs ys : List (Option Piece)) (i : ℕ) → length xs ≡ length ys → packed (take 12 (drop i xs)) ≡ packed (take 12 (drop i ys))
+word_exact : (xs ys : List (Option Piece)) (i : ℕ) → length xs ≡ length ys → packed_cells (take 12 (drop i xs)) ≡ packed_cells (take 12 (drop i ys))
     → drop (i + 12) xs ≡ drop (i + 12) ys → drop i xs ≡ drop i ys
 word_exact xs ys i long e others =
     let front : take 12 (drop i xs) ≡ take 12 (drop i ys) = packed_exact (take 12 (drop i xs)) (take 12 (drop i ys))
@@ -125,10 +125,10 @@ word_exact xs ys i long e others =
     twelve_more xs i ∙ (ap (λ zs. zs ++ drop (i + 12) xs) front ∙ (ap (λ zs. take 12 (drop i ys) ++ zs) others ∙ sym (twelve_more ys i)))
 
 -- boards with the same seven words have the same cells
-pub cells_exact : (xs ys : List (Option Piece)) → length xs ≡ 81 → length ys ≡ 81 → word_of xs 0 ≡ word_of ys 0 → word_of xs 1 ≡ word_of ys 1
-    → word_of xs 2 ≡ word_of ys 2 → word_of xs 3 ≡ word_of ys 3 → word_of xs 4 ≡ word_of ys 4 → word_of xs 5 ≡ word_of ys 5
-    → word_of xs 6 ≡ word_of ys 6 → xs ≡ ys
-unfolding word_of
+pub cells_exact : (xs ys : List (Option Piece)) → length xs ≡ 81 → length ys ≡ 81 → key_word xs 0 ≡ key_word ys 0 → key_word xs 1 ≡ key_word ys 1
+    → key_word xs 2 ≡ key_word ys 2 → key_word xs 3 ≡ key_word ys 3 → key_word xs 4 ≡ key_word ys 4 → key_word xs 5 ≡ key_word ys 5
+    → key_word xs 6 ≡ key_word ys 6 → xs ≡ ys
+unfolding key_word
 cells_exact xs ys long as_long e0 e1 e2 e3 e4 e5 e6 =
     let same : length xs ≡ length ys = omega arith in
     let none : drop 84 xs ≡ drop 84 ys = drop_all 84 xs (omega arith) ∙ sym (drop_all 84 ys (omega arith)) in
@@ -137,7 +137,7 @@ cells_exact xs ys long as_long e0 e1 e2 e3 e4 e5 e6 =
 
 -- no kind but the king is held more often than a set has it
 abbrev pub Modest : List ℕ → Type 0
-Modest hand = (k : Kind) → k ≢ King → held hand k ≤ total_of k
+Modest hand = (k : Kind) → k ≢ King → hand_count hand k ≤ total_of k
 
 seven : (hand : List ℕ) → length hand ≡ 7
     → hand ≡ get_or hand 0 0 ∷ get_or hand 1 0 ∷ get_or hand 2 0 ∷ get_or hand 3 0 ∷ get_or hand 4 0 ∷ get_or hand 5 0 ∷ get_or hand 6 0 ∷ []
@@ -155,12 +155,12 @@ seven (a ∷ b ∷ c ∷ d ∷ e ∷ f ∷ g ∷ x ∷ xs) h = absurd (omega ari
 pub hand_exact : (g h : List ℕ) → length g ≡ 7 → length h ≡ 7 → Modest g → Modest h → hand_code g ≡ hand_code h → g ≡ h
 unfolding hand_code
 hand_exact g h long as_long few less e =
-    let p = beside_exact 5 (held g Pawn) (held h Pawn) _ _ (omega (arith, few Pawn (λ q. absurd (cc)))) (omega (arith, less Pawn (λ q. absurd (cc)))) e in
-    let l = beside_exact 3 (held g Lance) (held h Lance) _ _ (omega (arith, few Lance (λ q. absurd (cc)))) (omega (arith, less Lance (λ q. absurd (cc)))) p.1 in
-    let n = beside_exact 3 (held g Knight) (held h Knight) _ _ (omega (arith, few Knight (λ q. absurd (cc)))) (omega (arith, less Knight (λ q. absurd (cc)))) l.1 in
-    let s = beside_exact 3 (held g Silver) (held h Silver) _ _ (omega (arith, few Silver (λ q. absurd (cc)))) (omega (arith, less Silver (λ q. absurd (cc)))) n.1 in
-    let o = beside_exact 3 (held g Gold) (held h Gold) _ _ (omega (arith, few Gold (λ q. absurd (cc)))) (omega (arith, less Gold (λ q. absurd (cc)))) s.1 in
-    let b = beside_exact 2 (held g Bishop) (held h Bishop) (held g Rook) (held h Rook) (omega (arith, few Bishop (λ q. absurd (cc)))) (omega (arith, less Bishop (λ q. absurd (cc)))) o.1 in
+    let p = low_and_high_exact 5 (hand_count g Pawn) (hand_count h Pawn) _ _ (omega (arith, few Pawn (λ q. absurd (cc)))) (omega (arith, less Pawn (λ q. absurd (cc)))) e in
+    let l = low_and_high_exact 3 (hand_count g Lance) (hand_count h Lance) _ _ (omega (arith, few Lance (λ q. absurd (cc)))) (omega (arith, less Lance (λ q. absurd (cc)))) p.1 in
+    let n = low_and_high_exact 3 (hand_count g Knight) (hand_count h Knight) _ _ (omega (arith, few Knight (λ q. absurd (cc)))) (omega (arith, less Knight (λ q. absurd (cc)))) l.1 in
+    let s = low_and_high_exact 3 (hand_count g Silver) (hand_count h Silver) _ _ (omega (arith, few Silver (λ q. absurd (cc)))) (omega (arith, less Silver (λ q. absurd (cc)))) n.1 in
+    let o = low_and_high_exact 3 (hand_count g Gold) (hand_count h Gold) _ _ (omega (arith, few Gold (λ q. absurd (cc)))) (omega (arith, less Gold (λ q. absurd (cc)))) s.1 in
+    let b = low_and_high_exact 2 (hand_count g Bishop) (hand_count h Bishop) (hand_count g Rook) (hand_count h Rook) (omega (arith, few Bishop (λ q. absurd (cc)))) (omega (arith, less Bishop (λ q. absurd (cc)))) o.1 in
     let left = seven g long in
     let right = seven h as_long in
     let p0 = p.0 in
@@ -205,8 +205,8 @@ pub key_exact : (a b : Board) → IsKept a → IsKept b → key_of a ≡ key_of 
 unfolding key_of
 key_exact a b kept too e =
     let at = λ (n : ℕ). ap (λ (words : List ℕ). get_or words n 0) e in
-    let black = beside_exact 21 (hand_code a.black) (hand_code b.black) _ _ (hand_small a.black (modest_black a kept)) (hand_small b.black (modest_black b too)) (at 7) in
-    let white = beside_exact 21 (hand_code a.white) (hand_code b.white) _ _ (hand_small a.white (modest_white a kept)) (hand_small b.white (modest_white b too)) black.1 in
+    let black = low_and_high_exact 21 (hand_code a.black) (hand_code b.black) _ _ (hand_small a.black (modest_black a kept)) (hand_small b.black (modest_black b too)) (at 7) in
+    let white = low_and_high_exact 21 (hand_code a.white) (hand_code b.white) _ _ (hand_small a.white (modest_white a kept)) (hand_small b.white (modest_white b too)) black.1 in
     board_exact a b
     (cells_exact a.cells b.cells kept.cells too.cells (at 0) (at 1) (at 2) (at 3) (at 4) (at 5) (at 6))
     (hand_exact a.black b.black kept.black too.black (modest_black a kept) (modest_black b too) black.0)

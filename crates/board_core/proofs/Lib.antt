@@ -1,3 +1,4 @@
+pub mod EachKind
 pub mod Cells
 pub mod Keeps
 pub mod Hands
@@ -5,6 +6,7 @@ pub mod Counting
 pub mod Faults
 pub mod MoveOrder
 pub mod MoveLists
+pub mod Letters
 pub mod Same
 pub mod Packing
 pub mod KeyExact

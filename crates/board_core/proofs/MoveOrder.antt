@@ -1,4 +1,4 @@
-use Rattle.std.proofs.Common.{◌≡◌, ◌<◌, ◌+◌, ◌*◌, inl, inr, ℕ, Bool, true, false, ◌==◌, cond, arith, refl, ap, sym, ◌∙◌}
+use Rattle.std.proofs.Common.{◌≡◌, ◌<◌, ◌≤◌, ◌+◌, ◌*◌, inl, inr, ℕ, Bool, true, false, ◌==◌, arith, refl, ap, sym, ◌∙◌}
 use Rattle.std.specs.declared.cmp.Ordering.{Ordering}
 use Rattle.std.specs.declared.cmp.Ordering.TheVariants.{Less, Equal, Greater}
 use Rattle.std.specs.Ordering.{nat_cmp, bool_cmp, ordering_then, is_eq}
@@ -17,6 +17,7 @@ use mathlib.Core.HLevel.{is_prop→PathP}
 use Rattle.std.proofs.Math.Bridge.{le_prop}
 use Rattle.board_core.specs.Kind.{place_of}
 use Rattle.board_core.specs.Order.{order_of, bit_of}
+use Rattle.board_core.proofs.EachKind.{of_each, same_place, place_within}
 
 -- a number made of a higher and a lower part is compared by the higher part first
 by_parts : (a b m n x y : ℕ) → (a < b → x < y) → (b < a → y < x) → (a ≡ b → m < n → x < y) → (a ≡ b → n < m → y < x)
@@ -44,16 +45,6 @@ bit_order true true = refl
 bit_order true false = refl
 bit_order false true = refl
 bit_order false false = refl
-
-of_each : (P : Kind → Type 0) → P Pawn → P Lance → P Knight → P Silver → P Gold → P Bishop → P Rook → P King → (k : Kind) → P k
-of_each P p l n s g b r k Pawn = p
-of_each P p l n s g b r k Lance = l
-of_each P p l n s g b r k Knight = n
-of_each P p l n s g b r k Silver = s
-of_each P p l n s g b r k Gold = g
-of_each P p l n s g b r k Bishop = b
-of_each P p l n s g b r k Rook = r
-of_each P p l n s g b r k King = k
 
 abbrev Placed : Kind → Kind → Type 0
 Placed k l = kind_order.cmp-value.it k l ≡ nat_cmp (place_of k) (place_of l)
@@ -114,7 +105,7 @@ move_order-place (moves.Drop k t) (moves.Drop l u) =
 pub move_same-place : (m n : Move) → move_same.eq-value.it m n ≡ (order_of m == order_of n)
 move_same-place m n = move_laws.matches_eq-law m n ∙ (ap is_eq (move_order-place m n) ∙ unsigned_tied (order_of m) (order_of n))
 
-square_exact : (a b : Square) → a.number ≡ b.number → a ≡ b
+pub square_exact : (a b : Square) → a.number ≡ b.number → a ≡ b
 square_exact a b h = λ i. record { number = h i; on_board = is_prop→PathP (λ j. h j < 81) (λ j. le_prop) a.on_board b.on_board i }
 
 bit_exact : (p q : Bool) → bit_of p ≡ bit_of q → p ≡ q
@@ -122,16 +113,6 @@ bit_exact true true h = refl
 bit_exact true false h = absurd (omega arith)
 bit_exact false true h = absurd (omega arith)
 bit_exact false false h = refl
-
-abbrev kind_at : ℕ → Kind
-kind_at n = cond (n == 0) Pawn (cond (n == 1) Lance (cond (n == 2) Knight (cond (n == 3) Silver
-    (cond (n == 4) Gold (cond (n == 5) Bishop (cond (n == 6) Rook King))))))
-
-kind_back : (k : Kind) → kind_at (place_of k) ≡ k
-kind_back = of_each (λ k. kind_at (place_of k) ≡ k) refl refl refl refl refl refl refl refl
-
-pub kind_exact : (k l : Kind) → place_of k ≡ place_of l → k ≡ l
-kind_exact k l h = sym (kind_back k) ∙ (ap kind_at h ∙ kind_back l)
 
 -- no two moves have one place
 pub move_exact : (m n : Move) → order_of m ≡ order_of n → m ≡ n
@@ -145,6 +126,15 @@ move_exact (moves.Board f t p) (moves.Board g u q) h =
 move_exact (moves.Board f t p) (moves.Drop l u) h = let low = bit_below p in absurd (omega (arith, f.on_board, t.on_board))
 move_exact (moves.Drop k t) (moves.Board g u q) h = let low = bit_below q in absurd (omega (arith, g.on_board, u.on_board))
 move_exact (moves.Drop k t) (moves.Drop l u) h =
-    let kind : k ≡ l = kind_exact k l (omega (arith, t.on_board, u.on_board)) in
+    let kind : k ≡ l = same_place k l (omega (arith, t.on_board, u.on_board)) in
     let to : t ≡ u = square_exact t u (omega (arith, t.on_board, u.on_board)) in
     cc
+
+-- the order has 13,770 places
+pub order_within : (m : Move) → order_of m < 13770
+order_within (moves.Board f t p) = let low = bit_below p in omega (arith, f.on_board, t.on_board)
+order_within (moves.Drop k t) = let low = place_within k in omega (arith, t.on_board)
+
+-- the moves from a square lie among the 162 places of its own
+pub order_from : (f t : Square) (p : Bool) → (162 * f.number ≤ order_of (moves.Board f t p)) × (order_of (moves.Board f t p) < 162 * f.number + 162)
+order_from f t p = let low = bit_below p in (omega arith, omega (arith, t.on_board))

@@ -7,7 +7,7 @@ use Rattle.board_core.specs.declared.piece.Kind.TheVariants.{Pawn, Lance, Knight
 use Rattle.board_core.specs.declared.piece.Side.{Side}
 use Rattle.board_core.specs.declared.piece.Side.TheVariants.{Black, White}
 use Rattle.board_core.specs.Board.{piece_at}
-use Rattle.board_core.specs.Key.{kind_code, side_code, code_of, packed}
+use Rattle.board_core.specs.Key.{kind_code, side_code, code_of, packed_cells}
 use Rattle.board_core.proofs.Cells.{piece_at-get_or}
 
 pub kind_code_small : (p : Bool) (k : Kind) → kind_code p k ≤ 14
@@ -45,18 +45,18 @@ five_more n = ap (λ (m : ℕ). 2 ^ m) five ∙ pow-add 2 5 (5 * n)
     five = omega arith
 
 -- as many squares take five times as many bits
-pub packed_below : (cells : List (Option Piece)) (n : ℕ) → length cells ≤ n → packed cells < 2 ^ (5 * n)
+pub packed_below : (cells : List (Option Piece)) (n : ℕ) → length cells ≤ n → packed_cells cells < 2 ^ (5 * n)
 packed_below [] n h = pow_pos (5 * n)
 packed_below (cell ∷ cells) zero h = absurd (omega arith)
 packed_below (cell ∷ cells) (suc n) h = omega (arith, five_more n, code_small cell, packed_below cells n (omega arith))
 
 -- one square more at the front
-pub packed-step : (cells : List (Option Piece)) (i n : ℕ) → i < length cells
-    → packed (take (n + 1) (drop i cells)) ≡ code_of (piece_at cells i) + 32 * packed (take n (drop (i + 1) cells))
-packed-step cells i n h = rw (add-one n, add-one i, drop-cons cells i None, piece_at-get_or cells i) refl
+pub packed_cells-step : (cells : List (Option Piece)) (i n : ℕ) → i < length cells
+    → packed_cells (take (n + 1) (drop i cells)) ≡ code_of (piece_at cells i) + 32 * packed_cells (take n (drop (i + 1) cells))
+packed_cells-step cells i n h = rw (add-one n, add-one i, drop-cons cells i None, piece_at-get_or cells i) refl
 
 -- the squares of a word but the last fit in 55 bits
-pub packed_fits : (cells : List (Option Piece)) (i n : ℕ) → n ≤ 11 → packed (take n (drop i cells)) < 36028797018963968
+pub packed_fits : (cells : List (Option Piece)) (i n : ℕ) → n ≤ 11 → packed_cells (take n (drop i cells)) < 36028797018963968
 packed_fits cells i n h = packed_below (take n (drop i cells)) 11 (omega (arith, length-take n (drop i cells)))
 
 -- the last word has nine squares
@@ -66,14 +66,14 @@ last_word cells long =
 
 -- one square more, and a number that has room for it
 pub word_step : (cells : List (Option Piece)) (to step word code : ℕ) → length cells ≡ 81 → to ≤ 81 → step < to → step < 12
-    → word ≡ packed (take step (drop (to - step) cells)) → code ≡ code_of (piece_at cells (to - 1 - step))
-    → code + word * 32 % 18446744073709551616 ≡ packed (take (step + 1) (drop (to - (step + 1)) cells))
+    → word ≡ packed_cells (take step (drop (to - step) cells)) → code ≡ code_of (piece_at cells (to - 1 - step))
+    → code + word * 32 % 18446744073709551616 ≡ packed_cells (take (step + 1) (drop (to - (step + 1)) cells))
 word_step cells to step word code long within below few e at =
     let fits = packed_fits cells (to - step) step (omega arith) in
-    let front = packed-step cells (to - 1 - step) step (omega arith) in
+    let front = packed_cells-step cells (to - 1 - step) step (omega arith) in
     let here : to - 1 - step ≡ to - (step + 1) = omega arith in
     let next : to - 1 - step + 1 ≡ to - step = omega arith in
     let shown = rw next at front in
-    let moved = subst (λ (i : ℕ). packed (take (step + 1) (drop i cells)) ≡ code_of (piece_at cells (to - 1 - step)) + 32 * packed (take step (drop (to - step) cells)))
+    let moved = subst (λ (i : ℕ). packed_cells (take (step + 1) (drop i cells)) ≡ code_of (piece_at cells (to - 1 - step)) + 32 * packed_cells (take step (drop (to - step) cells)))
     here shown in
     omega arith

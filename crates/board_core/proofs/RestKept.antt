@@ -6,23 +6,23 @@ use Rattle.board_core.specs.declared.piece.Kind.TheVariants.{King}
 use Rattle.board_core.specs.declared.piece.Side.{Side}
 use Rattle.board_core.specs.declared.piece.Side.TheVariants.{Black, White}
 use Rattle.board_core.specs.Kind.{other, total_of}
-use Rattle.board_core.specs.Board.{Board, held, hand_of, by_side, count_of, is_of_kind}
+use Rattle.board_core.specs.Board.{Board, hand_count, hand_of, by_side, count_of, is_of_kind}
 use Rattle.board_core.specs.Kept.{IsKept}
-use Rattle.board_core.specs.Rest.{held_with_rest, hand_with_rest, rest_of}
-use Rattle.board_core.proofs.Faults.{each_kind}
+use Rattle.board_core.specs.Rest.{count_with_rest, hand_with_rest, board_with_rest}
+use Rattle.board_core.proofs.EachKind.{each_kind}
 
-held_rest : (b : Board) (k : Kind) → k ≢ King → held (hand_with_rest b) k ≡ held_with_rest b k
+held_rest : (b : Board) (k : Kind) → k ≢ King → hand_count (hand_with_rest b) k ≡ count_with_rest b k
 unfolding hand_with_rest
-held_rest b k n = each_kind (λ j. held (hand_with_rest b) j ≡ held_with_rest b j) refl refl refl refl refl refl refl k n
+held_rest b k n = each_kind (λ j. hand_count (hand_with_rest b) j ≡ count_with_rest b j) refl refl refl refl refl refl refl k n
 
 -- a hand that a side had and what is left make up the set
 made_up : (s : Side) (b : Board) (hand : List ℕ) (k : Kind) → count_of b k ≤ total_of k
-    → held hand k ≡ held (hand_of b s) k + (total_of k - count_of b k)
-    → count_by (is_of_kind k) b.cells + held (by_side s hand b.black) k + held (by_side s b.white hand) k ≡ total_of k
+    → hand_count hand k ≡ hand_count (hand_of b s) k + (total_of k - count_of b k)
+    → count_by (is_of_kind k) b.cells + hand_count (by_side s hand b.black) k + hand_count (by_side s b.white hand) k ≡ total_of k
 made_up Black b hand k most e = omega arith
 made_up White b hand k most e = omega arith
 
-pub rest_total : (b : Board) → IsKept b → (k : Kind) → k ≢ King → count_of (rest_of b) k ≡ total_of k
+pub rest_total : (b : Board) → IsKept b → (k : Kind) → k ≢ King → count_of (board_with_rest b) k ≡ total_of k
 rest_total b kept k n = made_up (other b.side) b (hand_with_rest b) k (kept.totals k n) (held_rest b k n)
 
 seven : (b : Board) → length (hand_with_rest b) ≡ 7
@@ -33,7 +33,7 @@ one_of : (s : Side) (g h : List ℕ) → length g ≡ 7 → length h ≡ 7 → l
 one_of Black g h long as_long = long
 one_of White g h long as_long = as_long
 
-pub rest_kept : (b : Board) → IsKept b → IsKept (rest_of b)
+pub rest_kept : (b : Board) → IsKept b → IsKept (board_with_rest b)
 rest_kept b kept = record {
   cells = kept.cells;
   black = one_of (other b.side) (hand_with_rest b) b.black (seven b) kept.black;
@@ -47,7 +47,7 @@ rest_kept b kept = record {
 -- the parts of what is made, where the side to move is known
 pub rest_parts : (b : Board) (s : Side) (cells : List (Option Piece)) (black white : List ℕ) → cells ≡ b.cells
     → black ≡ by_side (other s) (hand_with_rest b) b.black → white ≡ by_side (other s) b.white (hand_with_rest b) → s ≡ b.side
-    → record { cells = cells; black = black; white = white; side = s } ≡ rest_of b
+    → record { cells = cells; black = black; white = white; side = s } ≡ board_with_rest b
 rest_parts b s cells black white of_cells of_black of_white e =
     let first : record { cells = cells; black = black; white = white; side = s }
     ≡ record { cells = b.cells; black = by_side (other s) (hand_with_rest b) b.black; white = by_side (other s) b.white (hand_with_rest b); side = s }

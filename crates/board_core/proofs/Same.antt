@@ -4,6 +4,7 @@ use mathlib.Core.Bool.{beq}
 use lib.Pointwise.{pointwise}
 use Rattle.std.specs.Cmp.{IsEquivalence}
 use denote.Enum.Bare.{same_true, sameb}
+use Rattle.std.proofs.lemmas.Bool.{and_parts}
 use Rattle.std.proofs.lemmas.Cmp.{lists_equiv, nat_eq_equiv}
 use Rattle.std.specs.Cmp.Lexicographic.{options_equiv}
 use Rattle.std.specs.Prelude.{nat_eq}
@@ -19,14 +20,6 @@ use Rattle.board_core.specs.contracts.piece.Side.{the_type as side_type}
 use Rattle.board_core.specs.Kind.{can_promote}
 use Rattle.board_core.specs.contracts.piece.PiecePartialEq.TheImpl as piece_same
 use Rattle.board_core.specs.contracts.piece.PieceEq.TheImpl.Laws as piece_laws
-
-pub and_left : (p q : Bool) → (p && q) ≡ true → p ≡ true
-and_left true q h = refl
-and_left false q h = absurd (cc)
-
-pub and_right : (p q : Bool) → (p && q) ≡ true → q ≡ true
-and_right true q h = h
-and_right false q h = absurd (cc)
 
 beq_exact : (p q : Bool) → beq p q ≡ true → p ≡ q
 beq_exact true true h = refl
@@ -45,9 +38,9 @@ piece_same-exact a b h =
     let one = sameb kind_type a.kind b.kind in
     let two = beq a.promoted b.promoted in
     let three = sameb side_type a.side b.side in
-    let of_kind : a.kind ≡ b.kind = kind_same-exact a.kind b.kind (and_left one (two && three) h) in
-    let turned : a.promoted ≡ b.promoted = beq_exact a.promoted b.promoted (and_left two three (and_right one (two && three) h)) in
-    let owner : a.side ≡ b.side = side_same-exact a.side b.side (and_right two three (and_right one (two && three) h)) in
+    let of_kind : a.kind ≡ b.kind = kind_same-exact a.kind b.kind ((and_parts one (two && three) h).0) in
+    let turned : a.promoted ≡ b.promoted = beq_exact a.promoted b.promoted ((and_parts two three ((and_parts one (two && three) h).1)).0) in
+    let owner : a.side ≡ b.side = side_same-exact a.side b.side ((and_parts two three ((and_parts one (two && three) h).1)).1) in
     λ i. record {
       kind = of_kind i;
       promoted = turned i;
@@ -69,8 +62,8 @@ list_same-exact E exact [] [] h = refl
 list_same-exact E exact [] (y ∷ ys) h = absurd (cc)
 list_same-exact E exact (x ∷ xs) [] h = absurd (cc)
 list_same-exact E exact (x ∷ xs) (y ∷ ys) h =
-    let first : x ≡ y = exact x y (and_left _ _ h) in
-    let rest : xs ≡ ys = list_same-exact E exact xs ys (and_right _ _ h) in
+    let first : x ≡ y = exact x y ((and_parts _ _ h).0) in
+    let rest : xs ≡ ys = list_same-exact E exact xs ys ((and_parts _ _ h).1) in
     ap (λ z. z ∷ xs) first ∙ ap (λ zs. y ∷ zs) rest
 
 and_both : (p q : Bool) → p ≡ true → q ≡ true → (p && q) ≡ true
@@ -88,12 +81,12 @@ same_board-exact a b h =
     let two = pointwise nat_eq a.black b.black in
     let three = pointwise nat_eq a.white b.white in
     let four = sameb side_type a.side b.side in
-    let hands : (two && (three && four)) ≡ true = and_right one (two && (three && four)) h in
-    let rest : (three && four) ≡ true = and_right two (three && four) hands in
-    let cells : a.cells ≡ b.cells = list_same-exact (option_eq piece_same.eq-value.it) (option_same-exact piece_same.eq-value.it piece_same-exact) a.cells b.cells (and_left one (two && (three && four)) h) in
-    let black : a.black ≡ b.black = list_same-exact nat_eq eqb-true a.black b.black (and_left two (three && four) hands) in
-    let white : a.white ≡ b.white = list_same-exact nat_eq eqb-true a.white b.white (and_left three four rest) in
-    let side : a.side ≡ b.side = side_same-exact a.side b.side (and_right three four rest) in
+    let hands : (two && (three && four)) ≡ true = (and_parts one (two && (three && four)) h).1 in
+    let rest : (three && four) ≡ true = (and_parts two (three && four) hands).1 in
+    let cells : a.cells ≡ b.cells = list_same-exact (option_eq piece_same.eq-value.it) (option_same-exact piece_same.eq-value.it piece_same-exact) a.cells b.cells ((and_parts one (two && (three && four)) h).0) in
+    let black : a.black ≡ b.black = list_same-exact nat_eq eqb-true a.black b.black ((and_parts two (three && four) hands).0) in
+    let white : a.white ≡ b.white = list_same-exact nat_eq eqb-true a.white b.white ((and_parts three four rest).0) in
+    let side : a.side ≡ b.side = side_same-exact a.side b.side ((and_parts three four rest).1) in
     λ i. record { cells = cells i; black = black i; white = white i; side = side i }
 
 same_board-itself : (a : Board) → same_board a a ≡ true

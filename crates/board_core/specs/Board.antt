@@ -1,11 +1,12 @@
-use Rattle.std.specs.Prelude.{◌≡◌, ◌≢◌, ◌+◌, ◌-◌, ◌&&◌, ℕ, List, Option, Some, None, Bool, true, false, not, slice_get, slice_set, slice_index, count_by, nat_lt}
+use Rattle.std.specs.Prelude.{◌≡◌, ◌≢◌, ◌<◌, ◌+◌, ◌-◌, ◌&&◌, ℕ, List, Option, Some, None, Bool, true, false, not, slice_get, slice_set, slice_index, count_by, nat_lt}
+use Rattle.std.proofs.lemmas.Bool.{false≢true}
 use Rattle.board_core.specs.declared.piece.Kind.{Kind}
 use Rattle.board_core.specs.declared.piece.Kind.TheVariants.{Pawn, King}
 use Rattle.board_core.specs.declared.piece.Side.{Side}
 use Rattle.board_core.specs.declared.piece.Side.TheVariants.{Black, White}
 use Rattle.board_core.specs.declared.piece.Piece.{Piece}
-use Rattle.board_core.specs.Kind.{other, same_side, same_kind, place_of, ranks_needed}
-use Rattle.board_core.specs.Square.{ranks_ahead}
+use Rattle.board_core.specs.Kind.{other, same_side, same_kind, place_of, rows_needed}
+use Rattle.board_core.specs.Square.{height}
 
 -- What contracts see of a position: 81 cells by the number of the square, the two hands by the order of the kinds, and the side to move.
 pub record Board : Type 0 where
@@ -15,17 +16,17 @@ pub record Board : Type 0 where
   pub side : Side
 
 -- What a cell holds; a cell that isn't there holds nothing.
-abbrev pub filled : Option (Option Piece) → Option Piece
-filled None = None
-filled (Some cell) = cell
+abbrev pub content_of : Option (Option Piece) → Option Piece
+content_of None = None
+content_of (Some cell) = cell
 
 -- The piece on a square, where there is one.
 abbrev pub piece_at : List (Option Piece) → ℕ → Option Piece
-piece_at cells square = filled (slice_get cells square)
+piece_at cells square = content_of (slice_get cells square)
 
 -- How many pieces of a kind a hand holds.
-abbrev pub held : List ℕ → Kind → ℕ
-held hand kind = slice_index hand (place_of kind)
+abbrev pub hand_count : List ℕ → Kind → ℕ
+hand_count hand kind = slice_index hand (place_of kind)
 
 -- The first for Black, the second for White.
 abbrev pub by_side : {T : Type 0} → Side → T → T → T
@@ -38,11 +39,11 @@ hand_of b side = by_side side b.black b.white
 
 -- A hand with one more of a kind.
 abbrev pub with_more : List ℕ → Kind → List ℕ
-with_more hand kind = slice_set hand (place_of kind) (held hand kind + 1)
+with_more hand kind = slice_set hand (place_of kind) (hand_count hand kind + 1)
 
 -- A hand with one less of a kind.
 abbrev pub with_less : List ℕ → Kind → List ℕ
-with_less hand kind = slice_set hand (place_of kind) (held hand kind - 1)
+with_less hand kind = slice_set hand (place_of kind) (hand_count hand kind - 1)
 
 -- Whether a piece of the kind, promoted or not, of either side, stands in the cell.
 abbrev pub is_of_kind : Kind → Option Piece → Bool
@@ -59,18 +60,26 @@ abbrev pub is_pawn_of : Side → Option Piece → Bool
 is_pawn_of side None = false
 is_pawn_of side (Some piece) = same_kind piece.kind Pawn && (not piece.promoted && same_side piece.side side)
 
--- Whether a piece could never move again from a square: unpromoted, with too few ranks ahead of it.
+-- A side's piece of a kind, unpromoted.
+abbrev pub plain_piece : Kind → Side → Piece
+plain_piece kind side = record { kind = kind; promoted = false; side = side; promotes = λ e. absurd (false≢true e) }
+
+-- Whether a piece could never move again from a square: unpromoted, with too few rows ahead of it.
 abbrev pub is_dead : ℕ → Option Piece → Bool
 is_dead square None = false
-is_dead square (Some piece) = not piece.promoted && nat_lt (ranks_ahead piece.side square) (ranks_needed piece.kind)
+is_dead square (Some piece) = not piece.promoted && nat_lt 8 (height piece.side square + rows_needed piece.kind)
 
 -- How many pieces of a kind there are: on the board, promoted or not, of both sides, and in both hands.
 abbrev pub count_of : Board → Kind → ℕ
-count_of b kind = count_by (is_of_kind kind) b.cells + held b.black kind + held b.white kind
+count_of b kind = count_by (is_of_kind kind) b.cells + hand_count b.black kind + hand_count b.white kind
 
 -- How many kings of a side stand on the board.
 abbrev pub kings_of : Board → Side → ℕ
 kings_of b side = count_by (is_king_of side) b.cells
+
+-- The side that isn't to move, the defender of a problem, has a king.
+abbrev pub HasDefender : Board → Type 0
+HasDefender b = 0 < kings_of b (other b.side)
 
 -- The board with this in a cell.
 abbrev pub with_cell : Board → ℕ → Option Piece → Board
@@ -81,8 +90,8 @@ abbrev pub with_hand : Board → Side → List ℕ → Board
 with_hand b side hand = record b { black = by_side side hand b.black; white = by_side side b.white hand }
 
 -- The board with the other side to move.
-abbrev pub passed : Board → Board
-passed b = record b { side = other b.side }
+abbrev pub with_turn_passed : Board → Board
+with_turn_passed b = record b { side = other b.side }
 
 -- 1 where the test holds, else 0.
 abbrev pub one_if : Bool → ℕ

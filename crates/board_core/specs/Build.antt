@@ -25,7 +25,7 @@ fault_order TwoKings = 9
 fault_order (DeadPiece square) = 10 + square.number
 fault_order (TwoPawns file) = 100 + file
 
--- The answer to these cells, hands and side: the position that they are, where no fault is there; else the first fault that is there.
+-- The outcome for these cells, hands and side: the position that they are, where no fault is there; else the first fault that is there.
 abbrev pub IsBuilt : Board → Result Board BadPosition → Type 0
 IsBuilt b (Ok position) = (position ≡ b) × ((fault : BadPosition) → HasFault b fault → ⊥)
 IsBuilt b (Err fault) = HasFault b fault × ((sooner : BadPosition) → fault_order sooner < fault_order fault → HasFault b sooner → ⊥)

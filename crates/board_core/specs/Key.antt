@@ -4,7 +4,7 @@ use Rattle.board_core.specs.declared.piece.Kind.TheVariants.{Pawn, Lance, Knight
 use Rattle.board_core.specs.declared.piece.Side.{Side}
 use Rattle.board_core.specs.declared.piece.Side.TheVariants.{Black, White}
 use Rattle.board_core.specs.declared.piece.Piece.{Piece}
-use Rattle.board_core.specs.Board.{Board, held}
+use Rattle.board_core.specs.Board.{Board, hand_count}
 
 -- Black's code of a kind, and of its promoted side: 1 to 8 are the kinds in their order, the king last; 9 to 14 are the promoted
 -- ones in the same order. Gold and king have no promoted side, so no other code.
@@ -37,23 +37,23 @@ code_of None = 0
 code_of (Some piece) = kind_code piece.promoted piece.kind + side_code piece.side
 
 -- One number in so many of the lowest bits, and another in the bits above them.
-abbrev pub beside : ℕ → ℕ → ℕ → ℕ
-beside width low high = low + 2 ^ width * high
+abbrev pub low_and_high : ℕ → ℕ → ℕ → ℕ
+low_and_high width low high = low + 2 ^ width * high
 
 -- Squares in a word: five bits for the code of each, the first in the lowest bits.
-abbrev pub packed : List (Option Piece) → ℕ
-packed [] = 0
-packed (cell ∷ cells) = beside 5 (code_of cell) (packed cells)
+abbrev pub packed_cells : List (Option Piece) → ℕ
+packed_cells [] = 0
+packed_cells (cell ∷ cells) = low_and_high 5 (code_of cell) (packed_cells cells)
 
 -- The word of a key for twelve squares, the first of which has twelve times the word's number; the last such word has nine.
-unfoldable pub word_of : List (Option Piece) → ℕ → ℕ
-word_of cells number = packed (take 12 (drop (12 * number) cells))
+unfoldable pub key_word : List (Option Piece) → ℕ → ℕ
+key_word cells number = packed_cells (take 12 (drop (12 * number) cells))
 
 -- A hand in 21 bits, from the lowest: five bits for the pawns, three each for lances, knights, silvers and golds, two each for
 -- bishops and rooks.
 unfoldable pub hand_code : List ℕ → ℕ
-hand_code hand = beside 5 (held hand Pawn) (beside 3 (held hand Lance) (beside 3 (held hand Knight) (beside 3 (held hand Silver)
-    (beside 3 (held hand Gold) (beside 2 (held hand Bishop) (held hand Rook))))))
+hand_code hand = low_and_high 5 (hand_count hand Pawn) (low_and_high 3 (hand_count hand Lance) (low_and_high 3 (hand_count hand Knight) (low_and_high 3 (hand_count hand Silver)
+    (low_and_high 3 (hand_count hand Gold) (low_and_high 2 (hand_count hand Bishop) (hand_count hand Rook))))))
 
 -- 1 where White is to move, else 0.
 abbrev pub side_bit : Side → ℕ
@@ -63,5 +63,5 @@ side_bit White = 1
 -- The eight words of a board's key: seven of twelve squares each, and one of Black's hand in 21 bits, White's hand in the next 21,
 -- and the side to move in the bit above them.
 unfoldable pub key_of : Board → List ℕ
-key_of b = word_of b.cells 0 ∷ word_of b.cells 1 ∷ word_of b.cells 2 ∷ word_of b.cells 3 ∷ word_of b.cells 4 ∷ word_of b.cells 5
-    ∷ word_of b.cells 6 ∷ beside 21 (hand_code b.black) (beside 21 (hand_code b.white) (side_bit b.side)) ∷ []
+key_of b = key_word b.cells 0 ∷ key_word b.cells 1 ∷ key_word b.cells 2 ∷ key_word b.cells 3 ∷ key_word b.cells 4 ∷ key_word b.cells 5
+    ∷ key_word b.cells 6 ∷ low_and_high 21 (hand_code b.black) (low_and_high 21 (hand_code b.white) (side_bit b.side)) ∷ []

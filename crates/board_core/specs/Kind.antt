@@ -1,4 +1,4 @@
-use Rattle.std.specs.Prelude.{◌==◌, ℕ, Bool, true, false}
+use Rattle.std.specs.Prelude.{◌≡◌, ◌≢◌, ◌<◌, ◌==◌, ℕ, Bool, true, false}
 use Rattle.board_core.specs.declared.piece.Kind.{Kind}
 use Rattle.board_core.specs.declared.piece.Kind.TheVariants.{Pawn, Lance, Knight, Silver, Gold, Bishop, Rook, King}
 use Rattle.board_core.specs.declared.piece.Side.{Side}
@@ -53,13 +53,21 @@ total_of Bishop = 2
 total_of Rook = 2
 total_of King = 2
 
--- How many ranks an unpromoted piece of a kind must have ahead of it, to be able to move ever again.
-abbrev pub ranks_needed : Kind → ℕ
-ranks_needed Pawn = 1
-ranks_needed Lance = 1
-ranks_needed Knight = 2
-ranks_needed Silver = 0
-ranks_needed Gold = 0
-ranks_needed Bishop = 0
-ranks_needed Rook = 0
-ranks_needed King = 0
+-- How many rows an unpromoted piece of a kind must have ahead of it, to be able to move ever again.
+abbrev pub rows_needed : Kind → ℕ
+rows_needed Pawn = 1
+rows_needed Lance = 1
+rows_needed Knight = 2
+rows_needed Silver = 0
+rows_needed Gold = 0
+rows_needed Bishop = 0
+rows_needed Rook = 0
+rows_needed King = 0
+
+-- A law: no two kinds have one place.
+abbrev pub PlacesApart : Type 0
+PlacesApart = (k l : Kind) → place_of k ≡ place_of l → k ≡ l
+
+-- A law: the kinds that can stand in a hand have the first seven places.
+abbrev pub PlacesInHand : Type 0
+PlacesInHand = (k : Kind) → k ≢ King → place_of k < 7

@@ -1,3 +1,4 @@
+-- The rules of shogi; the layout of the key and the order of moves are this project's.
 pub mod Square
 pub mod Kind
 pub mod Board

@@ -1,4 +1,5 @@
 use Rattle.std.specs.Prelude.{◌≡◌, ◌<◌, ◌+◌, ◌*◌, ◌≤◌, ℕ, List, [], ◌∷◌, Bool, true, false, Some, Contains, slice_get}
+use Rattle.board_core.specs.declared.square.Square.{Square}
 use Rattle.board_core.specs.declared.moves.Move.{Move}
 use Rattle.board_core.specs.declared.moves.Move.TheVariants as moves
 use Rattle.board_core.specs.Kind.{place_of}
@@ -28,6 +29,15 @@ pub record Lists (P : Move → Type 0) (moves : List Move) : Type 0 where
 -- A law: no two moves have one place in the order.
 abbrev pub OrdersApart : Type 0
 OrdersApart = (a b : Move) → order_of a ≡ order_of b → a ≡ b
+
+-- A law: the moves from a square lie among the 162 places that are its own.
+abbrev pub OrdersByOrigin : Type 0
+OrdersByOrigin = (from to : Square) (promote : Bool) → (162 * from.number ≤ order_of (moves.Board from to promote))
+    × (order_of (moves.Board from to promote) < 162 * from.number + 162)
+
+-- A law: the order has 13,770 places, 162 for the moves from each of 81 squares and 81 for the drops of each of eight kinds.
+abbrev pub OrdersWithin : Type 0
+OrdersWithin = (move : Move) → order_of move < 13770
 
 -- A law: in a list in the order of moves, a move that comes before another in the order stands before it.
 abbrev pub PlacesInOrder : Type 0

@@ -1,4 +1,5 @@
-use Rattle.std.specs.Prelude.{◌+◌, ◌-◌, ◌*◌, ◌/◌, ◌%◌, ℕ}
+use Rattle.std.specs.Prelude.{◌≡◌, ◌+◌, ◌-◌, ◌*◌, ◌/◌, ◌%◌, ℕ}
+use Rattle.board_core.specs.declared.square.Square.{Square}
 use Rattle.board_core.specs.declared.piece.Side.{Side}
 use Rattle.board_core.specs.declared.piece.Side.TheVariants.{Black, White}
 
@@ -6,15 +7,20 @@ use Rattle.board_core.specs.declared.piece.Side.TheVariants.{Black, White}
 abbrev pub file_of : ℕ → ℕ
 file_of square = square / 9 + 1
 
--- The rank of a square: 1 to 9 (written a to i), from top to bottom. Black moves towards rank 1.
-abbrev pub rank_of : ℕ → ℕ
-rank_of square = square % 9 + 1
+-- The row of a square: 1 to 9 (written a to i), from top to bottom. Black moves towards row 1.
+abbrev pub row_of : ℕ → ℕ
+row_of square = square % 9 + 1
 
--- The number of the square on a file and a rank: file by file, each from its rank 1.
+-- The number of the square on a file and a row: file by file, each from its row 1.
 abbrev pub square_on : ℕ → ℕ → ℕ
-square_on file rank = 9 * (file - 1) + (rank - 1)
+square_on file row = 9 * (file - 1) + (row - 1)
 
--- How many ranks lie ahead of a square for a side: none on the last rank, where Black's is rank 1 and White's rank 9.
-abbrev pub ranks_ahead : Side → ℕ → ℕ
-ranks_ahead Black square = square % 9
-ranks_ahead White square = 8 - square % 9
+-- How high a square lies for a side, from 0 on its own first row to 8 on its last: forward is up, for both sides. Black's first
+-- row is row 9, White's row 1.
+abbrev pub height : Side → ℕ → ℕ
+height Black square = 8 - square % 9
+height White square = square % 9
+
+-- A law: no two squares have one number.
+abbrev pub SquaresApart : Type 0
+SquaresApart = (a b : Square) → a.number ≡ b.number → a ≡ b

@@ -1,7 +1,7 @@
 // Positions from their parts.
-ghost use Rattle.std.specs.Prelude.{◌≡◌, ◌≢◌, ◌<◌, ◌≤◌, ◌↔◌, ℕ, None, IsTrue, IfSome};
+ghost use Rattle.std.specs.Prelude.{◌≡◌, ◌≢◌, ◌<◌, ◌≤◌, ◌↔◌, ℕ, None, IsTrue, IfSome, IfOk};
 ghost use Rattle.board_core.specs.Kind.{place_of, total_of};
-ghost use Rattle.board_core.specs.Board.{Board, count_of};
+ghost use Rattle.board_core.specs.Board.{Board, count_of, HasDefender};
 ghost use Rattle.board_core.specs.Kept.{TwoPawnsOn};
 ghost use Rattle.board_core.specs.Build.{IsBuilt};
 ghost use Rattle.board_core.specs.declared.piece.Kind.{Kind};
@@ -27,17 +27,6 @@ pub enum BadPosition {
     TwoPawns(u8),
 }
 
-// The kinds that a hand may hold, in their order.
-const KINDS_IN_HAND: [Kind; 7] = [
-    Kind::Pawn,
-    Kind::Lance,
-    Kind::Knight,
-    Kind::Silver,
-    Kind::Gold,
-    Kind::Bishop,
-    Kind::Rook,
-];
-
 impl Position {
     /// The position with these cells (by the number of the square), hands and side to move; or the first fault of them,
     /// in the order of the variants of [`BadPosition`]: more pieces of a kind than a set of shogi has, no king of the
@@ -49,7 +38,10 @@ impl Position {
         white: Hand,
         side: Side,
     ) -> Result<Position, BadPosition>
-        ensures { IsBuilt (record { cells = cells.now; black = black; white = white; side = side }) result }
+        ensures built { IsBuilt (record { cells = cells.now; black = black; white = white; side = side }) result }
+
+        // The defender has a king.
+        ensures defender { IfOk result HasDefender }
     {
         if let Some(kind) = first_too_many(cells, black, white) {
             return Err(BadPosition::TooMany(kind));
@@ -69,8 +61,9 @@ impl Position {
         if let Some(file) = first_file_of_two_pawns(cells) {
             return Err(BadPosition::TwoPawns(file));
         }
-        black.seven();
-        white.seven();
+        // A hand has seven counts.
+        black.laws();
+        white.laws();
         Ok(Position::kept(cells, black, white, side))
     }
 }
@@ -80,8 +73,8 @@ fn is_too_many(cells: &[Option<Piece>; 81], black: Hand, white: Hand, kind: Kind
     requires { kind ≢ King }
     ensures { IsTrue result ↔ (total_of kind < count_of (record { cells = cells.now; black = black; white = white; side = Black }) kind) }
 {
-    let held = usize::from(black.count(kind)) + usize::from(white.count(kind));
-    count_kind(cells, kind) + held > usize::from(kind.total())
+    let in_hand = usize::from(black.count(kind)) + usize::from(white.count(kind));
+    count_kind(cells, kind) + in_hand > usize::from(kind.total())
 }
 
 // The first kind, in their order, of which there are more pieces than a set has.
@@ -91,7 +84,7 @@ fn first_too_many(cells: &[Option<Piece>; 81], black: Hand, white: Hand) -> Opti
     ensures some { IfSome result (λ k. total_of k < count_of (record { cells = cells.now; black = black; white = white; side = Black }) k) }
     ensures first { IfSome result (λ k. (j : Kind) → place_of j < place_of k → count_of (record { cells = cells.now; black = black; white = white; side = Black }) j ≤ total_of j) }
 {
-    for kind in KINDS_IN_HAND {
+    for kind in Kind::IN_HAND {
         if is_too_many(cells, black, white, kind) {
             return Some(kind);
         }

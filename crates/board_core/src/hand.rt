@@ -1,7 +1,7 @@
 // The pieces that a side holds.
 ghost use Rattle.std.specs.Prelude.{◌≡◌, ◌≢◌, ◌<◌, ◌≤◌, length, replicate};
 ghost use Rattle.board_core.specs.Kind.{place_of};
-ghost use Rattle.board_core.specs.Board.{held, with_more, with_less};
+ghost use Rattle.board_core.specs.Board.{hand_count, with_more, with_less};
 ghost use Rattle.board_core.specs.declared.piece.Kind.TheVariants.{King};
 
 use crate::Kind;
@@ -29,16 +29,7 @@ fn place(kind: Kind) -> usize
     ensures place { result ≡ place_of kind }
     ensures within { result < 7 }
 {
-    match kind {
-        Kind::Pawn => 0,
-        Kind::Lance => 1,
-        Kind::Knight => 2,
-        Kind::Silver => 3,
-        Kind::Gold => 4,
-        Kind::Bishop => 5,
-        Kind::Rook => 6,
-        Kind::King => unreachable!(),
-    }
+    kind.place() as usize
 }
 
 impl Hand {
@@ -64,8 +55,8 @@ impl Hand {
         self.0
     }
 
-    // That a hand has seven counts, said to proofs; it does nothing.
-    pub(crate) fn seven(self)
+    /// A law: a hand has seven counts. Does nothing; whoever speaks of its counts calls it to know this.
+    pub fn laws(self)
         ensures { length self ≡ 7 }
     {
         let _counts = self.0;
@@ -74,7 +65,7 @@ impl Hand {
     /// How many pieces of a kind, which isn't the king, it holds.
     pub fn count(self, kind: Kind) -> u8
         requires { kind ≢ King }
-        ensures { result ≡ held self kind }
+        ensures { result ≡ hand_count self kind }
     {
         self.0[place(kind)]
     }
@@ -82,7 +73,7 @@ impl Hand {
     /// The hand with one more of a kind, which isn't the king. A hand takes at most 255 of a kind.
     pub fn plus(self, kind: Kind) -> Hand
         requires king { kind ≢ King }
-        requires room { held self kind < 255 }
+        requires room { hand_count self kind < 255 }
         ensures { result ≡ with_more self kind }
     {
         let mut counts = self.0;
@@ -94,7 +85,7 @@ impl Hand {
     /// The hand with one less of a kind, which isn't the king and of which it holds one.
     pub fn minus(self, kind: Kind) -> Hand
         requires king { kind ≢ King }
-        requires some { 0 < held self kind }
+        requires some { 0 < hand_count self kind }
         ensures { result ≡ with_less self kind }
     {
         let mut counts = self.0;

@@ -1,9 +1,9 @@
 // Moves and their order.
 ghost use Rattle.std.specs.Prelude.{◌≡◌, ◌↔◌, IsTrue};
 ghost use Rattle.std.specs.Ordering.{nat_cmp};
-ghost use Rattle.board_core.specs.Order.{order_of, OrdersApart, PlacesInOrder};
+ghost use Rattle.board_core.specs.Order.{order_of};
 
-use crate::{Kind, Position, Square};
+use crate::{Kind, Square};
 use std::cmp::Ordering;
 
 /// A move: of a piece on the board, perhaps promoting it, or of a piece from the hand (a drop). Whether it may be made
@@ -46,23 +46,4 @@ impl Move {
     {
         self == with
     }
-}
-
-/// Laws about the order of moves: no two moves have one place in it, and in a list in this order a move that comes before
-/// another in the order stands before it. Does nothing; whoever lists moves calls it to know this. Takes no memory.
-pub fn order_laws()
-    ensures apart { OrdersApart }
-    ensures places { PlacesInOrder }
-{}
-
-/// One line of a mate's certificate. What it says, and what an accepted certificate bears out: at this position of the
-/// attacker the move is a check after which each answer leads to a position of lower rank.
-#[derive(Clone, Copy, PartialEq, Eq, Debug)]
-pub struct MateEntry {
-    /// The rank: an upper bound for the number of the attacker's moves up to the mate; at least 1 in a certificate.
-    pub rank: u32,
-    /// The attacker's move.
-    pub by: Move,
-    /// The position, with the attacker to move.
-    pub at: Position,
 }

@@ -2,7 +2,7 @@
 ghost use Rattle.std.specs.Prelude.{true, false, ◌≡◌, ◌<◌, ◌≤◌, ◌+◌, ◌-◌, ◌↔◌, IsTrue, take, drop};
 ghost use Rattle.board_core.specs.Board.{Board, piece_at};
 ghost use Rattle.board_core.specs.Kept.{IsKept};
-ghost use Rattle.board_core.specs.Key.{kind_code, side_code, code_of, side_bit, beside, packed, hand_code, key_of};
+ghost use Rattle.board_core.specs.Key.{kind_code, side_code, code_of, side_bit, low_and_high, packed_cells, hand_code, key_of};
 
 use crate::{Hand, Key, Kind, Piece, Position, Side};
 
@@ -36,16 +36,7 @@ fn own_code(kind: Kind) -> u64
     ensures code { result ≡ kind_code false kind }
     ensures small { result ≤ 8 }
 {
-    match kind {
-        Kind::Pawn => 1,
-        Kind::Lance => 2,
-        Kind::Knight => 3,
-        Kind::Silver => 4,
-        Kind::Gold => 5,
-        Kind::Bishop => 6,
-        Kind::Rook => 7,
-        Kind::King => 8,
-    }
+    u64::from(kind.place()) + 1
 }
 
 // How much more than Black's code a side's code is.
@@ -84,7 +75,7 @@ fn word(cells: &[Option<Piece>; 81], from: usize, to: usize) -> u64
     requires from { from ≤ to }
     requires to { to ≤ 81 }
     requires twelve { to - from ≤ 12 }
-    ensures { result ≡ packed (take (to - from) (drop from cells.now)) }
+    ensures { result ≡ packed_cells (take (to - from) (drop from cells.now)) }
 {
     let mut word = 0;
     for step in 0..to - from {
@@ -151,7 +142,7 @@ pub fn same_key(one: &Position, two: &Position) -> bool
 
 // The two hands and the side to move in a word.
 fn hands_and_side(position: &Position) -> u64
-    ensures { result ≡ beside 21 (hand_code position.now.black) (beside 21 (hand_code position.now.white) (side_bit position.now.side)) }
+    ensures { result ≡ low_and_high 21 (hand_code position.now.black) (low_and_high 21 (hand_code position.now.white) (side_bit position.now.side)) }
 {
     let white = hand_bits(position.hand(Side::White)) + (side_bit(position.side()) << 21);
     hand_bits(position.hand(Side::Black)) + (white << 21)

@@ -1,14 +1,15 @@
 // Sides, kinds and pieces.
-ghost use Rattle.std.specs.Prelude.{◌≡◌, ◌≤◌, true};
-ghost use Rattle.board_core.specs.Kind.{can_promote, other, place_of, total_of, ranks_needed};
-ghost use Rattle.board_core.specs.Text.{kind_letter};
+ghost use Rattle.std.specs.Prelude.{◌≡◌, ◌≢◌, ◌≤◌, IfSome, IfNone, true};
+ghost use Rattle.board_core.specs.Kind.{can_promote, other, place_of, total_of, rows_needed};
+ghost use Rattle.board_core.specs.Text.{kind_letter, kind_of_letter};
+ghost use Rattle.board_core.specs.declared.piece.Kind.{Kind};
 
-/// The two sides. Black (sente) moves towards rank a, White (gote) towards rank i.
+/// The two sides. Black (sente) moves towards row a, White (gote) towards row i.
 #[derive(Clone, Copy, PartialEq, Eq, PartialOrd, Ord, Hash, Debug)]
 pub enum Side {
-    /// Sente, the side that moves towards rank a.
+    /// Sente, the side that moves towards row a.
     Black,
-    /// Gote, the side that moves towards rank i.
+    /// Gote, the side that moves towards row i.
     White,
 }
 
@@ -46,6 +47,29 @@ pub enum Kind {
 }
 
 impl Kind {
+    /// The eight kinds, in their order.
+    pub const ALL: [Kind; 8] = [
+        Kind::Pawn,
+        Kind::Lance,
+        Kind::Knight,
+        Kind::Silver,
+        Kind::Gold,
+        Kind::Bishop,
+        Kind::Rook,
+        Kind::King,
+    ];
+
+    /// The seven kinds that a hand may hold, in their order: all but the king.
+    pub const IN_HAND: [Kind; 7] = [
+        Kind::Pawn,
+        Kind::Lance,
+        Kind::Knight,
+        Kind::Silver,
+        Kind::Gold,
+        Kind::Bishop,
+        Kind::Rook,
+    ];
+
     /// Whether pieces of the kind have a promoted side: all but gold and king (rules of shogi: promotion).
     pub fn can_promote(self) -> bool
         ensures { result ≡ can_promote self }
@@ -86,6 +110,25 @@ impl Kind {
         }
     }
 
+    /// The kind of a capital letter, where it is one of P L N S G B R K (SFEN and the USI protocol: pieces).
+    pub fn of_letter(letter: u8) -> Option<Kind>
+        ensures kind { result ≡ kind_of_letter letter }
+        ensures found { IfSome result (λ kind. kind_letter kind ≡ letter) }
+        ensures none { IfNone result ((kind : Kind) → kind_letter kind ≢ letter) }
+    {
+        match letter {
+            b'P' => Some(Kind::Pawn),
+            b'L' => Some(Kind::Lance),
+            b'N' => Some(Kind::Knight),
+            b'S' => Some(Kind::Silver),
+            b'G' => Some(Kind::Gold),
+            b'B' => Some(Kind::Bishop),
+            b'R' => Some(Kind::Rook),
+            b'K' => Some(Kind::King),
+            _ => None,
+        }
+    }
+
     /// How many pieces of the kind a set of shogi has: 18 pawns, 4 each of lance, knight, silver and gold, 2 each of
     /// bishop, rook and king.
     pub fn total(self) -> u8
@@ -98,10 +141,10 @@ impl Kind {
         }
     }
 
-    /// How many ranks an unpromoted piece of the kind must have ahead of it to be able to move ever again: 1 for a pawn
+    /// How many rows an unpromoted piece of the kind must have ahead of it to be able to move ever again: 1 for a pawn
     /// and a lance, 2 for a knight, else 0 (rules of shogi: forced promotion, and drops without a move).
-    pub fn ranks_needed(self) -> u8
-        ensures { result ≡ ranks_needed self }
+    pub fn rows_needed(self) -> u8
+        ensures { result ≡ rows_needed self }
     {
         match self {
             Kind::Pawn | Kind::Lance => 1,

@@ -1,8 +1,8 @@
 // Positions: what can be asked of them, and the changes that moves are made of.
-ghost use Rattle.std.specs.Prelude.{◌≡◌, ◌≢◌, ◌<◌, ◌+◌, ℕ, None, Some, false, true, ◌↔◌, IfSome, IsNone, IsTrue};
+ghost use Rattle.std.specs.Prelude.{◌≡◌, ◌≢◌, ◌<◌, ◌+◌, ℕ, None, Some, false, true, ◌↔◌, IfSome, IsNone, IsSome, IsTrue};
 ghost use Rattle.board_core.specs.Square.{file_of};
 ghost use Rattle.board_core.specs.Kind.{total_of, same_kind};
-ghost use Rattle.board_core.specs.Board.{piece_at, held, hand_of, with_more, with_less, is_pawn_of, is_dead, count_of, kings_of, with_cell, with_hand, passed, one_if, ChangesCell, is_king_of};
+ghost use Rattle.board_core.specs.Board.{piece_at, hand_count, hand_of, with_more, with_less, is_pawn_of, plain_piece, is_dead, count_of, kings_of, with_cell, with_hand, with_turn_passed, one_if, ChangesCell, is_king_of};
 ghost use Rattle.board_core.specs.Kept.{IsKept};
 ghost use Rattle.board_core.specs.declared.piece.Kind.{Kind};
 ghost use Rattle.board_core.specs.declared.piece.Kind.TheVariants.{King};
@@ -45,12 +45,23 @@ impl Model for Position {
 }
 
 impl Piece {
-    /// Whether it could never move again from the square: an unpromoted pawn or lance on its last rank, an unpromoted
+    /// A side's piece of a kind, unpromoted.
+    pub fn plain(kind: Kind, side: Side) -> Piece
+        ensures { result ≡ plain_piece kind side }
+    {
+        Piece {
+            kind,
+            promoted: false,
+            side,
+        }
+    }
+
+    /// Whether it could never move again from the square: an unpromoted pawn or lance on its last row, an unpromoted
     /// knight on its last two (rules of shogi: forced promotion, and drops without a move).
     pub fn is_dead_on(self, square: Square) -> bool
         ensures { result ≡ is_dead square.number (Some self) }
     {
-        !self.promoted && square.ranks_ahead(self.side) < self.kind.ranks_needed()
+        !self.promoted && square.height(self.side) + self.kind.rows_needed() > 8
     }
 }
 
@@ -78,6 +89,13 @@ impl Position {
         ensures { result ≡ piece_at self.now.cells square.number }
     {
         self.cells[square.number as usize]
+    }
+
+    /// A law: what every position keeps. Does nothing; whoever speaks of a position's board calls it to know this.
+    pub fn laws(&self)
+        ensures { IsKept self.now }
+    {
+        let _cells = &self.cells;
     }
 
     /// All 81 cells, by the number of the square; and with them what every position keeps.
@@ -108,6 +126,7 @@ impl Position {
         ensures found { IfSome result (λ s. is_king_of side (piece_at self.now.cells s.number) ≡ true) }
         ensures only { IfSome result (λ s. (t : ℕ) → is_king_of side (piece_at self.now.cells t) ≡ true → t ≡ s.number) }
         ensures none { IsNone result ↔ (kings_of self.now side ≡ 0) }
+        ensures standing { (s : ℕ) → is_king_of side (piece_at self.now.cells s) ≡ true → IsSome result }
     {
         first_king(self.cells(), side)
     }
@@ -160,13 +179,13 @@ impl Position {
     /// Takes one of a kind, of which there is one, out of a side's hand; the set has one left over then. It
     /// is no king, since no hand holds one.
     pub fn spend(&mut self, side: Side, kind: Kind)
-        requires { 0 < held (hand_of self.old side) kind }
+        requires { 0 < hand_count (hand_of self.old side) kind }
         ensures position { self.new ≡ with_hand self.old side (with_less (hand_of self.old side) kind) }
         ensures counts { (k : Kind) → count_of self.new k + one_if (same_kind kind k) ≡ count_of self.old k }
         ensures left_over { count_of self.new kind < total_of kind }
         ensures king { kind ≢ King }
-        ensures one_less { held (hand_of self.new side) kind + 1 ≡ held (hand_of self.old side) kind }
-        ensures other_counts { (k : Kind) → k ≢ kind → held (hand_of self.new side) k ≡ held (hand_of self.old side) k }
+        ensures one_less { hand_count (hand_of self.new side) kind + 1 ≡ hand_count (hand_of self.old side) kind }
+        ensures other_counts { (k : Kind) → k ≢ kind → hand_count (hand_of self.new side) k ≡ hand_count (hand_of self.old side) k }
     {
         match side {
             Side::Black => self.black = self.black.minus(kind),
@@ -176,7 +195,7 @@ impl Position {
 
     /// Gives the move to the other side.
     pub fn pass(&mut self)
-        ensures { self.new ≡ passed self.old }
+        ensures { self.new ≡ with_turn_passed self.old }
     {
         self.side = self.side.other();
     }

@@ -3,8 +3,8 @@ ghost use Rattle.std.specs.Prelude.{◌≡◌, ◌<◌, ◌≤◌, IfSome, IsSom
 
 use crate::Side;
 
-/// A square of the board by its number, `9 * (file - 1) + (rank - 1)`: 0 is 1a, 8 is 1i, 9 is 2a, 80 is 9i. Files run
-/// from 1 to 9 from right to left as Black sees the board, ranks from 1 (a) to 9 (i) from top to bottom.
+/// A square of the board by its number, `9 * (file - 1) + (row - 1)`: 0 is 1a, 8 is 1i, 9 is 2a, 80 is 9i. Files run
+/// from 1 to 9 from right to left as Black sees the board, rows from 1 (a) to 9 (i) from top to bottom.
 #[derive(Clone, Copy, PartialEq, Eq, PartialOrd, Ord, Hash, Debug)]
 pub struct Square {
     /// From 0 to 80.
@@ -13,20 +13,20 @@ pub struct Square {
 }
 
 impl Square {
-    ghost use Rattle.board_core.specs.Square.{file_of, rank_of, square_on, ranks_ahead};
+    ghost use Rattle.board_core.specs.Square.{file_of, row_of, square_on, height};
 
-    /// The square on a file and a rank, each from 1 to 9.
-    pub fn on(file: u8, rank: u8) -> Square
+    /// The square on a file and a row, each from 1 to 9.
+    pub fn on(file: u8, row: u8) -> Square
         requires file_from { 1 ≤ file }
         requires file_to { file ≤ 9 }
-        requires rank_from { 1 ≤ rank }
-        requires rank_to { rank ≤ 9 }
-        ensures number { result.number ≡ square_on file rank }
+        requires row_from { 1 ≤ row }
+        requires row_to { row ≤ 9 }
+        ensures number { result.number ≡ square_on file row }
         ensures file { file_of result.number ≡ file }
-        ensures rank { rank_of result.number ≡ rank }
+        ensures row { row_of result.number ≡ row }
     {
         Square {
-            number: 9 * (file - 1) + (rank - 1),
+            number: 9 * (file - 1) + (row - 1),
         }
     }
 
@@ -51,23 +51,24 @@ impl Square {
         self.number / 9 + 1
     }
 
-    /// Its rank, from 1 (a) to 9 (i).
-    pub fn rank(self) -> u8
-        ensures rank { result ≡ rank_of self.number }
+    /// Its row, from 1 (a) to 9 (i).
+    pub fn row(self) -> u8
+        ensures row { result ≡ row_of self.number }
         ensures from { 1 ≤ result }
         ensures to { result ≤ 9 }
     {
         self.number % 9 + 1
     }
 
-    /// How many ranks lie ahead of it for a side, from 0 on that side's last rank (rank a for Black, rank i for White) to 8.
-    pub fn ranks_ahead(self, side: Side) -> u8
-        ensures ranks { result ≡ ranks_ahead side self.number }
+    /// How high it lies for a side, from 0 on that side's own first row (row i for Black, row a for White) to 8 on its last:
+    /// forward is up, for both sides.
+    pub fn height(self, side: Side) -> u8
+        ensures height { result ≡ height side self.number }
         ensures to { result ≤ 8 }
     {
         match side {
-            Side::Black => self.number % 9,
-            Side::White => 8 - self.number % 9,
+            Side::Black => 8 - self.number % 9,
+            Side::White => self.number % 9,
         }
     }
 }

@@ -3,7 +3,7 @@ use super::*;
 use std::process::Abort;
 use std::test::Fail;
 
-// A piece by its square (tens for the file, ones for the rank: 51 is 5a), kind, whether it is promoted, and side.
+// A piece by its square (tens for the file, ones for the row: 51 is 5a), kind, whether it is promoted, and side.
 type Placed = (u8, Kind, bool, Side);
 
 const NONE: [u8; 7] = [0; 7];
@@ -11,12 +11,12 @@ const NONE: [u8; 7] = [0; 7];
 const ALL: [u8; 7] = [18, 4, 4, 4, 4, 2, 2];
 
 fn square(rt: &impl Abort, code: u8) -> Square {
-    let (file, rank) = (code / 10, code % 10);
+    let (file, row) = (code / 10, code % 10);
     assert!(rt;
-        1 <= file && file <= 9 && 1 <= rank && rank <= 9,
+        1 <= file && file <= 9 && 1 <= row && row <= 9,
         "square {code}"
     );
-    Square::on(file, rank)
+    Square::on(file, row)
 }
 
 fn cells_of(rt: &impl Abort, pieces: &[Placed]) -> [Option<Piece>; 81] {
@@ -295,7 +295,7 @@ fn what_may_stand_stands(rt: HostRuntime) {
                 Black,
                 None,
             ),
-            // A promoted pawn on each rank of one file; an unpromoted one among promoted ones; one of each side.
+            // A promoted pawn on each row of one file; an unpromoted one among promoted ones; one of each side.
             (
                 &[
                     (51, King, false, White),
@@ -349,7 +349,7 @@ fn what_may_stand_stands(rt: HostRuntime) {
                 Black,
                 None,
             ),
-            // As far ahead as each may stand, and on the ranks where the other side's couldn't; promoted ones anywhere.
+            // As far ahead as each may stand, and on the rows where the other side's couldn't; promoted ones anywhere.
             (
                 &[
                     (51, King, false, White),
@@ -411,7 +411,7 @@ fn what_may_stand_stands(rt: HostRuntime) {
                 Black,
                 None,
             ),
-            // A silver, a gold, a bishop and a rook may stand on the last rank.
+            // A silver, a gold, a bishop and a rook may stand on the last row.
             (
                 &[
                     (51, King, false, White),

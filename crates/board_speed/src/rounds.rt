@@ -13,7 +13,7 @@ fn piece(kind: Kind, side: Side) -> Option<Piece> {
     })
 }
 
-fn last_rank(file: u8) -> Kind {
+fn last_row(file: u8) -> Kind {
     match file {
         1 | 9 => Kind::Lance,
         2 | 8 => Kind::Knight,
@@ -25,15 +25,15 @@ fn last_rank(file: u8) -> Kind {
 
 // What stands on a square as a game begins.
 fn opening_cell(square: Square) -> Option<Piece> {
-    match (square.file(), square.rank()) {
-        (file, 1) => piece(last_rank(file), Side::White),
+    match (square.file(), square.row()) {
+        (file, 1) => piece(last_row(file), Side::White),
         (2, 2) => piece(Kind::Bishop, Side::White),
         (8, 2) => piece(Kind::Rook, Side::White),
         (_, 3) => piece(Kind::Pawn, Side::White),
         (_, 7) => piece(Kind::Pawn, Side::Black),
         (8, 8) => piece(Kind::Bishop, Side::Black),
         (2, 8) => piece(Kind::Rook, Side::Black),
-        (file, 9) => piece(last_rank(file), Side::Black),
+        (file, 9) => piece(last_row(file), Side::Black),
         _ => None,
     }
 }

@@ -1,40 +1,24 @@
 -- A position is found by its key exactly where it is listed.
-use Rattle.std.proofs.Common.{◌≡◌, ◌++◌, ◌⊎◌, inl, inr, ℕ, zero, suc, List, [], ◌∷◌, length, Contains, ap, sym, refl, ◌∙◌, subst, cond, true, false, Bool, ⊎_elim}
-use Rattle.std.specs.Prelude.{Some, None, Option, slice_get, IsSome}
+use Rattle.std.proofs.Common.{◌≡◌, ◌<◌, ◌+◌, ◌++◌, inl, inr, ℕ, List, [], ◌∷◌, length, take, Contains, arith, ap, sym, refl, ◌∙◌, subst, true, false, ⊎_elim, length-take, get_or-take, if◌then◌else◌}
+use Rattle.std.specs.Prelude.{Some, None, Option, slice_get, IsSome, is_some}
 use Rattle.std.specs.Ordering.{nat_cmp, is_eq}
-use Rattle.std.specs.declared.cmp.Ordering.{Ordering}
 use Rattle.std.specs.Cmp.Lexicographic.{slice_cmp}
-use Rattle.std.specs.declared.cmp.Ordering.TheVariants.{Less, Equal, Greater}
-use Rattle.std.specs.BTreeMap.{get, is_at, BTreeMap, Updates}
+use Rattle.std.specs.BTreeMap.{get, is_at, Updates, btree_map_len}
 use Rattle.std.proofs.lemmas.Cmp.{nat_list_cmp_total, tied_itself}
 use Rattle.std.proofs.lemmas.Map.Lookups.{exact_bytes}
 use Rattle.std.proofs.lemmas.List.Elements.{Contains-push_cases}
-use Rattle.std.proofs.lemmas.Option.{get_or_from_slice_get, slice_get_within}
+use Rattle.std.proofs.lemmas.Option.{get_or_from_slice_get, slice_get_within, slice_get_read}
+use Rattle.std.proofs.lemmas.List.{take_more, length_push}
+use Rattle.std.proofs.lemmas.Bool.{cases_Bool}
+use Rattle.list_laws.proofs.Standing.{get_kept, get_last, apart_more, contained}
+use Rattle.list_laws.proofs.Mapped.{equal_from, written, unwritten}
 use Rattle.board_core.specs.declared.keys.Key.{Key}
 use Rattle.board_core.specs.Board.{Board}
 use Rattle.board_core.specs.Kept.{IsKept}
 use Rattle.board_core.specs.Key.{key_of}
 use Rattle.cert_check.specs.declared.places.Places.{Places}
-use Rattle.cert_check.specs.Places.{key_cmp, StandsAt, ArePlacesOf, IsPlace}
-
-get_kept : (positions : List Board) (p : Board) (place : ℕ) (b : Board) → slice_get positions place ≡ Some b
-    → slice_get (positions ++ p ∷ []) place ≡ Some b
-get_kept [] p place b e = absurd (cc)
-get_kept (x ∷ xs) p zero b e = e
-get_kept (x ∷ xs) p (suc place) b e = get_kept xs p place b e
-
-get_last : (positions : List Board) (p : Board) → slice_get (positions ++ p ∷ []) (length positions) ≡ Some p
-get_last [] p = refl
-get_last (x ∷ xs) p = get_last xs p
-
-two_ways : (b : Bool) → (b ≡ true) ⊎ (b ≡ false)
-two_ways true = inl refl
-two_ways false = inr refl
-
-equal_from : (o : Ordering) → is_eq o ≡ true → o ≡ Equal
-equal_from Less h = absurd (cc)
-equal_from Equal h = refl
-equal_from Greater h = absurd (cc)
+use Rattle.cert_text.specs.Certificate.{AreApart}
+use Rattle.cert_check.specs.Places.{key_cmp, StandsAt, ArePlacesOf, IsPlace, IsWith}
 
 -- keys are found as one exactly where their words are the same
 same_words : (a k : Key) → is_at (key_cmp a) k ≡ true → a.0 ≡ k.0
@@ -42,16 +26,6 @@ same_words a k h = exact_bytes a.0 k.0 (equal_from (key_cmp a k) h)
 
 at_words : (a k : Key) → a.0 ≡ k.0 → is_at (key_cmp a) k ≡ true
 at_words a k e = subst (λ (w : List ℕ). is_eq (slice_cmp nat_cmp a.0 w) ≡ true) e (ap is_eq (tied_itself nat_list_cmp_total a.0))
-
-written : (old new : BTreeMap Key ℕ) (key : Key) (place : ℕ) → Updates key_cmp old new key (Some place) → (k : Key)
-    → is_at (key_cmp key) k ≡ true → get key_cmp new k ≡ Some place
-written old new key place updates k h =
-    subst (λ (t : Bool). get key_cmp new k ≡ cond t (Some place) (get key_cmp old k)) h (updates.0 k)
-
-unwritten : (old new : BTreeMap Key ℕ) (key : Key) (place : ℕ) → Updates key_cmp old new key (Some place) → (k : Key)
-    → is_at (key_cmp key) k ≡ false → get key_cmp new k ≡ get key_cmp old k
-unwritten old new key place updates k h =
-    subst (λ (t : Bool). get key_cmp new k ≡ cond t (Some place) (get key_cmp old k)) h (updates.0 k)
 
 some_from : (o : Option ℕ) (place : ℕ) → o ≡ Some place → IsSome o
 some_from o place e = subst (λ (x : Option ℕ). IsSome x) (sym e) refl
@@ -68,41 +42,77 @@ right_after : (old new : Places) (key : Key) (p : Board) (place : ℕ) (position
 right_after old new key p place positions words updates places last k q h =
     ⊎_elim
     (λ (yes : is_at (key_cmp key) k ≡ true).
-    let same = same_place place q (sym (written old.by_key new.by_key key place updates k yes) ∙ h) in
+    let same = same_place place q (sym (written key_cmp old.by_key new.by_key key place updates k yes) ∙ h) in
     record {
       position = p;
       there = subst (λ (n : ℕ). slice_get (positions ++ p ∷ []) n ≡ Some p) (sym last ∙ same) (get_last positions p);
       has_key = sym words ∙ same_words key k yes;
     })
     (λ (other : is_at (key_cmp key) k ≡ false).
-    let s = places.right k q (sym (unwritten old.by_key new.by_key key place updates k other) ∙ h) in
+    let s = places.right k q (sym (unwritten key_cmp old.by_key new.by_key key place updates k other) ∙ h) in
     record { position = s.position; there = get_kept positions p q s.position s.there; has_key = s.has_key })
-    (two_ways (is_at (key_cmp key) k))
+    (cases_Bool (is_at (key_cmp key) k))
 
 all_after : (old new : Places) (key : Key) (p : Board) (place : ℕ) (positions : List Board) → key.0 ≡ key_of p
     → Updates key_cmp old.by_key new.by_key key (Some place) → ArePlacesOf old positions
     → (k : Key) (b : Board) → Contains (positions ++ p ∷ []) b → key_of b ≡ k.0 → IsSome (get key_cmp new.by_key k)
 all_after old new key p place positions words updates places k b there has =
     ⊎_elim
-    (λ (yes : is_at (key_cmp key) k ≡ true). some_from _ place (written old.by_key new.by_key key place updates k yes))
+    (λ (yes : is_at (key_cmp key) k ≡ true). some_from _ place (written key_cmp old.by_key new.by_key key place updates k yes))
     (λ (other : is_at (key_cmp key) k ≡ false).
-    subst (λ (o : Option ℕ). IsSome o) (sym (unwritten old.by_key new.by_key key place updates k other))
+    subst (λ (o : Option ℕ). IsSome o) (sym (unwritten key_cmp old.by_key new.by_key key place updates k other))
     (⊎_elim
     (λ (before : Contains positions b). places.all k b before has)
     (λ (e : p ≡ b). let hit = at_words key k (words ∙ (ap key_of e ∙ has)) in absurd (cc))
     (Contains-push_cases positions p b there)))
-    (two_ways (is_at (key_cmp key) k))
+    (cases_Bool (is_at (key_cmp key) k))
+
+-- one more is counted
+count_after : (old new : ℕ) (o : Option ℕ) (positions : List Board) (p : Board) → o ≡ None → new ≡ old + (if is_some o then 0 else 1)
+    → old ≡ length positions → new ≡ length (positions ++ p ∷ [])
+count_after old new None positions p none more count = let n = length_push positions p in omega arith
+count_after old new (Some place) positions p none more count = absurd (cc)
 
 -- a position more is found too
-pub one_more : (old new : Places) (key : Key) (p : Board) (place : ℕ) (positions : List Board) → key.0 ≡ key_of p → IsKept p
-    → Updates key_cmp old.by_key new.by_key key (Some place) → ArePlacesOf old positions → place ≡ length positions
-    → ArePlacesOf new (positions ++ p ∷ [])
-one_more old new key p place positions words kept updates places last = record {
+pub one_more : (old new : Places) (key : Key) (p : Board) (place : ℕ) (o : Option ℕ) (positions : List Board) → key.0 ≡ key_of p → IsKept p
+    → Updates key_cmp old.by_key new.by_key key (Some place) → o ≡ None
+    → btree_map_len new.by_key ≡ btree_map_len old.by_key + (if is_some o then 0 else 1) → ArePlacesOf old positions
+    → place ≡ length positions → ¬ Contains positions p → ArePlacesOf new (positions ++ p ∷ [])
+one_more old new key p place o positions words kept updates none more places last absent = record {
+  apart = apart_more positions p places.apart absent;
   kept = λ b there.
       ⊎_elim (λ (before : Contains positions b). places.kept b before) (λ (e : p ≡ b). subst IsKept e kept) (Contains-push_cases positions p b there);
   right = right_after old new key p place positions words updates places last;
   all = all_after old new key p place positions words updates places;
+  count = count_after _ _ o positions p none more places.count;
 }
+
+-- what is listed isn't listed again
+pub with_listed : (positions : List Board) (p : Board) (longer : List Board) → Contains positions p → IsWith positions p longer → longer ≡ positions
+with_listed positions p longer there (inl old) = old.1
+with_listed positions p longer there (inr new) = absurd (new.0 there)
+
+-- what isn't is listed behind the others
+pub with_new : (positions : List Board) (p : Board) (longer : List Board) → ¬ Contains positions p → IsWith positions p longer
+    → longer ≡ positions ++ p ∷ []
+with_new positions p longer absent (inl old) = absurd (absent old.0)
+with_new positions p longer absent (inr new) = new.1
+
+-- among positions that are apart the next one isn't one of the first
+pub with_next : (positions : List Board) (i : ℕ) (p : Board) → AreApart positions → slice_get positions i ≡ Some p
+    → IsWith (take i positions) p (take (i + 1) positions)
+with_next positions i p apart at =
+    let inside = slice_get_within positions i p at in
+    inr (
+      (λ there.
+          let below = there.1 in
+          let shorter : there.0 < i = omega (arith, length-take i positions) in
+          let earlier = slice_get_read positions (length positions) there.0 p refl (omega (arith, length-take i positions))
+          (sym (sym (get_or-take i positions there.0 p shorter) ∙ there.2)) in
+          let same = apart there.0 i p earlier at in
+          omega arith),
+      take_more positions i p inside ∙ ap (λ (x : Board). take i positions ++ x ∷ []) (get_or_from_slice_get positions i p p at),
+    )
 
 -- what is found by the key is the place of the position
 pub found : (places : Places) (key : Key) (p : Board) (o : Option ℕ) (positions : List Board) → key.0 ≡ key_of p
@@ -115,3 +125,10 @@ found places key p (Some place) positions words injective e known =
     let inside = slice_get_within positions place s.position s.there in
     let kept = known.kept s.position (place, inside, get_or_from_slice_get positions place s.position s.position s.there) in
     s.there ∙ ap (λ (b : Board). Some b) (injective s.position kept s.has_key)
+
+-- what the places come to where the position is found
+pub kept_listed : (places new : Places) (p : Board) (place : ℕ) (positions longer : List Board) → new ≡ places → slice_get positions place ≡ Some p
+    → ArePlacesOf places positions → IsWith positions p longer → ArePlacesOf new longer
+kept_listed places new p place positions longer same at known with =
+    subst (λ (x : Places). ArePlacesOf x longer) (sym same)
+    (subst (ArePlacesOf places) (sym (with_listed positions p longer (contained positions place p at) with)) known)

@@ -1,23 +1,24 @@
 -- The verdict, from what was found out about each entry, and what it shows.
-use Rattle.std.proofs.Common.{◌≡◌, ◌<◌, ◌≤◌, ◌⊎◌, inl, inr, ◌↔◌, ℕ, zero, suc, List, [], ◌∷◌, get_or, length, Contains, arith, ap, sym, refl, ◌∙◌, subst}
+use Rattle.std.proofs.Common.{◌≡◌, ◌<◌, ◌≤◌, inl, inr, ◌↔◌, ℕ, zero, suc, List, [], get_or, length, Contains, arith, ap, sym, refl, ◌∙◌, subst}
 use Rattle.std.specs.Prelude.{Some, None, Option, slice_get, IsSomeAnd, Result, Ok, Err, IfOk}
 use Rattle.std.proofs.Math.ListN.{length-map}
 use Rattle.std.proofs.lemmas.Option.{slice_get_read, slice_get_within, get_or_from_slice_get}
 use Rattle.board_core.specs.declared.piece.Side.{Side}
-use Rattle.board_core.specs.declared.moves.MateEntry.{MateEntry}
+use Rattle.cert_text.specs.declared.entry.MateEntry.{MateEntry}
 use Rattle.board_core.specs.Board.{Board}
 use Rattle.shogi_rules.specs.Rules.{IsQuiet}
+use Rattle.list_laws.proofs.Standing.{in_first, contains_map, contained, at_place, from_map}
 use Rattle.mate_def.specs.Mate.{RankAtMost, IsClosed, Escapes, EscapeIsNoMate}
 use Rattle.cert_text.specs.declared.certificate.Certificate.{Certificate}
 use Rattle.cert_text.specs.declared.certificate.Certificate.TheVariants.{Mate, Escape}
 use Rattle.cert_text.specs.Certificate.{Mating, Escaping, IsMating, IsEscaping, positions_of}
-use Rattle.cert_check.specs.Valid.{IsBorneOut, ValidMate, ValidEscape, IsValid, ShowsMate, Shows, problem_of, positions_in, IsKeptBy}
+use Rattle.cert_check.specs.Valid.{IsBorneOut, ValidMate, ValidEscape, IsValid, ShowsMate, Shows}
+use Rattle.cert_text.specs.Kinds.{problem_of, positions_in, IsKeptBy}
 use Rattle.cert_check.specs.Reasons.{MateReason, EscapeReason, IsHeld, RootReason, EntryReason, EntryHolds, HasReason, IsFirstReason, IsSooner, IsVerdict, reason_order}
 use Rattle.cert_check.specs.declared.verdict.Why.{Why}
-use Rattle.cert_check.specs.declared.verdict.Why.TheVariants.{RootMissing, NotACheck, AnswerOutside, RankNotLower, CheckUnanswered}
+use Rattle.cert_check.specs.declared.verdict.Why.TheVariants.{RootMissing, NotACheck, EvasionOutside, RankNotLower, CheckUnanswered}
 use Rattle.cert_check.specs.declared.verdict.Verdict.{Verdict}
 use Rattle.cert_check.specs.declared.verdict.Verdict.TheVariants.{Accepted, Refused}
-use Rattle.cert_check.proofs.Listed.{listed_at}
 
 -- 1. From an entry to its place.
 
@@ -58,7 +59,7 @@ pub mate_quiet : (c : Certificate) (m : Mating) (entries : List MateEntry) (plac
     → place < length (positions_in c) → entry ≡ get_or entries place entry → IsMating m → IsQuiet entry.at
 mate_quiet c m entries place entry e f h is kept =
     let there = subst (λ (es : List MateEntry). Contains es entry) f (place, mate_place c m entries place e f h, sym is) in
-    (kept.problems entry there).is_problem.quiet
+    (kept.listed entry there).is_entry.is_problem.quiet
 
 escape_place : (c : Certificate) (m : Escaping) (entries : List Board) (place : ℕ) → c ≡ Escape m → entries ≡ m.entries
     → place < length (positions_in c) → place < length entries
@@ -81,7 +82,7 @@ pub escape_quiet : (c : Certificate) (m : Escaping) (entries : List Board) (plac
     → place < length (positions_in c) → b ≡ get_or entries place b → IsEscaping m → IsQuiet b
 escape_quiet c m entries place b e f h is kept =
     let there = subst (λ (es : List Board). Contains es b) f (place, escape_place c m entries place e f h, sym is) in
-    (kept.problems b there).is_problem.quiet
+    (kept.listed b there).is_problem.quiet
 
 -- 2. What holds has no reason against it.
 
@@ -89,16 +90,16 @@ borne_out_stands : (entries : List MateEntry) (attacker : Side) (entry : MateEnt
     → MateReason entries attacker entry why → ⊥
 borne_out_stands entries attacker entry RootMissing b r = r
 borne_out_stands entries attacker entry (NotACheck m) b r = r.1 b.check
-borne_out_stands entries attacker entry (AnswerOutside a) b r =
-    let l = b.answers a r.0 in r.1 (subst (Contains (positions_of entries)) l.same (listed_at entries l.entry l.listed))
-borne_out_stands entries attacker entry (RankNotLower a) b r = r.1.not_lower (b.answers a r.0)
+borne_out_stands entries attacker entry (EvasionOutside a) b r =
+    let l = b.evasions a r.0 in r.1 (subst (Contains (positions_of entries)) l.same (contains_map (λ (e : MateEntry). e.at) entries l.entry l.listed))
+borne_out_stands entries attacker entry (RankNotLower a) b r = r.1.not_lower (b.evasions a r.0)
 borne_out_stands entries attacker entry (CheckUnanswered m) b r = r
 
 held_stands : (positions : List Board) (attacker : Side) (b : Board) (why : Why) → IsHeld positions attacker b
     → EscapeReason positions attacker b why → ⊥
 held_stands positions attacker b RootMissing h r = r
 held_stands positions attacker b (NotACheck m) h r = r
-held_stands positions attacker b (AnswerOutside m) h r = r
+held_stands positions attacker b (EvasionOutside m) h r = r
 held_stands positions attacker b (RankNotLower m) h r = r
 held_stands positions attacker b (CheckUnanswered m) h r = r.1 (h m r.0)
 
@@ -118,7 +119,7 @@ root_stands : (c : Certificate) (p : Board) (why : Why) → problem_of c ≡ p �
 root_stands c p RootMissing about listed (inl r) = r about
 root_stands c p RootMissing about listed (inr r) = r listed
 root_stands c p (NotACheck m) about listed r = r
-root_stands c p (AnswerOutside m) about listed r = r
+root_stands c p (EvasionOutside m) about listed r = r
 root_stands c p (RankNotLower m) about listed r = r
 root_stands c p (CheckUnanswered m) about listed r = r
 
@@ -158,7 +159,7 @@ at_entry {X} xs H x place h e held =
 
 -- a listed position of an escape's certificate is its problem's side's to move
 escape_turn : (c : Escaping) (p b : Board) → IsEscaping c → c.problem ≡ p → Contains c.entries b → b.side ≡ p.side
-escape_turn c p b kept about there = (kept.problems b there).side ∙ ap (λ (x : Board). x.side) about
+escape_turn c p b kept about there = (kept.listed b there).side ∙ ap (λ (x : Board). x.side) about
 
 pub accepted : (c : Certificate) (p : Board) (n : ℕ) → IsKeptBy c → (problem_of c ≡ p) × Contains (positions_in c) p → length (positions_in c) ≤ n
     → ((k : ℕ) → k < n → EntryHolds c p.side k) → IsVerdict c p Accepted
@@ -179,7 +180,7 @@ accepted (Escape c) p n kept root h below = record {
         let w = there.1 in
         let held = at_entry c.entries (IsHeld c.entries p.side) b there.0 there.1 there.2 (below there.0 (omega arith)) in
         let into = held check is_check in
-        (into.answer, into.is_answer, inl into.listed);
+        record { evasion = into.evasion; is_evasion = into.is_evasion; leads = inl into.leads };
   };
 }
 
@@ -194,14 +195,10 @@ some_there : {X : Type 0} (xs : List X) (place : ℕ) (P Q : X → Type 0) → (
 some_there xs place P Q turn None e p = p
 some_there xs place P Q turn (Some x) e p = turn x (place, slice_get_within xs place x e, get_or_from_slice_get xs place x x e) p
 
-in_first : (s : List Board) (b : Board) → Contains s b ⊎ Contains [] b → Contains s b
-in_first s b (inl h) = h
-in_first s b (inr h) = let w = h.1 in absurd (omega arith)
-
 closed_held : (s : List Board) (attacker : Side) (b : Board) → IsClosed attacker s [] → Contains s b → IsHeld s attacker b
 closed_held s attacker b closed member check is_check =
     let e = closed.answered b check member is_check in
-    record { answer = e.0; is_answer = e.1; listed = in_first s _ e.2 }
+    record { evasion = e.evasion; is_evasion = e.is_evasion; leads = in_first s _ e.leads }
 
 valid_entry : (c : Certificate) (p : Board) (place : ℕ) (why : Why) → IsValid c p → EntryReason c p.side place why → ⊥
 valid_entry (Mate c) p place why v r =
@@ -226,34 +223,25 @@ accepted_iff c p (Refused entry why) h = ((λ e. absurd (cc)), (λ w. absurd (va
 -- 6. What a valid certificate shows.
 
 -- each listed position is a mate within any number not below its rank
-rank_holds : (c : Mating) (p : Board) → ValidMate c p → IsMating c → (n : ℕ) (entry : MateEntry) → Contains c.entries entry → entry.rank ≤ n
+rank_holds : (c : Mating) (p : Board) → ValidMate c p → IsMating c → (n : ℕ) (entry : MateEntry) → Contains c.entries entry → entry.rank.number ≤ n
     → RankAtMost p.side n entry.at
-rank_holds c p v k zero entry there up = let w = k.ranks entry there in absurd (omega arith)
+rank_holds c p v k zero entry there up = let some = entry.rank.some in absurd (omega arith)
 rank_holds c p v k (suc n) entry there up =
     let b = v.entries entry there in (
       entry.by,
       b.check,
-      λ answer is_answer.
-          let l = b.answers answer is_answer in
+      λ evasion is_evasion.
+          let l = b.evasions evasion is_evasion in
           let w = l.lower in
           subst (RankAtMost p.side n) l.same (rank_holds c p v k n l.entry l.listed (omega arith)),
     )
 
-entry_at_place : (entries : List MateEntry) (p : Board) (k : ℕ) → k < length (positions_of entries) → get_or (positions_of entries) k p ≡ p
-    → (entry : MateEntry) × Contains entries entry × (entry.at ≡ p)
-entry_at_place [] p k h e = absurd (omega arith)
-entry_at_place (x ∷ xs) p zero h e = (x, (0, omega arith, refl), e)
-entry_at_place (x ∷ xs) p (suc k) h e =
-    let r = entry_at_place xs p k (omega arith) e in
-    let w = r.1.1 in
-    (r.0, (suc r.1.0, omega arith, r.1.2), r.2)
-
 mate_shown : (c : Mating) (p : Board) → ValidMate c p → IsMating c → ShowsMate c p
 mate_shown c p v k =
-    let e = entry_at_place c.entries p v.listed.0 v.listed.1 v.listed.2 in
+    let e = from_map (λ (x : MateEntry). x.at) c.entries v.listed.0 p (at_place (positions_of c.entries) p v.listed) in
     record {
-      mate = (e.0.rank, subst (RankAtMost p.side e.0.rank) e.2 (rank_holds c p v k e.0.rank e.0 e.1 (omega arith)));
-      ranks = λ entry there. rank_holds c p v k entry.rank entry there (omega arith);
+      mate = (e.0.rank.number, subst (RankAtMost p.side e.0.rank.number) e.2 (rank_holds c p v k e.0.rank.number e.0 (contained c.entries v.listed.0 e.0 e.1) (omega arith)));
+      ranks = λ entry there. rank_holds c p v k entry.rank.number entry there (omega arith);
     }
 
 escapes : (c : Escaping) (p : Board) → ValidEscape c p → Escapes p.side p

@@ -2,28 +2,28 @@
 use Rattle.std.specs.Prelude.{◌≡◌, ◌<◌, ℕ, List, [], Contains}
 use Rattle.board_core.specs.declared.piece.Side.{Side}
 use Rattle.board_core.specs.declared.moves.Move.{Move}
-use Rattle.board_core.specs.declared.moves.MateEntry.{MateEntry}
+use Rattle.cert_text.specs.declared.entry.MateEntry.{MateEntry}
 use Rattle.board_core.specs.Board.{Board}
 use Rattle.shogi_rules.specs.Rules.{after}
-use Rattle.shogi_rules.specs.Tsume.{IsCheck, IsAnswer}
+use Rattle.shogi_rules.specs.Tsume.{IsCheck, IsEvasion}
 use Rattle.mate_def.specs.Mate.{after_both, RankAtMost, IsMate, IsClosed, Escapes}
 use Rattle.cert_text.specs.declared.certificate.Certificate.{Certificate}
 use Rattle.cert_text.specs.declared.certificate.Certificate.TheVariants.{Mate, Escape}
-use Rattle.cert_text.specs.Certificate.{Mating, Escaping, IsMating, IsEscaping, positions_of}
+use Rattle.cert_text.specs.Certificate.{Mating, Escaping, positions_of}
 
 -- An entry lists the position with a rank lower than this one.
 pub record IsListedBelow (entries : List MateEntry) (rank : ℕ) (position : Board) : Type 0 where
   pub entry : MateEntry
   pub listed : Contains entries entry
   pub same : entry.at ≡ position
-  pub lower : entry.rank < rank
+  pub lower : entry.rank.number < rank
 
--- An entry of a mate is borne out: its move is a check of its position, and each answer to it leads to a listed position of
+-- An entry of a mate is borne out: its move is a check of its position, and each evasion to it leads to a listed position of
 -- lower rank.
 pub record IsBorneOut (entries : List MateEntry) (attacker : Side) (entry : MateEntry) : Type 0 where
   pub check : IsCheck attacker entry.at entry.by
-  pub answers : (answer : Move) → IsAnswer attacker (after entry.at entry.by) answer
-      → IsListedBelow entries entry.rank (after_both entry.at entry.by answer)
+  pub evasions : (evasion : Move) → IsEvasion attacker (after entry.at entry.by) evasion
+      → IsListedBelow entries entry.rank.number (after_both entry.at entry.by evasion)
 
 -- A mate's certificate is valid for a position: it is about the position, lists it, and each of its entries is borne out.
 pub record ValidMate (c : Mating) (p : Board) : Type 0 where
@@ -45,7 +45,7 @@ IsValid (Escape c) p = ValidEscape c p
 -- A position is a mate, and each listed one is a mate within its rank.
 pub record ShowsMate (c : Mating) (p : Board) : Type 0 where
   pub mate : IsMate p.side p
-  pub ranks : (entry : MateEntry) → Contains c.entries entry → RankAtMost p.side entry.rank entry.at
+  pub ranks : (entry : MateEntry) → Contains c.entries entry → RankAtMost p.side entry.rank.number entry.at
 
 -- From a position the defender escapes, so it is no mate.
 pub record ShowsEscape (p : Board) : Type 0 where
@@ -57,18 +57,3 @@ pub record ShowsEscape (p : Board) : Type 0 where
 abbrev pub Shows : Certificate → Board → Type 0
 Shows (Mate c) p = ShowsMate c p
 Shows (Escape c) p = ShowsEscape p
-
--- The position that a certificate is about.
-abbrev pub problem_of : Certificate → Board
-problem_of (Mate c) = c.problem
-problem_of (Escape c) = c.problem
-
--- The positions that a certificate lists.
-abbrev pub positions_in : Certificate → List Board
-positions_in (Mate c) = positions_of c.entries
-positions_in (Escape c) = c.entries
-
--- What a certificate of either kind keeps.
-abbrev pub IsKeptBy : Certificate → Type 0
-IsKeptBy (Mate c) = IsMating c
-IsKeptBy (Escape c) = IsEscaping c

@@ -11,5 +11,5 @@ mod reasons;
 mod tests;
 mod verdict;
 
-pub use places::Places;
+pub use places::{Places, places_of};
 pub use verdict::{Verdict, Why, check, valid_is_accepted};

@@ -1,10 +1,12 @@
 // Finding a position among those of a list.
-ghost use Rattle.std.specs.Prelude.{◌≡◌, ◌++◌, ◌∷◌, [], ◌↔◌, List, length, OnOk, OnErr, IsTrue, Contains};
+ghost use Rattle.std.specs.Prelude.{◌≡◌, [], ◌↔◌, List, OnOk, IfOk, OnErr, IsTrue, Contains, map};
 ghost use Rattle.board_core.specs.Board.{Board};
-ghost use Rattle.cert_check.specs.Places.{ArePlacesOf, IsPlace};
+ghost use Rattle.cert_text.specs.Certificate.{IsListing};
+ghost use Rattle.cert_check.specs.Places.{ArePlacesOf, IsPlace, IsPlaceOrNext, IsWith};
 
-use board_core::{Key, NoMemory, Position, key};
-use std::alloc::Global;
+use board_core::{Key, Position, key};
+use cert_text::{CertificateOf, Entry};
+use std::alloc::{AllocError, Global};
 use std::collections::BTreeMap;
 
 /// Where each position of a list stands, by its key: found in a time that grows as the logarithm of their number.
@@ -23,14 +25,20 @@ impl Places {
         }
     }
 
-    /// Takes one more position, behind the others: its place is how many there are. Errors: want of memory alone, and then the
-    /// places stay those of the positions before.
-    pub fn add(&mut self, position: &Position, place: usize) -> Result<(), NoMemory>
-        ensures added { OnOk result ((positions : List Board) → ArePlacesOf self.old positions → place ≡ length positions → ArePlacesOf self.new (positions ++ position.now ∷ [])) }
+    /// The place of the position: where it isn't listed yet, it is listed behind the others, and its place is how many they
+    /// were. Errors: want of memory alone, and then the places stay as they were.
+    pub fn add(&mut self, position: &Position) -> Result<usize, AllocError>
+        ensures place { IfOk result (λ place. (positions : List Board) → ArePlacesOf self.old positions → IsPlaceOrNext positions position.now place) }
+        ensures added { OnOk result ((positions longer : List Board) → ArePlacesOf self.old positions → IsWith positions position.now longer → ArePlacesOf self.new longer) }
         ensures unchanged { OnErr result ((positions : List Board) → ArePlacesOf self.old positions → ArePlacesOf self.new positions) }
     {
-        self.by_key.insert(key(position), place)?;
-        Ok(())
+        let key = key(position);
+        if let Some(place) = self.by_key.get(&key).copied() {
+            return Ok(place);
+        }
+        let place = self.by_key.len();
+        self.by_key.insert(key, place)?;
+        Ok(place)
     }
 
     /// Whether the position is listed.
@@ -46,4 +54,19 @@ impl Places {
     {
         self.by_key.get(&key(position)).copied()
     }
+}
+
+/// Where each position of a certificate stands. Errors: want of memory alone.
+pub fn places_of<E: Entry>(
+    alloc: Global,
+    certificate: &CertificateOf<E>,
+) -> Result<Places, AllocError>
+    ensures places { IfOk result (λ places. ArePlacesOf places (map (E.form certificate.now.problem).at certificate.now.entries)) }
+    ensures kept { IsListing (E.form certificate.now.problem) certificate.now }
+{
+    let mut places = Places::new(alloc);
+    for entry in certificate.entries() {
+        places.add(entry.position())?;
+    }
+    Ok(places)
 }

@@ -80,7 +80,7 @@ fn certificates_are_accepted_or_refused_with_the_first_reason(rt: HostRuntime) -
         (TWO_ROOKS, Verdict::Accepted),
         (PAWN_DROPS, Verdict::Accepted),
         (CHASE, Verdict::Accepted),
-        (UNGUARDED, refused(1, Why::AnswerOutside(out))),
+        (UNGUARDED, refused(1, Why::EvasionOutside(out))),
         (NO_CHECK, refused(1, Why::NotACheck(gold))),
         (EQUAL_RANKS, refused(4, Why::RankNotLower(up))),
         (NO_ROOT, refused(0, Why::RootMissing)),

@@ -1,7 +1,8 @@
 // The verdict on a certificate.
 ghost use Rattle.std.specs.Prelude.{◌≡◌, ◌<◌, ◌↔◌, ℕ, length, IfOk, IsTrue, Contains, false};
 ghost use Rattle.cert_check.specs.Places.{ArePlacesOf};
-ghost use Rattle.cert_check.specs.Valid.{IsValid, Shows, problem_of, positions_in, IsKeptBy};
+ghost use Rattle.cert_check.specs.Valid.{IsValid, Shows};
+ghost use Rattle.cert_text.specs.Kinds.{problem_of, positions_in, IsKeptBy};
 ghost use Rattle.cert_check.specs.Reasons.{RootReason, EntryReason, EntryHolds, IsFirstReason, IsVerdict};
 ghost use Rattle.cert_check.specs.declared.verdict.Why.TheVariants.{RootMissing};
 ghost use Rattle.cert_check.specs.declared.verdict.Verdict.{Verdict};
@@ -9,13 +10,13 @@ ghost use Rattle.cert_check.specs.declared.verdict.Verdict.TheVariants.{Accepted
 ghost use Rattle.cert_text.specs.declared.certificate.Certificate.{Certificate};
 ghost use Rattle.board_core.specs.Board.{Board};
 
-use crate::places::Places;
+use crate::places::{Places, places_of};
 use crate::reasons::{escape_reason, mate_reason};
-use board_core::{Move, NoMemory};
+use board_core::Move;
 use cert_text::Certificate;
 use mate_def::escape_is_no_mate;
 use shogi_rules::Problem;
-use std::alloc::Global;
+use std::alloc::{AllocError, Global};
 
 /// Why a certificate is refused.
 #[derive(Clone, Copy, PartialEq, Eq, Debug)]
@@ -24,11 +25,11 @@ pub enum Why {
     RootMissing,
     /// The move of a mate's entry, this one, isn't a check of its position.
     NotACheck(Move),
-    /// After the entry's move, this answer leads to a position that isn't listed.
-    AnswerOutside(Move),
-    /// After the entry's move, this answer leads to a position that is listed, but not with a lower rank.
+    /// After the entry's move, this evasion leads to a position that isn't listed.
+    EvasionOutside(Move),
+    /// After the entry's move, this evasion leads to a position that is listed, but not with a lower rank.
     RankNotLower(Move),
-    /// In an escape, no answer to this check of the entry's position leads to a listed position.
+    /// In an escape, no evasion to this check of the entry's position leads to a listed position.
     CheckUnanswered(Move),
 }
 
@@ -47,42 +48,20 @@ pub enum Verdict {
 }
 
 // Where each position of the certificate stands.
-fn places_of(alloc: Global, certificate: &Certificate) -> Result<Places, NoMemory>
+fn places_in(alloc: Global, certificate: &Certificate) -> Result<Places, AllocError>
     ensures places { IfOk result (λ places. ArePlacesOf places (positions_in certificate.now)) }
     ensures kept { IsKeptBy certificate.now }
 {
-    let mut places = Places::new(alloc);
     match certificate {
-        Certificate::Mate(mate) => {
-            for (place, entry) in mate.entries().iter().enumerate() {
-                places.add(&entry.at, place)?;
-            }
-        }
-        Certificate::Escape(escape) => {
-            for (place, position) in escape.entries().iter().enumerate() {
-                places.add(position, place)?;
-            }
-        }
+        Certificate::Mate(mate) => places_of(alloc, mate),
+        Certificate::Escape(escape) => places_of(alloc, escape),
     }
-    Ok(places)
 }
 
 fn is_about(certificate: &Certificate, problem: &Problem) -> bool
     ensures { IsTrue result ↔ (problem_of certificate.now ≡ problem.now.position) }
 {
-    match certificate {
-        Certificate::Mate(mate) => mate.problem().position.is_same(&problem.position),
-        Certificate::Escape(escape) => escape.problem().position.is_same(&problem.position),
-    }
-}
-
-fn count_of(certificate: &Certificate) -> usize
-    ensures { result ≡ length (positions_in certificate.now) }
-{
-    match certificate {
-        Certificate::Mate(mate) => mate.entries().len(),
-        Certificate::Escape(escape) => escape.entries().len(),
-    }
+    certificate.problem().position.is_same(&problem.position)
 }
 
 // The first reason against the entry at a place, counted from 0.
@@ -92,7 +71,7 @@ fn reason_at(
     certificate: &Certificate,
     places: &Places,
     place: usize,
-) -> Result<Option<Why>, NoMemory>
+) -> Result<Option<Why>, AllocError>
     requires place { place < length (positions_in certificate.now) }
     requires places { ArePlacesOf places.now (positions_in certificate.now) }
     ensures { IfOk result (λ reason. IsFirstReason (EntryHolds certificate.now problem.now.position.side place) (EntryReason certificate.now problem.now.position.side place) reason) }
@@ -124,18 +103,18 @@ fn verdict_on(
     alloc: Global,
     problem: &Problem,
     certificate: &Certificate,
-) -> Result<Verdict, NoMemory>
+) -> Result<Verdict, AllocError>
     ensures verdict { IfOk result (λ verdict. IsVerdict certificate.now problem.now.position verdict) }
     ensures kept { IsKeptBy certificate.now }
 {
-    let places = places_of(alloc, certificate)?;
+    let places = places_in(alloc, certificate)?;
     if !lists_root(certificate, problem, &places) {
         return Ok(Verdict::Refused {
             entry: 0,
             why: Why::RootMissing,
         });
     }
-    for place in 0..count_of(certificate) {
+    for place in 0..certificate.count() {
         if let Some(why) = reason_at(alloc, problem, certificate, &places, place)? {
             return Ok(Verdict::Refused {
                 entry: place as u64 + 1,
@@ -162,7 +141,7 @@ pub fn check(
     alloc: Global,
     problem: &Problem,
     certificate: &Certificate,
-) -> Result<Verdict, NoMemory>
+) -> Result<Verdict, AllocError>
     // Accepted exactly where the certificate is valid, refused exactly with the first reason against it.
     ensures verdict { IfOk result (λ verdict. IsVerdict certificate.now problem.now.position verdict) }
     ensures accepted { IfOk result (λ verdict. (verdict ≡ Accepted) ↔ IsValid certificate.now problem.now.position) }

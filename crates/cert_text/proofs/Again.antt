@@ -5,13 +5,18 @@ use Rattle.std.specs.List.{AllByRecursion}
 use Rattle.std.specs.Fmt.{decimal}
 use Rattle.std.proofs.lemmas.Fmt.{decimal_injective}
 use Rattle.std.proofs.lemmas.List.{append_cancel_left, append-nil}
-use Rattle.board_core.specs.declared.moves.MateEntry.{MateEntry}
+use Rattle.cert_text.specs.declared.entry.MateEntry.{MateEntry}
+use mathlib.Core.HLevel.{is_prop→PathP}
+use Rattle.std.proofs.Math.Bridge.{le_prop}
+use Rattle.cert_text.specs.declared.rank.Rank.{Rank}
+use Rattle.cert_text.specs.declared.limits.TheConstants.{MOST_RANK}
 use Rattle.board_core.specs.Board.{Board}
-use Rattle.usi_text.specs.MoveText.{move_text, TextsApart as MovesApart}
+use Rattle.usi_text.specs.MoveText.{move_text, MoveTextsApart as MovesApart}
 use Rattle.sfen_text.specs.Spelling.{sfen_of, board_text, side_letter, hands_text}
-use Rattle.sfen_text.specs.Laws.{TextsApart, TextsAreLines}
-use Rattle.cert_text.specs.Certificate.{Mating, Escaping, IsRising}
-use Rattle.cert_text.specs.Text.{line, mate_entry_text}
+use Rattle.sfen_text.specs.Laws.{PositionTextsApart, TextsAreLines}
+use Rattle.cert_text.specs.Entries.{line, mate_entry_text}
+use Rattle.cert_text.specs.Certificate.{Listing, Mating, Escaping, IsRising, Form, MayBeListed, mate_form, escape_form}
+use Rattle.cert_text.specs.Text.{entries_text, end_line}
 use Rattle.cert_text.specs.declared.fault.CertFault.{CertFault}
 use Rattle.cert_text.specs.declared.fault.CertFault.TheVariants as faults
 use Rattle.cert_text.specs.declared.fault.CertEnd.{CertEnd}
@@ -20,15 +25,15 @@ use Rattle.cert_text.specs.declared.certificate.Certificate.{Certificate}
 use Rattle.cert_text.specs.declared.certificate.Certificate.TheVariants as certificates
 use Rattle.cert_text.specs.declared.head.Claim.{Claim}
 use Rattle.cert_text.specs.declared.head.Claim.TheVariants.{Mate, Escape}
-use Rattle.cert_text.specs.Reading.{Lacks, Form, FitsMate, mate_form, escape_form, AreGood, texts_of, end_line, Ends, HasLineFault, HasFaultBehind, HasLaterFault, HasFirstFault, IsFaultAs, IsHead, IsReadable, IsTextOf, IsCertificateAnswer, IsReadAs}
+use Rattle.cert_text.specs.Reading.{Lacks, AreGood, Ends, HasLineFault, HasFaultBehind, HasLaterFault, HasFirstFault, IsFaultAs, IsHead, IsReadableOf, IsReadable, IsTextOf, IsCertificateOutcome, IsReadAs}
 use Rattle.cert_text.proofs.Cuts.{lacks_both, not_lacks, cut_same, has, lacks_by, decimal_lacks, move_lacks, sfen_lacks}
-use Rattle.cert_text.proofs.Entries.{entry_fields, line_same}
+use Rattle.cert_text.proofs.Entries.{entry_fields, line_same, rank_small}
 use Rattle.cert_text.proofs.Heads.{one_head}
-use Rattle.cert_text.proofs.Bodies.{mate_text_of, escape_text_of}
+use Rattle.cert_text.proofs.Bodies.{listing_text_of, IsListingText}
 
 -- The laws of texts that the lemmas below rest on.
 pub record Laws : Type 0 where
-  pub apart : TextsApart
+  pub apart : PositionTextsApart
   pub lines : TextsAreLines
   pub moves : MovesApart
 
@@ -43,8 +48,8 @@ record IsEntryLine (text : List ℕ) : Type 0 where
 
 -- Entries that fit are lines other than `end`, and no two have one text.
 record AreTold {Entry : Type 0} (form : Form Entry) : Type 0 where
-  lines : (entry : Entry) → form.Fits entry → IsEntryLine (form.text_of entry)
-  apart : (one two : Entry) → form.Fits one → form.Fits two → form.text_of one ≡ form.text_of two → one ≡ two
+  lines : (entry : Entry) → MayBeListed form entry → IsEntryLine (form.text_of entry)
+  apart : (one two : Entry) → MayBeListed form one → MayBeListed form two → form.text_of one ≡ form.text_of two → one ≡ two
 
 end_lacks : (d : ℕ) → has d (codes "end") ≡ false → Lacks d (codes "end")
 end_lacks d e = lacks_by d (codes "end") e
@@ -57,32 +62,39 @@ sfen_spaced : (b : Board) → sfen_of b ≡ codes "end" → ⊥
 unfolding sfen_of
 sfen_spaced b e = spaced_no_end (board_text b.cells) (side_letter b.side ∷ 32 ∷ hands_text b.black b.white) e
 
-rank_apart : (m n : ℕ) → m ≤ 999999999 → n ≤ 999999999 → decimal m ≡ decimal n → m ≡ n
-rank_apart m n p q e = decimal_injective m n (omega arith) (omega arith) e
+rank_same : (a b : Rank) → a.number ≡ b.number → a ≡ b
+rank_same a b h = λ i. record {
+  number = h i;
+  some = is_prop→PathP (λ j. 1 ≤ h j) (λ j. le_prop) a.some b.some i;
+  within = is_prop→PathP (λ j. h j ≤ MOST_RANK) (λ j. le_prop) a.within b.within i;
+}
+
+rank_apart : (a b : Rank) → decimal a.number ≡ decimal b.number → a ≡ b
+rank_apart a b e = rank_same a b (decimal_injective a.number b.number (rank_small a) (rank_small b) e)
 
 mate_same : (one two : MateEntry) → one.rank ≡ two.rank → one.by ≡ two.by → one.at ≡ two.at → one ≡ two
 mate_same one two r m p = λ i. record { rank = r i; by = m i; at = p i }
 
 module _ (laws : Laws) where
-  mate_line_of : (problem : Board) (entry : MateEntry) → FitsMate problem entry → IsEntryLine (mate_entry_text entry)
+  mate_line_of : (problem : Board) (entry : MateEntry) → MayBeListed (mate_form problem) entry → IsEntryLine (mate_entry_text entry)
   mate_line_of problem entry fits = record {
-    inside = decimal entry.rank ++ 32 ∷ move_text entry.by ++ 32 ∷ sfen_of entry.at;
+    inside = decimal entry.rank.number ++ 32 ∷ move_text entry.by ++ 32 ∷ sfen_of entry.at;
     is_line = refl;
-    lacks = lacks_both 10 (decimal entry.rank ++ 32 ∷ move_text entry.by) (32 ∷ sfen_of entry.at)
-        (lacks_both 10 (decimal entry.rank) (32 ∷ move_text entry.by) (decimal_lacks 10 entry.rank (omega arith) (omega (arith, fits.to))) ((λ (e : 32 ≡ 10). omega arith), move_lacks 10 entry.by (omega arith)))
+    lacks = lacks_both 10 (decimal entry.rank.number ++ 32 ∷ move_text entry.by) (32 ∷ sfen_of entry.at)
+        (lacks_both 10 (decimal entry.rank.number) (32 ∷ move_text entry.by) (decimal_lacks 10 entry.rank.number (omega arith) (rank_small entry.rank)) ((λ (e : 32 ≡ 10). omega arith), move_lacks 10 entry.by (omega arith)))
         ((λ (e : 32 ≡ 10). omega arith), sfen_lacks laws.lines entry.at fits.kept);
-    no_end = λ e. spaced_no_end (decimal entry.rank ++ 32 ∷ move_text entry.by) (sfen_of entry.at) e;
+    no_end = λ e. spaced_no_end (decimal entry.rank.number ++ 32 ∷ move_text entry.by) (sfen_of entry.at) e;
   }
 
-  mate_apart : (problem : Board) (one two : MateEntry) → FitsMate problem one → FitsMate problem two → mate_entry_text one ≡ mate_entry_text two → one ≡ two
+  mate_apart : (problem : Board) (one two : MateEntry) → MayBeListed (mate_form problem) one → MayBeListed (mate_form problem) two → mate_entry_text one ≡ mate_entry_text two → one ≡ two
   mate_apart problem one two f g e =
-      let text = decimal one.rank ++ 32 ∷ move_text one.by ++ 32 ∷ sfen_of one.at in
+      let text = decimal one.rank.number ++ 32 ∷ move_text one.by ++ 32 ∷ sfen_of one.at in
       let mine = entry_fields one text refl in
       let other = entry_fields two text (sym e) in
-      let first = cut_same 32 (decimal one.rank) (move_text one.by ++ 32 ∷ sfen_of one.at) (decimal two.rank) (move_text two.by ++ 32 ∷ sfen_of two.at)
-      (decimal_lacks 32 one.rank (omega arith) (omega (arith, f.to))) (decimal_lacks 32 two.rank (omega arith) (omega (arith, g.to))) (sym mine ∙ other) in
+      let first = cut_same 32 (decimal one.rank.number) (move_text one.by ++ 32 ∷ sfen_of one.at) (decimal two.rank.number) (move_text two.by ++ 32 ∷ sfen_of two.at)
+      (decimal_lacks 32 one.rank.number (omega arith) (rank_small one.rank)) (decimal_lacks 32 two.rank.number (omega arith) (rank_small two.rank)) (sym mine ∙ other) in
       let second = cut_same 32 (move_text one.by) (sfen_of one.at) (move_text two.by) (sfen_of two.at) (move_lacks 32 one.by (omega arith)) (move_lacks 32 two.by (omega arith)) first.1 in
-      mate_same one two (rank_apart one.rank two.rank f.to g.to first.0) (laws.moves one.by two.by second.0) (laws.apart one.at two.at f.kept g.kept second.1)
+      mate_same one two (rank_apart one.rank two.rank first.0) (laws.moves one.by two.by second.0) (laws.apart one.at two.at f.kept g.kept second.1)
 
   mate_told : (problem : Board) → AreTold (mate_form problem)
   mate_told problem = record { lines = mate_line_of problem; apart = mate_apart problem }
@@ -100,7 +112,7 @@ line_cut xs ys s r p q e = cut_same 10 xs s ys r p q (sym (append_assoc xs (10 �
 
 module _ {Entry : Type 0} (form : Form Entry) (told : AreTold form) where
   -- An entry at the front of a text is the only one.
-  one_entry : (a b : Entry) (s r : List ℕ) → form.Fits a → form.Fits b → form.text_of a ++ s ≡ form.text_of b ++ r → (a ≡ b) × (s ≡ r)
+  one_entry : (a b : Entry) (s r : List ℕ) → MayBeListed form a → MayBeListed form b → form.text_of a ++ s ≡ form.text_of b ++ r → (a ≡ b) × (s ≡ r)
   one_entry a b s r f g e =
       let mine = told.lines a f in
       let other = told.lines b g in
@@ -109,7 +121,7 @@ module _ {Entry : Type 0} (form : Form Entry) (told : AreTold form) where
       (told.apart a b f g (mine.is_line ∙ (ap line parts.0 ∙ sym other.is_line)), parts.1)
 
   -- No entry stands where the line `end` does.
-  no_entry_at_end : (a : Entry) (behind rest : List ℕ) → form.Fits a → end_line ++ behind ≡ form.text_of a ++ rest → ⊥
+  no_entry_at_end : (a : Entry) (behind rest : List ℕ) → MayBeListed form a → end_line ++ behind ≡ form.text_of a ++ rest → ⊥
   no_entry_at_end a behind rest f e =
       let mine = told.lines a f in
       let parts = line_cut (codes "end") mine.inside behind rest (end_lacks 10 refl) mine.lacks (e ∙ ap (λ (t : List ℕ). t ++ rest) mine.is_line) in
@@ -122,7 +134,7 @@ module _ {Entry : Type 0} (form : Form Entry) (told : AreTold form) where
 
   -- No further entry that rises stands in the text.
   abbrev Stops : List Entry → List ℕ → Type 0
-  Stops entries text = (next : Entry) (rest : List ℕ) → form.Fits next → text ≡ form.text_of next ++ rest → IsRising (map form.at (entries ++ next ∷ [])) → ⊥
+  Stops entries text = (next : Entry) (rest : List ℕ) → MayBeListed form next → text ≡ form.text_of next ++ rest → IsRising (map form.at (entries ++ next ∷ [])) → ⊥
 
   end_stops : (entries : List Entry) (text behind : List ℕ) → text ≡ end_line ++ behind → Stops entries text
   end_stops entries text behind p next rest f e rising = no_entry_at_end next behind rest f (sym p ∙ e)
@@ -132,29 +144,29 @@ module _ {Entry : Type 0} (form : Form Entry) (told : AreTold form) where
       let mine = told.lines next f in
       not_lacks 10 mine.inside rest (subst (Lacks 10) (e ∙ (ap (λ (t : List ℕ). t ++ rest) mine.is_line ∙ append_assoc mine.inside (10 ∷ []) rest)) lack)
 
-  bad_stops : (entries : List Entry) (bad more : List ℕ) → Lacks 10 bad → ((entry : Entry) → form.Fits entry → form.text_of entry ≡ line bad → ⊥) → Stops entries (line bad ++ more)
+  bad_stops : (entries : List Entry) (bad more : List ℕ) → Lacks 10 bad → ((entry : Entry) → MayBeListed form entry → form.text_of entry ≡ line bad → ⊥) → Stops entries (line bad ++ more)
   bad_stops entries bad more lack none next rest f e rising =
       let mine = told.lines next f in
       let parts = line_cut bad mine.inside more rest lack mine.lacks (e ∙ ap (λ (t : List ℕ). t ++ rest) mine.is_line) in
       none next f (mine.is_line ∙ ap line (sym parts.0))
 
-  fall_stops : (entries : List Entry) (entry : Entry) (more : List ℕ) → form.Fits entry → (IsRising (map form.at (entries ++ entry ∷ [])) → ⊥) → Stops entries (form.text_of entry ++ more)
+  fall_stops : (entries : List Entry) (entry : Entry) (more : List ℕ) → MayBeListed form entry → (IsRising (map form.at (entries ++ entry ∷ [])) → ⊥) → Stops entries (form.text_of entry ++ more)
   fall_stops entries entry more fits falls next rest f e rising =
       let one = one_entry entry next more rest fits f e in
       falls (subst (λ (x : Entry). IsRising (map form.at (entries ++ x ∷ []))) (sym one.0) rising)
 
   -- Two readings of one text are one.
-  same_entries : (front xs ys : List Entry) (s r : List ℕ) → AllByRecursion form.Fits xs → AllByRecursion form.Fits ys → IsRising (map form.at (front ++ xs)) → IsRising (map form.at (front ++ ys))
-      → texts_of form xs ++ s ≡ texts_of form ys ++ r → Stops (front ++ xs) s → Stops (front ++ ys) r → (xs ≡ ys) × (s ≡ r)
+  same_entries : (front xs ys : List Entry) (s r : List ℕ) → AllByRecursion (MayBeListed form) xs → AllByRecursion (MayBeListed form) ys → IsRising (map form.at (front ++ xs)) → IsRising (map form.at (front ++ ys))
+      → entries_text form xs ++ s ≡ entries_text form ys ++ r → Stops (front ++ xs) s → Stops (front ++ ys) r → (xs ≡ ys) × (s ≡ r)
   same_entries front [] [] s r p q rx ry e ss sr = (refl, e)
   same_entries front [] (y ∷ ys) s r p q rx ry e ss sr =
-      absurd (ss y (texts_of form ys ++ r) q.0 (e ∙ append_assoc (form.text_of y) (texts_of form ys) r)
+      absurd (ss y (entries_text form ys ++ r) q.0 (e ∙ append_assoc (form.text_of y) (entries_text form ys) r)
       (subst (λ (es : List Entry). IsRising (map form.at (es ++ y ∷ []))) (sym (append-nil front)) (rising_next front y ys ry)))
   same_entries front (x ∷ xs) [] s r p q rx ry e ss sr =
-      absurd (sr x (texts_of form xs ++ s) p.0 (sym e ∙ append_assoc (form.text_of x) (texts_of form xs) s)
+      absurd (sr x (entries_text form xs ++ s) p.0 (sym e ∙ append_assoc (form.text_of x) (entries_text form xs) s)
       (subst (λ (es : List Entry). IsRising (map form.at (es ++ x ∷ []))) (sym (append-nil front)) (rising_next front x xs rx)))
   same_entries front (x ∷ xs) (y ∷ ys) s r p q rx ry e ss sr =
-      let one = one_entry x y (texts_of form xs ++ s) (texts_of form ys ++ r) p.0 q.0 (sym (append_assoc (form.text_of x) (texts_of form xs) s) ∙ (e ∙ append_assoc (form.text_of y) (texts_of form ys) r)) in
+      let one = one_entry x y (entries_text form xs ++ s) (entries_text form ys ++ r) p.0 q.0 (sym (append_assoc (form.text_of x) (entries_text form xs) s) ∙ (e ∙ append_assoc (form.text_of y) (entries_text form ys) r)) in
       let left : front ++ x ∷ xs ≡ (front ++ x ∷ []) ++ xs = sym (append_assoc front (x ∷ []) xs) in
       let right : front ++ y ∷ ys ≡ (front ++ x ∷ []) ++ ys = ap (λ (z : Entry). front ++ z ∷ ys) (sym one.0) ∙ sym (append_assoc front (x ∷ []) ys) in
       let more = same_entries (front ++ x ∷ []) xs ys s r p.1 q.1 (subst (λ (es : List Entry). IsRising (map form.at es)) left rx) (subst (λ (es : List Entry). IsRising (map form.at es)) right ry)
@@ -164,7 +176,7 @@ module _ {Entry : Type 0} (form : Form Entry) (told : AreTold form) where
       (cc, more.1)
 
   -- Entries up to the line `end`, and another reading.
-  against : (entries others : List Entry) (bytes s : List ℕ) → Ends form entries bytes → AreGood form others → bytes ≡ texts_of form others ++ s → Stops others s → (entries ≡ others) × (end_line ≡ s)
+  against : (entries others : List Entry) (bytes s : List ℕ) → Ends form entries bytes → AreGood form others → bytes ≡ entries_text form others ++ s → Stops others s → (entries ≡ others) × (end_line ≡ s)
   against entries others bytes s ends good e stops =
       same_entries [] entries others end_line s ends.good.fit good.fit ends.good.rising good.rising (sym ends.text ∙ e) (end_stops entries end_line [] refl) stops
 
@@ -191,8 +203,8 @@ module _ {Entry : Type 0} (form : Form Entry) (told : AreTold form) where
   -- What stands where the good entries end, by the fault.
   abbrev AtStop : List Entry → List ℕ → CertFault → Type 0
   AtStop entries text faults.BadHead = ⊥
-  AtStop entries text (faults.BadLine number) = (number ≡ length entries + 1) × (bad : List ℕ) × (more : List ℕ) × Lacks 10 bad × (bad ≢ codes "end") × ((entry : Entry) → form.Fits entry → form.text_of entry ≡ line bad → ⊥) × (text ≡ line bad ++ more)
-  AtStop entries text (faults.NotRising number) = (number ≡ length entries + 1) × (next : Entry) × (more : List ℕ) × form.Fits next × (text ≡ form.text_of next ++ more)
+  AtStop entries text (faults.BadLine number) = (number ≡ length entries + 1) × (bad : List ℕ) × (more : List ℕ) × Lacks 10 bad × (bad ≢ codes "end") × ((entry : Entry) → MayBeListed form entry → form.text_of entry ≡ line bad → ⊥) × (text ≡ line bad ++ more)
+  AtStop entries text (faults.NotRising number) = (number ≡ length entries + 1) × (next : Entry) × (more : List ℕ) × MayBeListed form next × (text ≡ form.text_of next ++ more)
   AtStop entries text faults.NoEnd = Lacks 10 text ⊎ ((behind : List ℕ) × (behind ≢ []) × (text ≡ end_line ++ behind))
   AtStop entries text faults.WrongCount = text ≡ end_line
 
@@ -201,7 +213,7 @@ module _ {Entry : Type 0} (form : Form Entry) (told : AreTold form) where
     entries : List Entry
     good : AreGood form entries
     rest : List ℕ
-    text : bytes ≡ texts_of form entries ++ rest
+    text : bytes ≡ entries_text form entries ++ rest
     stops : Stops entries rest
     at : AtStop entries rest fault
 
@@ -244,7 +256,7 @@ module _ {Entry : Type 0} (form : Form Entry) (told : AreTold form) where
   line_not_open text bad more lack no_end e (inl none) = not_lacks 10 bad more (subst (Lacks 10) (e ∙ append_assoc bad (10 ∷ []) more) none)
   line_not_open text bad more lack no_end e (inr some) = no_end (line_cut bad (codes "end") more some.0 lack (end_lacks 10 refl) (sym e ∙ some.2)).0
 
-  entry_not_open : (text more : List ℕ) (next : Entry) → form.Fits next → text ≡ form.text_of next ++ more → Lacks 10 text ⊎ ((behind : List ℕ) × (behind ≢ []) × (text ≡ end_line ++ behind)) → ⊥
+  entry_not_open : (text more : List ℕ) (next : Entry) → MayBeListed form next → text ≡ form.text_of next ++ more → Lacks 10 text ⊎ ((behind : List ℕ) × (behind ≢ []) × (text ≡ end_line ++ behind)) → ⊥
   entry_not_open text more next fits e (inl none) = lacks_stops [] text none next more fits e tt
   entry_not_open text more next fits e (inr some) = no_entry_at_end next some.0 more fits (sym some.2 ∙ e)
 
@@ -291,11 +303,8 @@ moved a b m n p q x y fault ea em ep ex h =
     (subst (λ (k : ℕ). HasFaultBehind b k p x fault) em
     (subst (λ (c : Claim). HasFaultBehind c m p x fault) ea h)))
 
-mates_same : (c d : Mating) → d.problem ≡ c.problem → d.entries ≡ c.entries → d ≡ c
-mates_same c d p e = λ i. record { problem = p i; entries = e i }
-
-escapes_same : (c d : Escaping) → d.problem ≡ c.problem → d.entries ≡ c.entries → d ≡ c
-escapes_same c d p e = λ i. record { problem = p i; entries = e i }
+listings_same : {Entry : Type 0} (c d : Listing Entry) → d.problem ≡ c.problem → d.entries ≡ c.entries → d ≡ c
+listings_same c d p e = λ i. record { problem = p i; entries = e i }
 
 later_of : (bytes : List ℕ) (fault : CertFault) → HasFirstFault bytes fault → (fault ≡ faults.BadHead) ⊎ HasLaterFault bytes fault
 later_of bytes faults.BadHead h = inl refl
@@ -308,71 +317,69 @@ no_head_later : (bytes : List ℕ) (one two : CertFault) → HasFirstFault bytes
 no_head_later bytes one two h e k = (subst (HasFirstFault bytes) e h) k.claim k.count k.problem k.rest k.begins
 
 module _ (laws : Laws) where
-  mate_head : (c : Mating) (bytes : List ℕ) → IsReadable (certificates.Mate c) → IsTextOf (certificates.Mate c) bytes → IsHead Mate (length c.entries) (sfen_of c.problem) (texts_of (mate_form c.problem) c.entries ++ end_line) bytes
-  mate_head c bytes r t = record { is_count = r.count; is_line = sfen_lacks laws.lines c.problem r.kept; front = t.0; is_front = t.1; text = t.2 ∙ ap (λ (u : List ℕ). t.0 ++ u) (mate_text_of c.problem c.entries) }
+  -- The head of a certificate's text.
+  listing_head : {Entry : Type 0} (claim : Claim) (form : Form Entry) (c : Listing Entry) (bytes : List ℕ) → IsReadableOf form c → IsListingText claim form c bytes
+      → IsHead claim (length c.entries) (sfen_of c.problem) (entries_text form c.entries ++ end_line) bytes
+  listing_head claim form c bytes r t = record { is_count = r.count; is_line = sfen_lacks laws.lines c.problem r.kept; front = t.0; is_front = t.1; text = t.2 ∙ ap (λ (u : List ℕ). t.0 ++ u) (listing_text_of claim form c) }
 
-  escape_head : (c : Escaping) (bytes : List ℕ) → IsReadable (certificates.Escape c) → IsTextOf (certificates.Escape c) bytes → IsHead Escape (length c.entries) (sfen_of c.problem) (texts_of (escape_form c.problem) c.entries ++ end_line) bytes
-  escape_head c bytes r t = record { is_count = r.count; is_line = sfen_lacks laws.lines c.problem r.kept; front = t.0; is_front = t.1; text = t.2 ∙ ap (λ (u : List ℕ). t.0 ++ u) (escape_text_of c.problem c.entries) }
+  listing_no_fault : {Entry : Type 0} (claim : Claim) (form : Form Entry) → AreTold form → (c : Listing Entry) (bytes : List ℕ) (fault : CertFault)
+      → ((rest : List ℕ) → HasFaultBehind claim (length c.entries) c.problem rest fault → HasLineFault form (length c.entries) rest fault)
+      → IsReadableOf form c → IsListingText claim form c bytes → HasLaterFault bytes fault → ⊥
+  listing_no_fault claim form told c bytes fault behind r t k =
+      let rest = entries_text form c.entries ++ end_line in
+      let one = one_head k.claim claim k.count (length c.entries) (sfen_of k.problem) (sfen_of c.problem) k.rest rest bytes k.begins.head (listing_head claim form c bytes r t) in
+      no_fault form told c.entries (length c.entries) rest fault (record { good = r.good; text = refl }) refl
+      (behind rest (moved k.claim claim k.count (length c.entries) k.problem c.problem k.rest rest fault one.0 one.1 (laws.apart k.problem c.problem k.begins.kept r.kept one.2) one.3 k.later))
 
-  mate_no_fault : (c : Mating) (bytes : List ℕ) (fault : CertFault) → IsReadable (certificates.Mate c) → IsTextOf (certificates.Mate c) bytes → HasLaterFault bytes fault → ⊥
-  mate_no_fault c bytes fault r t k =
-      let rest = texts_of (mate_form c.problem) c.entries ++ end_line in
-      let one = one_head k.claim Mate k.count (length c.entries) (sfen_of k.problem) (sfen_of c.problem) k.rest rest bytes k.begins.head (mate_head c bytes r t) in
-      no_fault (mate_form c.problem) (mate_told laws c.problem) c.entries (length c.entries) rest fault (record { good = r.good; text = refl }) refl
-      (moved k.claim Mate k.count (length c.entries) k.problem c.problem k.rest rest fault one.0 one.1 (laws.apart k.problem c.problem k.begins.kept r.kept one.2) one.3 k.later)
-
-  escape_no_fault : (c : Escaping) (bytes : List ℕ) (fault : CertFault) → IsReadable (certificates.Escape c) → IsTextOf (certificates.Escape c) bytes → HasLaterFault bytes fault → ⊥
-  escape_no_fault c bytes fault r t k =
-      let rest = texts_of (escape_form c.problem) c.entries ++ end_line in
-      let one = one_head k.claim Escape k.count (length c.entries) (sfen_of k.problem) (sfen_of c.problem) k.rest rest bytes k.begins.head (escape_head c bytes r t) in
-      no_fault (escape_form c.problem) (escape_told laws c.problem) c.entries (length c.entries) rest fault (record { good = r.good; text = refl }) refl
-      (moved k.claim Escape k.count (length c.entries) k.problem c.problem k.rest rest fault one.0 one.1 (laws.apart k.problem c.problem k.begins.kept r.kept one.2) one.3 k.later)
+  one_listing : {Entry : Type 0} (claim : Claim) (form : Board → Form Entry) → ((problem : Board) → AreTold (form problem)) → (c d : Listing Entry) (bytes : List ℕ)
+      → IsReadableOf (form c.problem) c → IsListingText claim (form c.problem) c bytes → IsReadableOf (form d.problem) d → IsListingText claim (form d.problem) d bytes → d ≡ c
+  one_listing claim form told c d bytes r t k u =
+      let one = one_head claim claim (length d.entries) (length c.entries) (sfen_of d.problem) (sfen_of c.problem) (entries_text (form d.problem) d.entries ++ end_line) (entries_text (form c.problem) c.entries ++ end_line) bytes
+      (listing_head claim (form d.problem) d bytes k u) (listing_head claim (form c.problem) c bytes r t) in
+      let problems : d.problem ≡ c.problem = laws.apart d.problem c.problem k.kept r.kept one.2 in
+      let ends : Ends (form c.problem) d.entries (entries_text (form c.problem) c.entries ++ end_line)
+      = subst (λ (p : Board). Ends (form p) d.entries (entries_text (form c.problem) c.entries ++ end_line)) problems (record { good = k.good; text = sym one.3 }) in
+      listings_same c d problems (one_ends (form c.problem) (told c.problem) d.entries c.entries (entries_text (form c.problem) c.entries ++ end_line)
+      ends (record { good = r.good; text = refl }))
 
   one_mate : (c d : Mating) (bytes : List ℕ) → IsReadable (certificates.Mate c) → IsTextOf (certificates.Mate c) bytes → IsReadable (certificates.Mate d) → IsTextOf (certificates.Mate d) bytes → d ≡ c
-  one_mate c d bytes r t k u =
-      let one = one_head Mate Mate (length d.entries) (length c.entries) (sfen_of d.problem) (sfen_of c.problem) (texts_of (mate_form d.problem) d.entries ++ end_line) (texts_of (mate_form c.problem) c.entries ++ end_line) bytes
-      (mate_head d bytes k u) (mate_head c bytes r t) in
-      let problems : d.problem ≡ c.problem = laws.apart d.problem c.problem k.kept r.kept one.2 in
-      let good : AreGood (mate_form c.problem) d.entries = subst (λ (p : Board). AreGood (mate_form p) d.entries) problems k.good in
-      mates_same c d problems (one_ends (mate_form c.problem) (mate_told laws c.problem) d.entries c.entries (texts_of (mate_form c.problem) c.entries ++ end_line)
-      (record { good = good; text = sym one.3 }) (record { good = r.good; text = refl }))
+  one_mate c d bytes = one_listing Mate mate_form (mate_told laws) c d bytes
 
   one_escape : (c d : Escaping) (bytes : List ℕ) → IsReadable (certificates.Escape c) → IsTextOf (certificates.Escape c) bytes → IsReadable (certificates.Escape d) → IsTextOf (certificates.Escape d) bytes → d ≡ c
-  one_escape c d bytes r t k u =
-      let one = one_head Escape Escape (length d.entries) (length c.entries) (sfen_of d.problem) (sfen_of c.problem) (texts_of (escape_form d.problem) d.entries ++ end_line) (texts_of (escape_form c.problem) c.entries ++ end_line) bytes
-      (escape_head d bytes k u) (escape_head c bytes r t) in
-      let problems : d.problem ≡ c.problem = laws.apart d.problem c.problem k.kept r.kept one.2 in
-      let good : AreGood (escape_form c.problem) d.entries = subst (λ (p : Board). AreGood (escape_form p) d.entries) problems k.good in
-      escapes_same c d problems (one_ends (escape_form c.problem) (escape_told laws c.problem) d.entries c.entries (texts_of (escape_form c.problem) c.entries ++ end_line)
-      (record { good = good; text = sym one.3 }) (record { good = r.good; text = refl }))
+  one_escape c d bytes = one_listing Escape escape_form (escape_told laws) c d bytes
 
   claims_apart : (c : Mating) (d : Escaping) (bytes : List ℕ) → IsReadable (certificates.Mate c) → IsTextOf (certificates.Mate c) bytes → IsReadable (certificates.Escape d) → IsTextOf (certificates.Escape d) bytes → ⊥
   claims_apart c d bytes r t k u =
-      let one = one_head Mate Escape (length c.entries) (length d.entries) (sfen_of c.problem) (sfen_of d.problem) (texts_of (mate_form c.problem) c.entries ++ end_line) (texts_of (escape_form d.problem) d.entries ++ end_line) bytes
-      (mate_head c bytes r t) (escape_head d bytes k u) in
+      let one = one_head Mate Escape (length c.entries) (length d.entries) (sfen_of c.problem) (sfen_of d.problem) (entries_text (mate_form c.problem) c.entries ++ end_line) (entries_text (escape_form d.problem) d.entries ++ end_line) bytes
+      (listing_head Mate (mate_form c.problem) c bytes r t) (listing_head Escape (escape_form d.problem) d bytes k u) in
       let bad : ◌≡◌ {A = Claim} Mate Escape = one.0 in
       cc
 
+  -- No two certificates that can be read have one text.
+  pub texts_apart : (a b : Certificate) (bytes : List ℕ) → IsReadable a → IsReadable b → IsTextOf a bytes → IsTextOf b bytes → a ≡ b
+  texts_apart (certificates.Mate c) (certificates.Mate d) bytes r k t u = ap (λ (m : Mating). certificates.Mate m) (one_mate d c bytes k u r t)
+  texts_apart (certificates.Escape c) (certificates.Escape d) bytes r k t u = ap (λ (m : Escaping). certificates.Escape m) (one_escape d c bytes k u r t)
+  texts_apart (certificates.Mate c) (certificates.Escape d) bytes r k t u = absurd (claims_apart c d bytes r t k u)
+  texts_apart (certificates.Escape c) (certificates.Mate d) bytes r k t u = absurd (claims_apart d c bytes k u r t)
+
+  -- A certificate's text has no fault.
+  no_first_fault : (c : Certificate) (bytes : List ℕ) (fault : CertFault) → IsReadable c → IsTextOf c bytes → HasFirstFault bytes fault → ⊥
+  no_first_fault (certificates.Mate c) bytes fault r t h = elim (later_of bytes fault h) [
+    | inl head ↦ (subst (HasFirstFault bytes) head h) Mate (length c.entries) c.problem (entries_text (mate_form c.problem) c.entries ++ end_line)
+        (record { head = listing_head Mate (mate_form c.problem) c bytes r t; kept = r.kept; is_problem = r.is_problem })
+    | inr later ↦ listing_no_fault Mate (mate_form c.problem) (mate_told laws c.problem) c bytes fault (λ rest f. f) r t later
+  ]
+  no_first_fault (certificates.Escape c) bytes fault r t h = elim (later_of bytes fault h) [
+    | inl head ↦ (subst (HasFirstFault bytes) head h) Escape (length c.entries) c.problem (entries_text (escape_form c.problem) c.entries ++ end_line)
+        (record { head = listing_head Escape (escape_form c.problem) c bytes r t; kept = r.kept; is_problem = r.is_problem })
+    | inr later ↦ listing_no_fault Escape (escape_form c.problem) (escape_told laws c.problem) c bytes fault (λ rest f. f) r t later
+  ]
+
   -- A certificate that can be read is read, where the text is its.
-  pub read_again : (c : Certificate) (bytes : List ℕ) (answer : Result Certificate CertEnd) → IsReadable c → IsTextOf c bytes → IsCertificateAnswer bytes answer → IsReadAs c answer
-  read_again (certificates.Mate c) bytes (Ok (certificates.Mate d)) r t h = ap (λ (m : Mating). certificates.Mate m) (one_mate c d bytes r t h.0 h.1)
-  read_again (certificates.Mate c) bytes (Ok (certificates.Escape d)) r t h = absurd (claims_apart c d bytes r t h.0 h.1)
-  read_again (certificates.Mate c) bytes (Err ends.NoMemory) r t h = tt
-  read_again (certificates.Mate c) bytes (Err (ends.Fault faults.BadHead)) r t h =
-      h Mate (length c.entries) c.problem (texts_of (mate_form c.problem) c.entries ++ end_line) (record { head = mate_head c bytes r t; kept = r.kept; is_problem = r.is_problem })
-  read_again (certificates.Mate c) bytes (Err (ends.Fault (faults.BadLine n))) r t h = mate_no_fault c bytes (faults.BadLine n) r t h
-  read_again (certificates.Mate c) bytes (Err (ends.Fault (faults.NotRising n))) r t h = mate_no_fault c bytes (faults.NotRising n) r t h
-  read_again (certificates.Mate c) bytes (Err (ends.Fault faults.WrongCount)) r t h = mate_no_fault c bytes faults.WrongCount r t h
-  read_again (certificates.Mate c) bytes (Err (ends.Fault faults.NoEnd)) r t h = mate_no_fault c bytes faults.NoEnd r t h
-  read_again (certificates.Escape c) bytes (Ok (certificates.Escape d)) r t h = ap (λ (m : Escaping). certificates.Escape m) (one_escape c d bytes r t h.0 h.1)
-  read_again (certificates.Escape c) bytes (Ok (certificates.Mate d)) r t h = absurd (claims_apart d c bytes h.0 h.1 r t)
-  read_again (certificates.Escape c) bytes (Err ends.NoMemory) r t h = tt
-  read_again (certificates.Escape c) bytes (Err (ends.Fault faults.BadHead)) r t h =
-      h Escape (length c.entries) c.problem (texts_of (escape_form c.problem) c.entries ++ end_line) (record { head = escape_head c bytes r t; kept = r.kept; is_problem = r.is_problem })
-  read_again (certificates.Escape c) bytes (Err (ends.Fault (faults.BadLine n))) r t h = escape_no_fault c bytes (faults.BadLine n) r t h
-  read_again (certificates.Escape c) bytes (Err (ends.Fault (faults.NotRising n))) r t h = escape_no_fault c bytes (faults.NotRising n) r t h
-  read_again (certificates.Escape c) bytes (Err (ends.Fault faults.WrongCount)) r t h = escape_no_fault c bytes faults.WrongCount r t h
-  read_again (certificates.Escape c) bytes (Err (ends.Fault faults.NoEnd)) r t h = escape_no_fault c bytes faults.NoEnd r t h
+  pub read_again : (c : Certificate) (bytes : List ℕ) (outcome : Result Certificate CertEnd) → IsReadable c → IsTextOf c bytes → IsCertificateOutcome bytes outcome → IsReadAs c outcome
+  read_again c bytes (Ok d) r t h = texts_apart d c bytes h.0 r h.1 t
+  read_again c bytes (Err (ends.Fault fault)) r t h = no_first_fault c bytes fault r t h
+  read_again c bytes (Err ends.NoMemory) r t h = tt
 
   -- ---- faults
 
@@ -393,8 +400,8 @@ module _ (laws : Laws) where
     | inr mine ↦ elim (later_of bytes two k) [ inl other ↦ absurd (no_head_later bytes two one k other mine) | inr later ↦ later_same bytes one two mine later ]
   ]
 
-  -- A fault that is a text's first one is the answer to it.
-  pub read_fault : (fault : CertFault) (bytes : List ℕ) (answer : Result Certificate CertEnd) → HasFirstFault bytes fault → IsCertificateAnswer bytes answer → IsFaultAs fault answer
-  read_fault fault bytes (Ok c) first h = read_again c bytes (Err (ends.Fault fault)) h.0 h.1 first
+  -- A fault that is a text's first one is the outcome to it.
+  pub read_fault : (fault : CertFault) (bytes : List ℕ) (outcome : Result Certificate CertEnd) → HasFirstFault bytes fault → IsCertificateOutcome bytes outcome → IsFaultAs fault outcome
+  read_fault fault bytes (Ok c) first h = no_first_fault c bytes fault h.0 h.1 first
   read_fault fault bytes (Err (ends.Fault found)) first h = first_same bytes found fault h first
   read_fault fault bytes (Err ends.NoMemory) first h = tt

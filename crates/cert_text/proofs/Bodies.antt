@@ -1,24 +1,28 @@
 -- What was read behind a head, and what is read next.
-use Rattle.std.proofs.Common.{inl, inr, ◌≡◌, ◌≢◌, ◌+◌, ℕ, List, [], ◌∷◌, ◌++◌, length, map, Ok, Err, refl, sym, ap, subst, ◌∙◌, append_assoc}
-use Rattle.std.specs.Prelude.{codes, ◌↔◌}
-use Rattle.std.specs.List.{flat_map}
+use Rattle.std.proofs.Common.{inl, inr, ◌≡◌, ◌≢◌, ◌<◌, ◌+◌, ℕ, List, [], ◌∷◌, ◌++◌, length, map, take, get_or, Ok, Err, refl, sym, ap, subst, ◌∙◌, append_assoc}
+use Rattle.std.specs.Prelude.{codes, ◌↔◌, Result}
+use Rattle.std.specs.Result.{IsErr, IsErrAnd}
+use Rattle.std.specs.List.{AllByRecursion}
 use Rattle.std.specs.Ordering.{nat_cmp}
 use Rattle.std.specs.Cmp.Lexicographic.{slice_cmp}
 use Rattle.std.specs.declared.cmp.Ordering.TheVariants.{Less}
-use Rattle.std.proofs.lemmas.List.{flat_map_more, append-nil}
-use Rattle.board_core.specs.declared.moves.MateEntry.{MateEntry}
+use Rattle.std.proofs.lemmas.List.{flat_map_more, append-nil, take_more}
 use Rattle.board_core.specs.Board.{Board}
 use Rattle.board_core.specs.Kept.{IsKept}
 use Rattle.shogi_rules.specs.Tsume.{IsProblem}
 use Rattle.sfen_text.specs.Spelling.{sfen_of}
 use Rattle.sfen_text.specs.Laws.{TextsHaveBytes}
-use Rattle.cert_text.specs.Certificate.{IsBefore, IsRising}
-use Rattle.cert_text.specs.Text.{line, mate_entry_text, escape_entry_text, mate_certificate_text, escape_certificate_text}
+use Rattle.cert_text.specs.Entries.{line}
+use Rattle.cert_text.specs.Certificate.{Listing, IsBefore, IsRising, Form, MayBeListed}
+use Rattle.cert_text.specs.Text.{claim_text, entries_text, end_line, listing_text}
+use Rattle.cert_text.specs.declared.certificate.Certificate.{Certificate}
 use Rattle.cert_text.specs.declared.fault.CertFault.{CertFault}
 use Rattle.cert_text.specs.declared.fault.CertFault.TheVariants as faults
-use Rattle.cert_text.specs.declared.head.Claim.TheVariants.{Mate, Escape}
-use Rattle.cert_text.specs.declared.certificate.Certificate.TheVariants as certificates
-use Rattle.cert_text.specs.Reading.{IsReadCount, claim_text, IsHead, IsCertificateAnswer, Lacks, headed, Form, mate_form, escape_form, texts_of, end_line, HasBadLine, HasFallingLine, HasNoEnd, Ends, HasLineFault, IsEndFault, HasRead}
+use Rattle.cert_text.specs.declared.fault.CertEnd.{CertEnd}
+use Rattle.cert_text.specs.declared.fault.CertEnd.TheVariants as ends
+use Rattle.cert_text.specs.declared.head.Claim.{Claim}
+use Rattle.cert_text.specs.Reading.{IsReadCount, IsFrontOrNone, IsHead, Lacks, headed_text, HasBadLine, HasFallingLine, HasNoEnd, Ends, HasLineFault, HasFaultBehind, BeginsWith, IsReadableOf, IsCertificateOutcome}
+use Rattle.cert_text.specs.Scan.{IsEntriesEnd, IsEndFault, HasRead}
 use Rattle.cert_text.proofs.Cuts.{empty_before, all_push}
 
 -- ---- rising lists
@@ -59,24 +63,49 @@ read_none form text bytes = record {
 entry_first : (rest text more entry : List ℕ) → rest ≡ text ++ 10 ∷ more → entry ≡ line text → rest ≡ entry ++ more
 entry_first rest text more entry p e = p ∙ (sym (append_assoc text (10 ∷ []) more) ∙ ap (λ (t : List ℕ). t ++ more) (sym e))
 
-texts_push : {A : Type 0} (form : Form A) (entries : List A) (entry : A) → texts_of form (entries ++ entry ∷ []) ≡ texts_of form entries ++ form.text_of entry
+texts_push : {A : Type 0} (form : Form A) (entries : List A) (entry : A) → entries_text form (entries ++ entry ∷ []) ≡ entries_text form entries ++ form.text_of entry
 texts_push form entries entry = sym (flat_map_more form.text_of [] entries entry)
 
 pub read_more : {A : Type 0} (form : Form A) (bytes : List ℕ) (entries : List A) (rest last text more : List ℕ) (entry : A) → HasRead form bytes entries rest last
-    → rest ≡ text ++ 10 ∷ more → form.Fits entry → form.text_of entry ≡ line text → slice_cmp nat_cmp last (sfen_of (form.at entry)) ≡ Less
+    → rest ≡ text ++ 10 ∷ more → MayBeListed form entry → form.text_of entry ≡ line text → slice_cmp nat_cmp last (sfen_of (form.at entry)) ≡ Less
     → HasRead form bytes (entries ++ entry ∷ []) more (sfen_of (form.at entry))
 read_more form bytes entries rest last text more entry read p fits e before =
     let rising = (read.follows entry).0 before in record {
-      good = record { fit = all_push form.Fits entries entry read.good.fit fits; rising = rising };
-      so_far = read.so_far ∙ (ap (λ (t : List ℕ). texts_of form entries ++ t) (entry_first rest text more (form.text_of entry) p e)
-          ∙ (sym (append_assoc (texts_of form entries) (form.text_of entry) more) ∙ ap (λ (t : List ℕ). t ++ more) (sym (texts_push form entries entry))));
+      good = record { fit = all_push (MayBeListed form) entries entry read.good.fit fits; rising = rising };
+      so_far = read.so_far ∙ (ap (λ (t : List ℕ). entries_text form entries ++ t) (entry_first rest text more (form.text_of entry) p e)
+          ∙ (sym (append_assoc (entries_text form entries) (form.text_of entry) more) ∙ ap (λ (t : List ℕ). t ++ more) (sym (texts_push form entries entry))));
       follows = λ next. follows_push form entries entry next rising;
     }
+
+-- The same, where the entry was put behind the others and its SFEN text stood in the line.
+pub read_on : {A : Type 0} (form : Form A) (bytes : List ℕ) (entries pushed : List A) (rest last text more sfen : List ℕ) (entry : A) → HasRead form bytes entries rest last
+    → rest ≡ text ++ 10 ∷ more → MayBeListed form entry → form.text_of entry ≡ line text → sfen ≡ sfen_of (form.at entry) → slice_cmp nat_cmp last sfen ≡ Less
+    → pushed ≡ entries ++ entry ∷ [] → HasRead form bytes pushed more sfen
+read_on form bytes entries pushed rest last text more sfen entry read p fits e same before is =
+    let next = read_more form bytes entries rest last text more entry read p fits e (subst (λ (s : List ℕ). slice_cmp nat_cmp last s ≡ Less) same before) in
+    subst (λ es. HasRead form bytes es more sfen) (sym is) (subst (λ (s : List ℕ). HasRead form bytes (entries ++ entry ∷ []) more s) (sym same) next)
+
+-- ---- writing on
+
+take_push : {A : Type 0} (xs : List A) (k : ℕ) (x : A) → k < length xs → x ≡ get_or xs k x → take (k + 1) xs ≡ take k xs ++ x ∷ []
+take_push xs k x lt is = take_more xs k x lt ∙ ap (λ y. take k xs ++ y ∷ []) (sym is)
+
+pub written_more : {A : Type 0} (form : Form A) (before head old new : List ℕ) (entries : List A) (k : ℕ) (x : A) → k < length entries → x ≡ get_or entries k x
+    → old ≡ before ++ (head ++ entries_text form (take k entries)) → new ≡ old ++ form.text_of x → new ≡ before ++ (head ++ entries_text form (take (k + 1) entries))
+written_more form before head old new entries k x lt is p q =
+    let texts = entries_text form (take k entries) in
+    let more : texts ++ form.text_of x ≡ entries_text form (take (k + 1) entries) = sym (texts_push form (take k entries) x) ∙ ap (entries_text form) (sym (take_push entries k x lt is)) in
+    q ∙ (ap (λ (t : List ℕ). t ++ form.text_of x) p ∙ (append_assoc before (head ++ texts) (form.text_of x)
+    ∙ ap (λ (t : List ℕ). before ++ t) (append_assoc head texts (form.text_of x) ∙ ap (λ (t : List ℕ). head ++ t) more)))
+
+pub all_take_more : {A : Type 0} (P : A → Type 0) (entries : List A) (k : ℕ) (x : A) → k < length entries → x ≡ get_or entries k x → AllByRecursion P (take k entries) → P x
+    → AllByRecursion P (take (k + 1) entries)
+all_take_more P entries k x lt is all p = subst (AllByRecursion P) (sym (take_push entries k x lt is)) (all_push P (take k entries) x all p)
 
 -- ---- the faults
 
 pub bad_line : {A : Type 0} (form : Form A) (bytes : List ℕ) (entries : List A) (rest last text more : List ℕ) → HasRead form bytes entries rest last
-    → rest ≡ text ++ 10 ∷ more → Lacks 10 text → text ≢ codes "end" → ((entry : A) → form.Fits entry → form.text_of entry ≡ line text → ⊥)
+    → rest ≡ text ++ 10 ∷ more → Lacks 10 text → text ≢ codes "end" → ((entry : A) → MayBeListed form entry → form.text_of entry ≡ line text → ⊥)
     → HasBadLine form (length entries + 1) bytes
 bad_line form bytes entries rest last text more read p lack no_end none = record {
   entries = entries;
@@ -87,11 +116,11 @@ bad_line form bytes entries rest last text more read p lack no_end none = record
   no_end = no_end;
   no_entry = none;
   rest = more;
-  text = read.so_far ∙ ap (λ (t : List ℕ). texts_of form entries ++ t) (entry_first rest text more (line text) p refl);
+  text = read.so_far ∙ ap (λ (t : List ℕ). entries_text form entries ++ t) (entry_first rest text more (line text) p refl);
 }
 
 pub falling_line : {A : Type 0} (form : Form A) (bytes : List ℕ) (entries : List A) (rest last text more : List ℕ) (entry : A) → HasRead form bytes entries rest last
-    → rest ≡ text ++ 10 ∷ more → form.Fits entry → form.text_of entry ≡ line text → (slice_cmp nat_cmp last (sfen_of (form.at entry)) ≡ Less → ⊥)
+    → rest ≡ text ++ 10 ∷ more → MayBeListed form entry → form.text_of entry ≡ line text → (slice_cmp nat_cmp last (sfen_of (form.at entry)) ≡ Less → ⊥)
     → HasFallingLine form (length entries + 1) bytes
 falling_line form bytes entries rest last text more entry read p fits e not_before = record {
   entries = entries;
@@ -101,7 +130,7 @@ falling_line form bytes entries rest last text more entry read p fits e not_befo
   fits = fits;
   falls = λ rising. not_before ((read.follows entry).1 rising);
   rest = more;
-  text = read.so_far ∙ ap (λ (t : List ℕ). texts_of form entries ++ t) (entry_first rest text more (form.text_of entry) p e);
+  text = read.so_far ∙ ap (λ (t : List ℕ). entries_text form entries ++ t) (entry_first rest text more (form.text_of entry) p e);
 }
 
 pub no_line_left : {A : Type 0} (form : Form A) (bytes : List ℕ) (entries : List A) (rest last : List ℕ) → HasRead form bytes entries rest last → Lacks 10 rest → HasNoEnd form bytes
@@ -114,7 +143,7 @@ pub ended : {A : Type 0} (form : Form A) (bytes : List ℕ) (entries : List A) (
     → rest ≡ text ++ 10 ∷ more → text ≡ codes "end" → more ≡ [] → Ends form entries bytes
 ended form bytes entries rest last text more read p e none = record {
   good = read.good;
-  text = read.so_far ∙ ap (λ (t : List ℕ). texts_of form entries ++ t) (at_end rest text more p e ∙ (ap (λ (t : List ℕ). end_line ++ t) none ∙ append-nil end_line));
+  text = read.so_far ∙ ap (λ (t : List ℕ). entries_text form entries ++ t) (at_end rest text more p e ∙ (ap (λ (t : List ℕ). end_line ++ t) none ∙ append-nil end_line));
 }
 
 pub end_fault : {A : Type 0} (form : Form A) (bytes : List ℕ) (entries : List A) (rest last text more : List ℕ) (count : ℕ) (fault : CertFault) → HasRead form bytes entries rest last
@@ -137,26 +166,39 @@ regroup : (a p b t e : List ℕ) → (((a ++ 10 ∷ []) ++ ((p ++ b) ++ 10 ∷ [
 regroup a p b t e = simp append_assoc
 
 -- The text of a head, of entries and of the end is the certificate's.
-pub mate_text_of : (problem : Board) (entries : List MateEntry) → mate_certificate_text (record { problem = problem; entries = entries }) ≡ headed Mate (length entries) (sfen_of problem) (texts_of (mate_form problem) entries ++ end_line)
-mate_text_of problem entries = regroup (claim_text Mate (length entries)) (codes "problem ") (sfen_of problem) (flat_map mate_entry_text entries) end_line
+pub listing_text_of : {A : Type 0} (claim : Claim) (form : Form A) (c : Listing A) → listing_text claim form c ≡ headed_text claim (length c.entries) (sfen_of c.problem) (entries_text form c.entries ++ end_line)
+listing_text_of claim form c = regroup (claim_text claim (length c.entries)) (codes "problem ") (sfen_of c.problem) (entries_text form c.entries) end_line
 
-pub escape_text_of : (problem : Board) (entries : List Board) → escape_certificate_text (record { problem = problem; entries = entries }) ≡ headed Escape (length entries) (sfen_of problem) (texts_of (escape_form problem) entries ++ end_line)
-escape_text_of problem entries = regroup (claim_text Escape (length entries)) (codes "problem ") (sfen_of problem) (flat_map escape_entry_text entries) end_line
+-- The text is the certificate's, perhaps behind the one front line.
+abbrev pub IsListingText : {A : Type 0} → Claim → Form A → Listing A → List ℕ → Type 0
+IsListingText claim form c bytes = (front : List ℕ) × IsFrontOrNone claim front × (bytes ≡ front ++ listing_text claim form c)
 
-pub mate_read : (bytes sfen rest : List ℕ) (count : ℕ) (problem : Board) (entries : List MateEntry) → IsHead Mate count sfen rest bytes → sfen ≡ sfen_of problem → IsKept problem → IsProblem problem → Ends (mate_form problem) entries rest → length entries ≡ count
-    → IsCertificateAnswer bytes (Ok (certificates.Mate (record { problem = problem; entries = entries })))
-mate_read bytes sfen rest count problem entries head s kept is_problem ends n =
-    let same : headed Mate count sfen rest ≡ headed Mate (length entries) (sfen_of problem) (texts_of (mate_form problem) entries ++ end_line) =
-    ap (λ (k : ℕ). headed Mate k sfen rest) (sym n) ∙ (ap (λ (t : List ℕ). headed Mate (length entries) t rest) s ∙ ap (λ (t : List ℕ). headed Mate (length entries) (sfen_of problem) t) ends.text) in (
+pub listing_read : {A : Type 0} (claim : Claim) (form : Form A) (bytes sfen rest : List ℕ) (count : ℕ) (c : Listing A) → IsHead claim count sfen rest bytes → sfen ≡ sfen_of c.problem → IsKept c.problem → IsProblem c.problem
+    → Ends form c.entries rest → length c.entries ≡ count → IsReadableOf form c × IsListingText claim form c bytes
+listing_read claim form bytes sfen rest count c head s kept is_problem ends n =
+    let same : headed_text claim count sfen rest ≡ headed_text claim (length c.entries) (sfen_of c.problem) (entries_text form c.entries ++ end_line) =
+    ap (λ (k : ℕ). headed_text claim k sfen rest) (sym n) ∙ (ap (λ (t : List ℕ). headed_text claim (length c.entries) t rest) s ∙ ap (λ (t : List ℕ). headed_text claim (length c.entries) (sfen_of c.problem) t) ends.text) in (
       record { kept = kept; is_problem = is_problem; count = subst IsReadCount (sym n) head.is_count; good = ends.good },
-      (head.front, head.is_front, head.text ∙ ap (λ (t : List ℕ). head.front ++ t) (same ∙ sym (mate_text_of problem entries))),
+      (head.front, head.is_front, head.text ∙ ap (λ (t : List ℕ). head.front ++ t) (same ∙ sym (listing_text_of claim form c))),
     )
 
-pub escape_read : (bytes sfen rest : List ℕ) (count : ℕ) (problem : Board) (entries : List Board) → IsHead Escape count sfen rest bytes → sfen ≡ sfen_of problem → IsKept problem → IsProblem problem → Ends (escape_form problem) entries rest → length entries ≡ count
-    → IsCertificateAnswer bytes (Ok (certificates.Escape (record { problem = problem; entries = entries })))
-escape_read bytes sfen rest count problem entries head s kept is_problem ends n =
-    let same : headed Escape count sfen rest ≡ headed Escape (length entries) (sfen_of problem) (texts_of (escape_form problem) entries ++ end_line) =
-    ap (λ (k : ℕ). headed Escape k sfen rest) (sym n) ∙ (ap (λ (t : List ℕ). headed Escape (length entries) t rest) s ∙ ap (λ (t : List ℕ). headed Escape (length entries) (sfen_of problem) t) ends.text) in (
-      record { kept = kept; is_problem = is_problem; count = subst IsReadCount (sym n) head.is_count; good = ends.good },
-      (head.front, head.is_front, head.text ∙ ap (λ (t : List ℕ). head.front ++ t) (same ∙ sym (escape_text_of problem entries))),
-    )
+-- The fault of the lines behind a head is the text's.
+pub fault_read : {A : Type 0} (claim : Claim) (form : Form A) (count : ℕ) (problem : Board) (rest bytes : List ℕ) (end : CertEnd)
+    → ((fault : CertFault) → HasLineFault form count rest fault → HasFaultBehind claim count problem rest fault)
+    → BeginsWith claim count problem rest bytes → IsEntriesEnd form count rest end → IsCertificateOutcome bytes (Err end)
+fault_read claim form count problem rest bytes ends.NoMemory f begins h = tt
+fault_read claim form count problem rest bytes (ends.Fault faults.BadHead) f begins h = absurd h
+fault_read claim form count problem rest bytes (ends.Fault (faults.BadLine n)) f begins h =
+    record { claim = claim; count = count; problem = problem; rest = rest; begins = begins; later = f (faults.BadLine n) h }
+fault_read claim form count problem rest bytes (ends.Fault (faults.NotRising n)) f begins h =
+    record { claim = claim; count = count; problem = problem; rest = rest; begins = begins; later = f (faults.NotRising n) h }
+fault_read claim form count problem rest bytes (ends.Fault faults.WrongCount) f begins h =
+    record { claim = claim; count = count; problem = problem; rest = rest; begins = begins; later = f faults.WrongCount h }
+fault_read claim form count problem rest bytes (ends.Fault faults.NoEnd) f begins h =
+    record { claim = claim; count = count; problem = problem; rest = rest; begins = begins; later = f faults.NoEnd h }
+
+-- What is passed on as it came is the same outcome.
+pub err_read : (bytes : List ℕ) (outcome : Result Certificate CertEnd) (end : CertEnd) → IsErr outcome → IsErrAnd outcome (λ found. found ≡ end) → IsCertificateOutcome bytes (Err end)
+    → IsCertificateOutcome bytes outcome
+err_read bytes (Ok c) end is same h = absurd (cc)
+err_read bytes (Err found) end is same h = subst (λ (e : CertEnd). IsCertificateOutcome bytes (Err e)) (sym same) h

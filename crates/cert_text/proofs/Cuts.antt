@@ -36,6 +36,10 @@ pub if_none : {A : Type 0} (r : Option A) (P Q : Type 0) → (P → Q) → IfNon
 if_none None P Q f h = f h
 if_none (Some x) P Q f h = tt
 
+pub if_none_always : {A : Type 0} (r : Option A) (P : Type 0) → P → IfNone r P
+if_none_always None P p = p
+if_none_always (Some x) P p = tt
+
 pub not_lacks : (d : ℕ) (xs ys : List ℕ) → Lacks d (xs ++ d ∷ ys) → ⊥
 not_lacks d [] ys h = h.0 refl
 not_lacks d (x ∷ xs) ys h = not_lacks d xs ys h.1

@@ -9,11 +9,14 @@ use Rattle.std.proofs.lemmas.Fmt.{decimal_injective}
 use Rattle.board_core.specs.declared.moves.Move.{Move}
 use Rattle.board_core.specs.Text.{HasText}
 use Rattle.usi_text.specs.MoveText.{move_text, IsRead}
-use Rattle.usi_text.specs.Lines.{spaced, mate_text, nomate_text, AllHaveText}
-use Rattle.cert_text.specs.Text.{line}
+use Rattle.usi_text.specs.Lines.{spaced_move, mate_text, nomate_text, AllHaveText}
+use Rattle.cert_text.specs.declared.limits.TheConstants.{MOST_ENTRIES}
+use Rattle.cert_text.specs.Entries.{line}
+use Rattle.cert_text.specs.Text.{claim_text}
 use Rattle.cert_text.specs.declared.head.Claim.{Claim}
 use Rattle.cert_text.specs.declared.head.Claim.TheVariants.{Mate, Escape}
-use Rattle.cert_text.specs.Reading.{Lacks, AreMoves, IsFrontLine, IsReadCount, claim_text, headed, IsHead}
+use Rattle.cert_text.specs.Reading.{Lacks, IsFrontLine, IsReadCount, headed_text, IsHead}
+use Rattle.cert_text.specs.Scan.{AreMoves}
 use Rattle.cert_text.proofs.Cuts.{all_push, lacks_both, not_lacks, cut_same, lacks_by, decimal_lacks, move_lacks, move_first}
 
 -- ---- first lines
@@ -28,7 +31,7 @@ one_claim Escape Escape m n p q e = let same : decimal m ≡ decimal n = cc in (
 one_claim Mate Escape m n p q e = let bad : ◌≡◌ {A = ℕ} 109 101 = cc in absurd (omega (arith, bad))
 one_claim Escape Mate m n p q e = let bad : ◌≡◌ {A = ℕ} 101 109 = cc in absurd (omega (arith, bad))
 
-pub no_mate_claim : (text digits : List ℕ) → text ≡ codes "certificate 1 mate " ++ digits → ((n : ℕ) → 1 ≤ n → n ≤ 1400000 → digits ≡ decimal n → ⊥) → (claim : Claim) (count : ℕ) → IsReadCount count → text ≡ claim_text claim count → ⊥
+pub no_mate_claim : (text digits : List ℕ) → text ≡ codes "certificate 1 mate " ++ digits → ((n : ℕ) → 1 ≤ n → n ≤ MOST_ENTRIES → digits ≡ decimal n → ⊥) → (claim : Claim) (count : ℕ) → IsReadCount count → text ≡ claim_text claim count → ⊥
 no_mate_claim text digits p none Mate count n e = let same : digits ≡ decimal count = cc in none count n.0 n.1 same
 no_mate_claim text digits p none Escape count n e = let bad : ◌≡◌ {A = ℕ} 109 101 = cc in omega (arith, bad)
 
@@ -36,12 +39,12 @@ pub no_claim : (text : List ℕ) → ((rest : List ℕ) → text ≡ codes "cert
 no_claim text m e Mate count n h = m (decimal count) h
 no_claim text m e Escape count n h = e (decimal count) h
 
-pub no_escape_claim : (text digits : List ℕ) → text ≡ codes "certificate 1 escape " ++ digits → ((n : ℕ) → 1 ≤ n → n ≤ 1400000 → digits ≡ decimal n → ⊥) → (claim : Claim) (count : ℕ) → IsReadCount count → text ≡ claim_text claim count → ⊥
+pub no_escape_claim : (text digits : List ℕ) → text ≡ codes "certificate 1 escape " ++ digits → ((n : ℕ) → 1 ≤ n → n ≤ MOST_ENTRIES → digits ≡ decimal n → ⊥) → (claim : Claim) (count : ℕ) → IsReadCount count → text ≡ claim_text claim count → ⊥
 no_escape_claim text digits p none Escape count n e = let same : digits ≡ decimal count = cc in none count n.0 n.1 same
 no_escape_claim text digits p none Mate count n e = let bad : ◌≡◌ {A = ℕ} 101 109 = cc in omega (arith, bad)
 
 -- The first line of a head, and what stands behind it.
-pub headed_cut : (text first more : List ℕ) (claim : Claim) (count : ℕ) (sfen rest : List ℕ) → text ≡ first ++ 10 ∷ more → Lacks 10 first → IsReadCount count → text ≡ headed claim count sfen rest
+pub headed_cut : (text first more : List ℕ) (claim : Claim) (count : ℕ) (sfen rest : List ℕ) → text ≡ first ++ 10 ∷ more → Lacks 10 first → IsReadCount count → text ≡ headed_text claim count sfen rest
     → (first ≡ claim_text claim count) × (more ≡ codes "problem " ++ (sfen ++ 10 ∷ rest))
 headed_cut text first more claim count sfen rest p lack n e =
     cut_same 10 first more (claim_text claim count) (codes "problem " ++ (sfen ++ 10 ∷ rest)) lack (claim_lacks claim count n) (sym p ∙ e)
@@ -56,9 +59,9 @@ problem_cut more second behind sfen rest p lack is_line e =
     cut_same 10 second behind (codes "problem " ++ sfen) rest lack (problem_lacks sfen is_line) (sym p ∙ e)
 
 -- Without a front line a text begins with one head at most.
-pub one_bare : (a b : Claim) (m n : ℕ) (s t x y : List ℕ) → IsReadCount m → IsReadCount n → Lacks 10 s → Lacks 10 t → headed a m s x ≡ headed b n t y → (a ≡ b) × (m ≡ n) × (s ≡ t) × (x ≡ y)
+pub one_bare : (a b : Claim) (m n : ℕ) (s t x y : List ℕ) → IsReadCount m → IsReadCount n → Lacks 10 s → Lacks 10 t → headed_text a m s x ≡ headed_text b n t y → (a ≡ b) × (m ≡ n) × (s ≡ t) × (x ≡ y)
 one_bare a b m n s t x y p q sl tl e =
-    let first = headed_cut (headed a m s x) (claim_text a m) (codes "problem " ++ (s ++ 10 ∷ x)) b n t y refl (claim_lacks a m p) q e in
+    let first = headed_cut (headed_text a m s x) (claim_text a m) (codes "problem " ++ (s ++ 10 ∷ x)) b n t y refl (claim_lacks a m p) q e in
     let second = problem_cut (codes "problem " ++ (s ++ 10 ∷ x)) (codes "problem " ++ s) x t y refl (problem_lacks s sl) tl first.1 in
     let claims = one_claim a b m n p q first.0 in
     let line : codes "problem " ++ s ≡ codes "problem " ++ t = second.0 in
@@ -67,13 +70,13 @@ one_bare a b m n s t x y p q sl tl e =
 
 -- ---- front lines
 
-moves_lack : (ms : List Move) → Lacks 10 (flat_map spaced ms)
+moves_lack : (ms : List Move) → Lacks 10 (flat_map spaced_move ms)
 moves_lack [] = tt
-moves_lack (m ∷ ms) = ((λ (e : 32 ≡ 10). omega arith), lacks_both 10 (move_text m) (flat_map spaced ms) (move_lacks 10 m (omega arith)) (moves_lack ms))
+moves_lack (m ∷ ms) = ((λ (e : 32 ≡ 10). omega arith), lacks_both 10 (move_text m) (flat_map spaced_move ms) (move_lacks 10 m (omega arith)) (moves_lack ms))
 
 pub front_lacks : (claim : Claim) (text : List ℕ) → IsFrontLine claim text → Lacks 10 text
 front_lacks Escape text h = subst (Lacks 10) (sym h) (lacks_by 10 nomate_text refl)
-front_lacks Mate text h = subst (Lacks 10) (sym h.3) (lacks_both 10 (codes "checkmate") (flat_map spaced h.0) (lacks_by 10 (codes "checkmate") refl) (moves_lack h.0))
+front_lacks Mate text h = subst (Lacks 10) (sym h.3) (lacks_both 10 (codes "checkmate") (flat_map spaced_move h.0) (lacks_by 10 (codes "checkmate") refl) (moves_lack h.0))
 
 -- No front line is a first line.
 pub front_apart : (claim other : Claim) (count : ℕ) (text : List ℕ) → IsFrontLine claim text → text ≡ claim_text other count → ⊥
@@ -84,7 +87,7 @@ front_apart Mate Escape count text h e = let t : mate_text h.0 ≡ claim_text Es
 
 nomate_apart : (ms : List Move) → nomate_text ≡ mate_text ms → ⊥
 nomate_apart [] e = let bad : 32 ∷ codes "nomate" ≡ [] = cc in cc
-nomate_apart (m ∷ ms) e = let bad : move_text m ++ flat_map spaced ms ≡ codes "nomate" = cc in move_first m (flat_map spaced ms) (codes "omate") bad
+nomate_apart (m ∷ ms) e = let bad : move_text m ++ flat_map spaced_move ms ≡ codes "nomate" = cc in move_first m (flat_map spaced_move ms) (codes "omate") bad
 
 pub one_front : (a b : Claim) (text : List ℕ) → IsFrontLine a text → IsFrontLine b text → a ≡ b
 one_front Mate Mate text p q = refl
@@ -97,7 +100,7 @@ pub moves_front : (text rest : List ℕ) → text ≡ codes "checkmate" ++ rest 
 moves_front text rest e h = (h.0, h.1, h.2, e ∙ ap (λ (t : List ℕ). codes "checkmate" ++ t) h.3)
 
 pub front_moves : (text rest : List ℕ) → text ≡ codes "checkmate" ++ rest → IsFrontLine Mate text → AreMoves rest
-front_moves text rest e h = let t : codes "checkmate" ++ rest ≡ mate_text h.0 = sym e ∙ h.3 in let same : rest ≡ flat_map spaced h.0 = cc in (h.0, h.1, h.2, same)
+front_moves text rest e h = let t : codes "checkmate" ++ rest ≡ mate_text h.0 = sym e ∙ h.3 in let same : rest ≡ flat_map spaced_move h.0 = cc in (h.0, h.1, h.2, same)
 
 -- ---- moves, a space before each
 
@@ -112,8 +115,8 @@ moves_cut rest word more e lack (m ∷ [], lt, all, t) =
     let same : rest ≡ move_text m ++ [] = cc in
     absurd (not_lacks 32 word more (subst (Lacks 32) (sym same ∙ e) (lacks_both 32 (move_text m) [] (move_lacks 32 m (omega arith)) tt)))
 moves_cut rest word more e lack (m ∷ n ∷ ms, lt, all, t) =
-    let same : rest ≡ move_text m ++ 32 ∷ (move_text n ++ flat_map spaced ms) = cc in
-    let parts = cut_same 32 word more (move_text m) (move_text n ++ flat_map spaced ms) lack (move_lacks 32 m (omega arith)) (sym e ∙ same) in
+    let same : rest ≡ move_text m ++ 32 ∷ (move_text n ++ flat_map spaced_move ms) = cc in
+    let parts = cut_same 32 word more (move_text m) (move_text n ++ flat_map spaced_move ms) lack (move_lacks 32 m (omega arith)) (sym e ∙ same) in
     (record { move = m; has_text = all.0; text = parts.0 }, (n ∷ ms, omega arith, all.1, ap (λ (u : List ℕ). 32 ∷ u) parts.1))
 
 pub moves_last : (rest : List ℕ) → Lacks 32 rest → AreMoves (32 ∷ rest) → OneMove rest
@@ -125,8 +128,8 @@ moves_last rest lack (m ∷ [], lt, all, t) =
       append_nil [] = refl
       append_nil (x ∷ xs) = ap (λ (ys : List ℕ). x ∷ ys) (append_nil xs)
 moves_last rest lack (m ∷ n ∷ ms, lt, all, t) =
-    let same : rest ≡ move_text m ++ 32 ∷ (move_text n ++ flat_map spaced ms) = cc in
-    absurd (not_lacks 32 (move_text m) (move_text n ++ flat_map spaced ms) (subst (Lacks 32) same lack))
+    let same : rest ≡ move_text m ++ 32 ∷ (move_text n ++ flat_map spaced_move ms) = cc in
+    absurd (not_lacks 32 (move_text m) (move_text n ++ flat_map spaced_move ms) (subst (Lacks 32) same lack))
 
 pub no_move_read : (word : List ℕ) (r : Option Move) → is_some r ≡ false → IsRead word r → OneMove word → ⊥
 no_move_read word None e h one = h one.move one.has_text one.text
@@ -142,20 +145,20 @@ read_some word (Some m) one h = refl
 
 pub no_space : (text : List ℕ) → ((rest : List ℕ) → text ≡ 32 ∷ rest → ⊥) → AreMoves text → ⊥
 no_space text none ([], lt, all, t) = omega arith
-no_space text none (m ∷ ms, lt, all, t) = none (move_text m ++ flat_map spaced ms) t
+no_space text none (m ∷ ms, lt, all, t) = none (move_text m ++ flat_map spaced_move ms) t
 
-pub moves_push : (text rest word more : List ℕ) (done : List Move) (m : Move) → text ≡ flat_map spaced done ++ 32 ∷ rest → rest ≡ word ++ 32 ∷ more → word ≡ move_text m
-    → text ≡ flat_map spaced (done ++ m ∷ []) ++ 32 ∷ more
+pub moves_push : (text rest word more : List ℕ) (done : List Move) (m : Move) → text ≡ flat_map spaced_move done ++ 32 ∷ rest → rest ≡ word ++ 32 ∷ more → word ≡ move_text m
+    → text ≡ flat_map spaced_move (done ++ m ∷ []) ++ 32 ∷ more
 moves_push text rest word more done m p q e =
-    p ∙ (ap (λ (r : List ℕ). flat_map spaced done ++ 32 ∷ r) (q ∙ ap (λ (w : List ℕ). w ++ 32 ∷ more) e)
-    ∙ (sym (append_assoc (flat_map spaced done) (32 ∷ move_text m) (32 ∷ more)) ∙ ap (λ (t : List ℕ). t ++ 32 ∷ more) (flat_map_more spaced [] done m)))
+    p ∙ (ap (λ (r : List ℕ). flat_map spaced_move done ++ 32 ∷ r) (q ∙ ap (λ (w : List ℕ). w ++ 32 ∷ more) e)
+    ∙ (sym (append_assoc (flat_map spaced_move done) (32 ∷ move_text m) (32 ∷ more)) ∙ ap (λ (t : List ℕ). t ++ 32 ∷ more) (flat_map_more spaced_move [] done m)))
 
-pub moves_end : (text rest : List ℕ) (done : List Move) → text ≡ flat_map spaced done ++ 32 ∷ rest → AllHaveText done → OneMove rest → AreMoves text
+pub moves_end : (text rest : List ℕ) (done : List Move) → text ≡ flat_map spaced_move done ++ 32 ∷ rest → AllHaveText done → OneMove rest → AreMoves text
 moves_end text rest done p all one = (
   done ++ one.move ∷ [],
   omega (arith, length-append done (one.move ∷ [])),
   all_push HasText done one.move all one.has_text,
-  p ∙ (ap (λ (r : List ℕ). flat_map spaced done ++ 32 ∷ r) one.text ∙ flat_map_more spaced [] done one.move),
+  p ∙ (ap (λ (r : List ℕ). flat_map spaced_move done ++ 32 ∷ r) one.text ∙ flat_map_more spaced_move [] done one.move),
 )
 
 -- ---- heads behind a front line or none
@@ -165,47 +168,47 @@ regroup xs ys = append_assoc xs (10 ∷ []) ys
 
 -- A head behind the first line of a text: the line is its first one, or a front line.
 pub head_cut : (claim : Claim) (count : ℕ) (sfen rest bytes first more : List ℕ) → bytes ≡ first ++ 10 ∷ more → Lacks 10 first → IsHead claim count sfen rest bytes
-    → ((bytes ≡ headed claim count sfen rest) × (first ≡ claim_text claim count)) ⊎ (IsFrontLine claim first × (more ≡ headed claim count sfen rest))
+    → ((bytes ≡ headed_text claim count sfen rest) × (first ≡ claim_text claim count)) ⊎ (IsFrontLine claim first × (more ≡ headed_text claim count sfen rest))
 head_cut claim count sfen rest bytes first more p lack h = elim h.is_front [
-  | inl none ↦ (let t : bytes ≡ headed claim count sfen rest = h.text ∙ ap (λ (f : List ℕ). f ++ headed claim count sfen rest) none in
+  | inl none ↦ (let t : bytes ≡ headed_text claim count sfen rest = h.text ∙ ap (λ (f : List ℕ). f ++ headed_text claim count sfen rest) none in
       inl (t, (headed_cut bytes first more claim count sfen rest p lack h.is_count t).0))
-  | inr some ↦ (let t : bytes ≡ some.0 ++ 10 ∷ headed claim count sfen rest = h.text ∙ (ap (λ (f : List ℕ). f ++ headed claim count sfen rest) some.2 ∙ regroup some.0 (headed claim count sfen rest)) in
-      let parts = cut_same 10 first more some.0 (headed claim count sfen rest) lack (front_lacks claim some.0 some.1) (sym p ∙ t) in
+  | inr some ↦ (let t : bytes ≡ some.0 ++ 10 ∷ headed_text claim count sfen rest = h.text ∙ (ap (λ (f : List ℕ). f ++ headed_text claim count sfen rest) some.2 ∙ regroup some.0 (headed_text claim count sfen rest)) in
+      let parts = cut_same 10 first more some.0 (headed_text claim count sfen rest) lack (front_lacks claim some.0 some.1) (sym p ∙ t) in
       inr (subst (IsFrontLine claim) (sym parts.0) some.1, parts.1))
 ]
 
 pub no_line : (claim : Claim) (count : ℕ) (sfen rest bytes : List ℕ) → Lacks 10 bytes → IsHead claim count sfen rest bytes → ⊥
 no_line claim count sfen rest bytes lack h = elim h.is_front [
-  | inl none ↦ (let t : bytes ≡ headed claim count sfen rest = h.text ∙ ap (λ (f : List ℕ). f ++ headed claim count sfen rest) none in
+  | inl none ↦ (let t : bytes ≡ headed_text claim count sfen rest = h.text ∙ ap (λ (f : List ℕ). f ++ headed_text claim count sfen rest) none in
       not_lacks 10 (claim_text claim count) (codes "problem " ++ (sfen ++ 10 ∷ rest)) (subst (Lacks 10) t lack))
-  | inr some ↦ (let t : bytes ≡ some.0 ++ 10 ∷ headed claim count sfen rest = h.text ∙ (ap (λ (f : List ℕ). f ++ headed claim count sfen rest) some.2 ∙ regroup some.0 (headed claim count sfen rest)) in
-      not_lacks 10 some.0 (headed claim count sfen rest) (subst (Lacks 10) t lack))
+  | inr some ↦ (let t : bytes ≡ some.0 ++ 10 ∷ headed_text claim count sfen rest = h.text ∙ (ap (λ (f : List ℕ). f ++ headed_text claim count sfen rest) some.2 ∙ regroup some.0 (headed_text claim count sfen rest)) in
+      not_lacks 10 some.0 (headed_text claim count sfen rest) (subst (Lacks 10) t lack))
 ]
 
-pub bare_head : (claim : Claim) (count : ℕ) (sfen rest bytes : List ℕ) → IsReadCount count → Lacks 10 sfen → bytes ≡ headed claim count sfen rest → IsHead claim count sfen rest bytes
+pub bare_head : (claim : Claim) (count : ℕ) (sfen rest bytes : List ℕ) → IsReadCount count → Lacks 10 sfen → bytes ≡ headed_text claim count sfen rest → IsHead claim count sfen rest bytes
 bare_head claim count sfen rest bytes n lack e = record { is_count = n; is_line = lack; front = []; is_front = inl refl; text = e }
 
-pub fronted_head : (claim : Claim) (count : ℕ) (sfen rest bytes first more : List ℕ) → bytes ≡ first ++ 10 ∷ more → IsFrontLine claim first → IsReadCount count → Lacks 10 sfen → more ≡ headed claim count sfen rest → IsHead claim count sfen rest bytes
+pub fronted_head : (claim : Claim) (count : ℕ) (sfen rest bytes first more : List ℕ) → bytes ≡ first ++ 10 ∷ more → IsFrontLine claim first → IsReadCount count → Lacks 10 sfen → more ≡ headed_text claim count sfen rest → IsHead claim count sfen rest bytes
 fronted_head claim count sfen rest bytes first more p front n lack e = record {
   is_count = n;
   is_line = lack;
   front = line first;
   is_front = inr (first, front, refl);
-  text = p ∙ (ap (λ (t : List ℕ). first ++ 10 ∷ t) e ∙ sym (regroup first (headed claim count sfen rest)));
+  text = p ∙ (ap (λ (t : List ℕ). first ++ 10 ∷ t) e ∙ sym (regroup first (headed_text claim count sfen rest)));
 }
 
 -- A text begins with one head at most.
 pub one_head : (a b : Claim) (m n : ℕ) (s t x y bytes : List ℕ) → IsHead a m s x bytes → IsHead b n t y bytes → (a ≡ b) × (m ≡ n) × (s ≡ t) × (x ≡ y)
 one_head a b m n s t x y bytes h k = elim h.is_front [
   | inl none ↦ (
-      let u : bytes ≡ headed a m s x = h.text ∙ ap (λ (f : List ℕ). f ++ headed a m s x) none in
+      let u : bytes ≡ headed_text a m s x = h.text ∙ ap (λ (f : List ℕ). f ++ headed_text a m s x) none in
       elim (head_cut b n t y bytes (claim_text a m) (codes "problem " ++ (s ++ 10 ∷ x)) u (claim_lacks a m h.is_count) k) [
         | inl other ↦ one_bare a b m n s t x y h.is_count k.is_count h.is_line k.is_line (sym u ∙ other.0)
         | inr other ↦ absurd (front_apart b a m (claim_text a m) other.0 refl)
       ])
   | inr some ↦ (
-      let u : bytes ≡ some.0 ++ 10 ∷ headed a m s x = h.text ∙ (ap (λ (f : List ℕ). f ++ headed a m s x) some.2 ∙ regroup some.0 (headed a m s x)) in
-      elim (head_cut b n t y bytes some.0 (headed a m s x) u (front_lacks a some.0 some.1) k) [
+      let u : bytes ≡ some.0 ++ 10 ∷ headed_text a m s x = h.text ∙ (ap (λ (f : List ℕ). f ++ headed_text a m s x) some.2 ∙ regroup some.0 (headed_text a m s x)) in
+      elim (head_cut b n t y bytes some.0 (headed_text a m s x) u (front_lacks a some.0 some.1) k) [
         | inl other ↦ absurd (front_apart a b n some.0 some.1 other.1)
         | inr other ↦ one_bare a b m n s t x y h.is_count k.is_count h.is_line k.is_line other.1
       ])

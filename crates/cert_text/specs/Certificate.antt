@@ -1,23 +1,28 @@
 -- What a certificate is, before anybody has checked it.
-use Rattle.std.specs.Prelude.{◌≡◌, ◌≤◌, ℕ, List, [], ◌∷◌, Some, map, Contains, slice_get}
+use Rattle.std.specs.Prelude.{◌≡◌, ℕ, List, [], ◌∷◌, Some, map, Contains, slice_get}
 use Rattle.std.specs.Ordering.{nat_cmp}
 use Rattle.std.specs.Cmp.Lexicographic.{slice_cmp}
 use Rattle.std.specs.declared.cmp.Ordering.TheVariants.{Less}
-use Rattle.board_core.specs.declared.moves.MateEntry.{MateEntry}
+use Rattle.cert_text.specs.declared.entry.MateEntry.{MateEntry}
 use Rattle.board_core.specs.Board.{Board}
+use Rattle.board_core.specs.Kept.{IsKept}
 use Rattle.shogi_rules.specs.Tsume.{IsProblem}
 use Rattle.board_core.specs.Text.{HasText}
 use Rattle.sfen_text.specs.Spelling.{sfen_of}
+use Rattle.cert_text.specs.Entries.{mate_entry_text, escape_entry_text}
 
--- A mate's certificate: the problem, and for each of some positions a rank and a move.
-pub record Mating : Type 0 where
+-- A certificate: the problem that it is about, and its entries.
+pub record Listing (Entry : Type 0) : Type 0 where
   pub problem : Board
-  pub entries : List MateEntry
+  pub entries : List Entry
 
--- An escape's certificate: the problem, and some positions.
-pub record Escaping : Type 0 where
-  pub problem : Board
-  pub entries : List Board
+-- A mate's certificate: its entries are positions, each with a rank and a move.
+abbrev pub Mating : Type 0
+Mating = Listing MateEntry
+
+-- An escape's certificate: its entries are positions.
+abbrev pub Escaping : Type 0
+Escaping = Listing Board
 
 -- The one position comes before the other by the bytes of their SFEN texts.
 abbrev pub IsBefore : Board → Board → Type 0
@@ -33,27 +38,50 @@ IsRising (a ∷ b ∷ rest) = IsBefore a b × IsRising (b ∷ rest)
 abbrev pub AreApart : List Board → Type 0
 AreApart positions = (i j : ℕ) (b : Board) → slice_get positions i ≡ Some b → slice_get positions j ≡ Some b → i ≡ j
 
--- An entry's position is a problem of the certificate's side to move.
+-- A kind of entries: which may be listed in a certificate about a problem, the text of each, and its position.
+pub record Form (Entry : Type 0) : Type 1 where
+  pub Lists : Entry → Type 0
+  pub text_of : Entry → List ℕ
+  pub at : Entry → Board
+
+-- A position may be listed in a certificate about the problem: it is a problem of the same side to move.
 pub record IsEntry (problem position : Board) : Type 0 where
   pub is_problem : IsProblem position
   pub side : position.side ≡ problem.side
 
+-- A mate's entry may be listed in a certificate about the problem: its move has a text, and its position may be listed.
+pub record IsMateEntry (problem : Board) (entry : MateEntry) : Type 0 where
+  pub has_text : HasText entry.by
+  pub is_entry : IsEntry problem entry.at
+
+-- The entries of a mate.
+abbrev pub mate_form : Board → Form MateEntry
+mate_form problem = record { Lists = IsMateEntry problem; text_of = mate_entry_text; at = λ entry. entry.at }
+
+-- The entries of an escape.
+abbrev pub escape_form : Board → Form Board
+escape_form problem = record { Lists = IsEntry problem; text_of = escape_entry_text; at = λ position. position }
+
+-- An entry may stand in a text: it may be listed, and its position keeps what every position does.
+pub record MayBeListed {Entry : Type 0} (form : Form Entry) (entry : Entry) : Type 0 where
+  pub kept : IsKept (form.at entry)
+  pub listed : form.Lists entry
+
+-- What a certificate keeps: its problem is one, its entries rise by the bytes of their positions' SFEN texts, and each may be
+-- listed.
+pub record IsListing {Entry : Type 0} (form : Form Entry) (c : Listing Entry) : Type 0 where
+  pub is_problem : IsProblem c.problem
+  pub rising : IsRising (map form.at c.entries)
+  pub listed : (entry : Entry) → Contains c.entries entry → form.Lists entry
+
+-- What a mate's certificate keeps.
+abbrev pub IsMating : Mating → Type 0
+IsMating c = IsListing (mate_form c.problem) c
+
+-- What an escape's certificate keeps.
+abbrev pub IsEscaping : Escaping → Type 0
+IsEscaping c = IsListing (escape_form c.problem) c
+
 -- The positions of a mate's entries.
 abbrev pub positions_of : List MateEntry → List Board
 positions_of entries = map (λ entry. entry.at) entries
-
--- What a mate's certificate keeps: its problem is one, its entries rise by the bytes of their SFEN texts, they are problems
--- of the same side to move, ranks are at least 1, and each move has a text.
-pub record IsMating (c : Mating) : Type 0 where
-  pub is_problem : IsProblem c.problem
-  pub rising : IsRising (positions_of c.entries)
-  pub problems : (entry : MateEntry) → Contains c.entries entry → IsEntry c.problem entry.at
-  pub ranks : (entry : MateEntry) → Contains c.entries entry → 1 ≤ entry.rank
-  pub texts : (entry : MateEntry) → Contains c.entries entry → HasText entry.by
-
--- What an escape's certificate keeps: its problem is one, its entries rise by the bytes of their SFEN texts, and they are
--- problems of the same side to move.
-pub record IsEscaping (c : Escaping) : Type 0 where
-  pub is_problem : IsProblem c.problem
-  pub rising : IsRising c.entries
-  pub problems : (position : Board) → Contains c.entries position → IsEntry c.problem position

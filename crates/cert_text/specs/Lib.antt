@@ -1,3 +1,8 @@
+-- This project's: docs/formats.md.
+pub mod Entries
 pub mod Certificate
+pub mod Kinds
 pub mod Text
 pub mod Reading
+pub mod Scan
+pub mod Laws

@@ -1,99 +1,71 @@
 // Certificates as values.
-ghost use Rattle.std.specs.Prelude.{◌≡◌};
-ghost use Rattle.cert_text.specs.Certificate.{IsMating, IsEscaping, AreApart, positions_of};
+ghost use Rattle.std.specs.Prelude.{◌≡◌, length, map};
+ghost use Rattle.cert_text.specs.Certificate.{IsListing, AreApart};
+ghost use Rattle.cert_text.specs.Kinds.{claim_of, problem_of, positions_in, IsKeptBy};
 
-use board_core::{MateEntry, Position};
+use crate::{Claim, Entry, MateEntry};
+use board_core::Position;
 use shogi_rules::Problem;
 use std::marker::Model;
 
-/// The certificate of a mate: entries with a rank, the attacker's move and a position, in rising order of the bytes of
-/// their positions' SFEN texts.
+/// A certificate about a problem, with entries of one kind: they are in rising order of the bytes of their positions' SFEN
+/// texts, and each may be listed in a certificate about the problem.
 #[derive(Drop)]
-pub struct MateCertificate {
+pub struct CertificateOf<E: Entry> {
     problem: Problem,
-    entries: Vec<MateEntry>,
+    entries: Vec<E>,
 }
 
-impl Model for MateCertificate {
-    ghost use Rattle.cert_text.specs.Certificate.{Mating, IsMating};
+impl<E: Entry> Model for CertificateOf<E> {
+    ghost use Rattle.cert_text.specs.Certificate.{Listing, IsListing};
 
-    ghost Value = { Mating };
+    ghost Value = { Listing E };
 
     ghost view = { λ c. record { problem = c.problem.position; entries = c.entries.items } };
 
-    ghost invariant = { λ c. IsMating (record { problem = c.problem.position; entries = c.entries.items }) };
+    ghost invariant = { λ c. IsListing (E.form c.problem.position) (record { problem = c.problem.position; entries = c.entries.items }) };
 }
 
-impl MateCertificate {
+/// The certificate of a mate: entries with a rank, the attacker's move and a position.
+pub type MateCertificate = CertificateOf<MateEntry>;
+
+/// The certificate of an escape: positions.
+pub type EscapeCertificate = CertificateOf<Position>;
+
+impl<E: Entry> CertificateOf<E> {
     /// The certificate with these entries, which keep what a certificate keeps.
-    pub fn new(problem: Problem, entries: Vec<MateEntry>) -> MateCertificate
-        requires { IsMating (record { problem = problem.position; entries = entries.items }) }
+    pub fn new(problem: Problem, entries: Vec<E>) -> CertificateOf<E>
+        requires { IsListing (E.form problem.position) (record { problem = problem.position; entries = entries.items }) }
         ensures { result ≡ record { problem = problem.position; entries = entries.items } }
     {
-        MateCertificate { problem, entries }
+        CertificateOf { problem, entries }
     }
 
-    /// The problem that it speaks of.
+    /// The problem that it is about. Takes no memory.
     pub fn problem(&self) -> &Problem
         ensures problem { result.now.position ≡ self.now.problem }
-        ensures kept { IsMating self.now }
+        ensures kept { IsListing (E.form self.now.problem) self.now }
     {
         &self.problem
     }
 
-    /// Its entries, in rising order of the bytes of their positions' SFEN texts.
-    pub fn entries(&self) -> &[MateEntry]
+    /// Its entries, in rising order of the bytes of their positions' SFEN texts. Takes no memory.
+    pub fn entries(&self) -> &[E]
         ensures entries { result.now ≡ self.now.entries }
-        ensures kept { IsMating self.now }
+        ensures kept { IsListing (E.form self.now.problem) self.now }
         // No two entries have one position.
-        ensures apart { AreApart (positions_of self.now.entries) }
+        ensures apart { AreApart (map (E.form self.now.problem).at self.now.entries) }
     {
         &self.entries
     }
-}
 
-/// The certificate of an escape: positions in rising order of the bytes of their SFEN texts.
-#[derive(Drop)]
-pub struct EscapeCertificate {
-    problem: Problem,
-    entries: Vec<Position>,
-}
-
-impl Model for EscapeCertificate {
-    ghost use Rattle.cert_text.specs.Certificate.{Escaping, IsEscaping};
-
-    ghost Value = { Escaping };
-
-    ghost view = { λ c. record { problem = c.problem.position; entries = c.entries.items } };
-
-    ghost invariant = { λ c. IsEscaping (record { problem = c.problem.position; entries = c.entries.items }) };
-}
-
-impl EscapeCertificate {
-    /// The certificate with these entries, which keep what a certificate keeps.
-    pub fn new(problem: Problem, entries: Vec<Position>) -> EscapeCertificate
-        requires { IsEscaping (record { problem = problem.position; entries = entries.items }) }
-        ensures { result ≡ record { problem = problem.position; entries = entries.items } }
+    /// A law: what every certificate keeps. Does nothing; whoever speaks of a certificate's entries calls it to know this.
+    pub fn laws(&self)
+        ensures kept { IsListing (E.form self.now.problem) self.now }
+        // No two entries have one position.
+        ensures apart { AreApart (map (E.form self.now.problem).at self.now.entries) }
     {
-        EscapeCertificate { problem, entries }
-    }
-
-    /// The problem that it speaks of.
-    pub fn problem(&self) -> &Problem
-        ensures problem { result.now.position ≡ self.now.problem }
-        ensures kept { IsEscaping self.now }
-    {
-        &self.problem
-    }
-
-    /// Its positions, in rising order of the bytes of their SFEN texts.
-    pub fn entries(&self) -> &[Position]
-        ensures entries { result.now ≡ self.now.entries }
-        ensures kept { IsEscaping self.now }
-        // No position stands twice among them.
-        ensures apart { AreApart self.now.entries }
-    {
-        &self.entries
+        let _entries = self.entries();
     }
 }
 
@@ -104,4 +76,48 @@ pub enum Certificate {
     Mate(MateCertificate),
     /// It says that the problem is no mate.
     Escape(EscapeCertificate),
+}
+
+impl Certificate {
+    /// The problem that it is about. Takes no memory.
+    pub fn problem(&self) -> &Problem
+        ensures { result.now.position ≡ problem_of self.now }
+    {
+        match self {
+            Certificate::Mate(mate) => mate.problem(),
+            Certificate::Escape(escape) => escape.problem(),
+        }
+    }
+
+    /// What it claims of its problem. Takes no memory.
+    pub fn claim(&self) -> Claim
+        ensures { result ≡ claim_of self.now }
+    {
+        match self {
+            Certificate::Mate(_) => Claim::Mate,
+            Certificate::Escape(_) => Claim::Escape,
+        }
+    }
+
+    /// How many entries it lists. Takes no memory.
+    pub fn count(&self) -> usize
+        ensures { result ≡ length (positions_in self.now) }
+    {
+        match self {
+            Certificate::Mate(mate) => mate.entries().len(),
+            Certificate::Escape(escape) => escape.entries().len(),
+        }
+    }
+
+    /// A law: what every certificate keeps. Does nothing; whoever speaks of a certificate's entries calls it to know this.
+    pub fn laws(&self)
+        ensures kept { IsKeptBy self.now }
+        // No position is listed twice.
+        ensures apart { AreApart (positions_in self.now) }
+    {
+        match self {
+            Certificate::Mate(mate) => mate.laws(),
+            Certificate::Escape(escape) => escape.laws(),
+        }
+    }
 }

@@ -3,7 +3,6 @@ ghost use Rattle.std.specs.Prelude.{◌≡◌};
 ghost use Rattle.cert_text.specs.declared.fault.CertEnd.{CertEnd};
 ghost use Rattle.cert_text.specs.declared.fault.CertEnd.TheVariants as ends;
 
-use board_core::NoMemory;
 use std::alloc::{AllocError, AllocFailed};
 use std::fmt::{self, Write};
 
@@ -46,11 +45,11 @@ pub enum CertEnd {
     NoMemory,
 }
 
-impl From<NoMemory> for CertEnd {
-    ghost from_gives = { λ _ e. e ≡ ends.NoMemory };
+impl From<CertFault> for CertEnd {
+    ghost from_gives = { λ fault e. e ≡ ends.Fault fault };
 
-    fn from(_: NoMemory) -> Self {
-        CertEnd::NoMemory
+    fn from(fault: CertFault) -> Self {
+        CertEnd::Fault(fault)
     }
 }
 

@@ -1,21 +1,34 @@
 // Heads of certificates.
 ghost use Rattle.std.specs.Prelude.{◌≡◌, ◌↔◌, ℕ, List, IfSome, IfNone, IsTrue};
 ghost use Rattle.cert_text.specs.declared.head.Claim.{Claim};
-ghost use Rattle.cert_text.specs.Reading.{Lacks, AreMoves, IsFrontLine, IsReadCount, claim_text, headed, IsHead};
+ghost use Rattle.cert_text.specs.Text.{claim_word, claim_text};
+ghost use Rattle.cert_text.specs.Reading.{Lacks, IsFrontLine, IsReadCount, headed_text, IsHead};
+ghost use Rattle.cert_text.specs.Scan.{AreMoves};
 
-use crate::parts::{behind, cut, number_of};
+use crate::MOST_ENTRIES;
+use crate::parts::{behind, cut, number_of_text};
 use usi_text::read_move;
 
-// What a certificate claims of its problem.
+/// What a certificate claims of its problem.
 #[derive(Clone, Copy, PartialEq, Eq, Debug)]
-pub(crate) enum Claim {
-    // It is a mate.
+pub enum Claim {
+    /// It is a mate.
     Mate,
-    // It is none.
+    /// It is none.
     Escape,
 }
 
 impl Claim {
+    /// Its word in a certificate's first line: `mate` or `escape`.
+    pub fn word(self) -> &'static [u8]
+        ensures { result.now ≡ claim_word self }
+    {
+        match self {
+            Claim::Mate => b"mate",
+            Claim::Escape => b"escape",
+        }
+    }
+
     fn is_same(self, with: Claim) -> bool
         ensures { IsTrue result ↔ (self ≡ with) }
     {
@@ -50,7 +63,7 @@ fn are_moves(text: &[u8]) -> bool
 }
 
 // What the certificate behind this line claims, where it is a line that may stand in front of one.
-fn front_of(text: &[u8]) -> Option<Claim>
+fn claim_of_front(text: &[u8]) -> Option<Claim>
     ensures found { IfSome result (λ claim. IsFrontLine claim text.now) }
     ensures none { IfNone result ((claim : Claim) → IsFrontLine claim text.now → ⊥) }
 {
@@ -67,37 +80,29 @@ fn front_of(text: &[u8]) -> Option<Claim>
 }
 
 // The claim and the number of entries in a first line.
-fn claim_of(text: &[u8]) -> Option<(Claim, u32)>
+fn claim_of_line(text: &[u8]) -> Option<(Claim, u32)>
     ensures count { IfSome result (λ found. IsReadCount found.1) }
     ensures text { IfSome result (λ found. text.now ≡ claim_text found.0 found.1) }
     ensures none { IfNone result ((claim : Claim) (count : ℕ) → IsReadCount count → text.now ≡ claim_text claim count → ⊥) }
 {
     if let Some(digits) = behind(text, b"certificate 1 mate ") {
-        let Some(count) = number_of(digits, 1_400_000) else {
-            return None;
-        };
-        return Some((Claim::Mate, count));
+        return Some((Claim::Mate, number_of_text(digits, MOST_ENTRIES)?));
     }
-    let Some(digits) = behind(text, b"certificate 1 escape ") else {
-        return None;
-    };
-    let Some(count) = number_of(digits, 1_400_000) else {
-        return None;
-    };
-    Some((Claim::Escape, count))
+    let digits = behind(text, b"certificate 1 escape ")?;
+    Some((Claim::Escape, number_of_text(digits, MOST_ENTRIES)?))
 }
 
 // The head at the front of a text without a front line.
 fn bare_head_of(text: &[u8]) -> Option<Head<'_>>
     ensures count { IfSome result (λ head. IsReadCount head.count) }
     ensures sfen { IfSome result (λ head. Lacks 10 head.sfen.now) }
-    ensures text { IfSome result (λ head. text.now ≡ headed head.claim head.count head.sfen.now head.rest.now) }
-    ensures none { IfNone result ((claim : Claim) (count : ℕ) (sfen rest : List ℕ) → IsReadCount count → Lacks 10 sfen → text.now ≡ headed claim count sfen rest → ⊥) }
+    ensures text { IfSome result (λ head. text.now ≡ headed_text head.claim head.count head.sfen.now head.rest.now) }
+    ensures none { IfNone result ((claim : Claim) (count : ℕ) (sfen rest : List ℕ) → IsReadCount count → Lacks 10 sfen → text.now ≡ headed_text claim count sfen rest → ⊥) }
 {
     let Some((first, more)) = cut(text, b'\n') else {
         return None;
     };
-    let Some((claim, count)) = claim_of(first) else {
+    let Some((claim, count)) = claim_of_line(first) else {
         return None;
     };
     let Some((second, rest)) = cut(more, b'\n') else {
@@ -122,7 +127,7 @@ pub(crate) fn head_of(text: &[u8]) -> Option<Head<'_>>
     let Some((first, more)) = cut(text, b'\n') else {
         return None;
     };
-    let Some(claim) = front_of(first) else {
+    let Some(claim) = claim_of_front(first) else {
         return bare_head_of(text);
     };
     let Some(head) = bare_head_of(more) else {

@@ -8,13 +8,16 @@ ghost use Rattle.board_core.specs.Board.{Board};
 ghost use Rattle.board_core.specs.Kept.{IsKept};
 ghost use Rattle.shogi_rules.specs.Tsume.{IsProblem};
 ghost use Rattle.sfen_text.specs.Spelling.{sfen_of};
+ghost use Rattle.cert_text.specs.declared.rank.Rank.{Rank};
+ghost use Rattle.cert_text.specs.declared.limits.TheConstants.{MOST_RANK};
 ghost use Rattle.cert_text.specs.Reading.{Lacks};
 
-use board_core::{NoMemory, Position, Side};
+use crate::{MOST_RANK, Rank};
+use board_core::{Position, Side};
 use itoa::Buffer;
-use sfen_text::{read_sfen, sfen_laws, write_sfen};
+use sfen_text::{append_sfen, read_sfen, sfen_laws};
 use shogi_rules::{Problem, accept_problem};
-use std::alloc::Global;
+use std::alloc::AllocError;
 use std::cmp::Ordering;
 
 // What stands before the first such byte, and behind it.
@@ -39,6 +42,7 @@ pub(crate) fn behind<'a>(text: &'a [u8], front: &[u8]) -> Option<&'a [u8]>
     text.strip_prefix(front)
 }
 
+// Whether the one text comes before the other by its bytes.
 pub(crate) fn is_before(text: &[u8], with: &[u8]) -> bool
     ensures { IsTrue result ↔ (slice_cmp nat_cmp text.now with.now ≡ Less) }
 {
@@ -46,7 +50,7 @@ pub(crate) fn is_before(text: &[u8], with: &[u8]) -> bool
 }
 
 // A number below 2 ^ 32 by its digits, and perhaps others.
-fn value_of(text: &[u8]) -> Option<u32>
+fn value_of_text(text: &[u8]) -> Option<u32>
     ensures { (n : ℕ) → n < 2 ^ 32 → text.now ≡ decimal n → result ≡ Some n }
 {
     match std::str::from_utf8(text) {
@@ -62,30 +66,40 @@ fn is_decimal(text: &[u8], number: u32) -> bool
 }
 
 // The number from 1 to the limit whose text it is, without a leading zero.
-pub(crate) fn number_of(text: &[u8], limit: u32) -> Option<u32>
+pub(crate) fn number_of_text(text: &[u8], limit: u32) -> Option<u32>
     ensures from { IfSome result (λ number. 1 ≤ number) }
     ensures to { IfSome result (λ number. number ≤ limit) }
     ensures text { IfSome result (λ number. text.now ≡ decimal number) }
     ensures none { IfNone result ((number : ℕ) → 1 ≤ number → number ≤ limit → text.now ≡ decimal number → ⊥) }
 {
-    let number = value_of(text)?;
+    let number = value_of_text(text)?;
     if number < 1 || number > limit || !is_decimal(text, number) {
         return None;
     }
     Some(number)
 }
 
-fn is_spelled(alloc: Global, text: &[u8], position: &Position) -> Result<bool, NoMemory>
+// The rank whose text it is.
+pub(crate) fn rank_of_text(text: &[u8]) -> Option<Rank>
+    ensures text { IfSome result (λ rank. text.now ≡ decimal rank.number) }
+    ensures none { IfNone result ((rank : Rank) → text.now ≡ decimal rank.number → ⊥) }
+{
+    Rank::of(number_of_text(text, MOST_RANK)?)
+}
+
+fn is_spelled(text: &[u8], position: &Position, spelled: &mut Vec<u8>) -> Result<bool, AllocError>
     ensures { IfOk result (λ same. IsTrue same ↔ (text.now ≡ sfen_of position.now)) }
 {
-    match write_sfen(alloc, position) {
-        Ok(spelled) => Ok(spelled.as_slice() == text),
-        Err(_) => Err(NoMemory),
-    }
+    spelled.clear();
+    append_sfen(spelled, position)?;
+    Ok(spelled.as_slice() == text)
 }
 
 // The problem whose text it is, spelled as it is written.
-pub(crate) fn problem_of(alloc: Global, text: &[u8]) -> Result<Option<Problem>, NoMemory>
+pub(crate) fn problem_of_text(
+    text: &[u8],
+    spelled: &mut Vec<u8>,
+) -> Result<Option<Problem>, AllocError>
     ensures found { IfOk result (λ found. IfSome found (λ problem. text.now ≡ sfen_of problem.position)) }
     ensures kept { IfOk result (λ found. IfSome found (λ problem. IsKept problem.position)) }
     ensures none { IfOk result (λ found. IfNone found ((p : Board) → IsKept p → IsProblem p → text.now ≡ sfen_of p → ⊥)) }
@@ -93,8 +107,9 @@ pub(crate) fn problem_of(alloc: Global, text: &[u8]) -> Result<Option<Problem>, 
     let Ok(position) = read_sfen(text) else {
         return Ok(None);
     };
-    position.cells();
-    if !is_spelled(alloc, text, &position)? {
+    // What the position keeps, so that it is the only one with this text.
+    position.laws();
+    if !is_spelled(text, &position, spelled)? {
         return Ok(None);
     }
     match accept_problem(position) {
@@ -110,11 +125,11 @@ fn is_same(side: Side, with: Side) -> bool
 }
 
 // The position of a problem with this side to move whose text it is, spelled as it is written.
-pub(crate) fn position_of(
-    alloc: Global,
+pub(crate) fn position_of_text(
     text: &[u8],
     side: Side,
-) -> Result<Option<Position>, NoMemory>
+    spelled: &mut Vec<u8>,
+) -> Result<Option<Position>, AllocError>
     ensures found { IfOk result (λ found. IfSome found (λ p. text.now ≡ sfen_of p)) }
     ensures kept { IfOk result (λ found. IfSome found (λ p. IsKept p)) }
     ensures is_problem { IfOk result (λ found. IfSome found (λ p. IsProblem p)) }
@@ -123,7 +138,7 @@ pub(crate) fn position_of(
 {
     // No other position has this text.
     sfen_laws();
-    let Some(problem) = problem_of(alloc, text)? else {
+    let Some(problem) = problem_of_text(text, spelled)? else {
         return Ok(None);
     };
     if !is_same(problem.attacker(), side) {

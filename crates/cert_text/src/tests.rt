@@ -1,4 +1,4 @@
-use crate::{CertEnd, read_cert, write_cert};
+use crate::{CertEnd, append_cert, read_cert, write_cert};
 use std::process::Abort;
 use std::test::Fail;
 
@@ -37,6 +37,30 @@ fn certificates_are_read_and_written(rt: HostRuntime) {
             .expect(&rt, "memory");
         assert!(rt; again.as_slice() == written.as_bytes(), "{text}");
     }
+}
+
+// A text is written behind the line that may stand in front of it, and read with it.
+#[test]
+fn a_text_is_written_behind_the_line_in_front(rt: HostRuntime) {
+    let text =
+        "certificate 1 mate 1\nproblem 4k4/9/4P4/9/9/9/9/9/9 b G\n1 G*5b 4k4/9/4P4/9/9/9/9/9/9 b G\nend\n";
+    let front = "checkmate G*5b\n";
+    let certificate = read_cert(rt.alloc(), text.as_bytes())
+        .ok()
+        .expect(&rt, "a certificate");
+    let mut whole = Vec::new(rt.alloc());
+    whole
+        .extend_from_slice(front.as_bytes())
+        .ok()
+        .expect(&rt, "memory");
+    append_cert(&mut whole, &certificate)
+        .ok()
+        .expect(&rt, "memory");
+    assert!(rt; whole.starts_with(front.as_bytes()));
+    let again = read_cert(rt.alloc(), whole.as_slice())
+        .ok()
+        .expect(&rt, "a certificate");
+    assert!(rt; again.count() == 1);
 }
 
 fn refused(rt: &impl Abort, found: &str, wanted: &str, text: &str) {

@@ -1,1 +1,2 @@
+-- The tsume rule.
 pub mod Mate

@@ -5,35 +5,40 @@ use Rattle.board_core.specs.declared.piece.Side.{Side}
 use Rattle.board_core.specs.declared.moves.Move.{Move}
 use Rattle.board_core.specs.Board.{Board}
 use Rattle.shogi_rules.specs.Rules.{after}
-use Rattle.shogi_rules.specs.Tsume.{IsCheck, IsAnswer}
+use Rattle.shogi_rules.specs.Tsume.{IsCheck, IsEvasion}
 
--- The position after a check and an answer to it.
+-- The position after a check and an evasion to it.
 abbrev pub after_both : Board → Move → Move → Board
-after_both b check answer = after (after b check) answer
+after_both b check evasion = after (after b check) evasion
 
 -- The position is mate within a number of the attacker's moves: never within 0; within n + 1 where there is a check after
--- which every answer leads to a position that is mate within n. So a rank is a finite strategy of checks against every
--- legal defence: a check without an answer is mate within 1. (Where the defender is to move there is no check, so no rank.)
+-- which every evasion leads to a position that is mate within n. So a rank is a finite strategy of checks against every
+-- legal defence: a check without an evasion is mate within 1. (Where the defender is to move there is no check, so no rank.)
 abbrev pub RankAtMost : Side → ℕ → Board → Type 0
 RankAtMost attacker zero b = ⊥
 RankAtMost attacker (suc n) b =
     (check : Move) × IsCheck attacker b check
-    × ((answer : Move) → IsAnswer attacker (after b check) answer → RankAtMost attacker n (after_both b check answer))
+    × ((evasion : Move) → IsEvasion attacker (after b check) evasion → RankAtMost attacker n (after_both b check evasion))
 
 -- The position is a mate: within some number of moves.
 abbrev pub IsMate : Side → Board → Type 0
 IsMate attacker b = (n : ℕ) × RankAtMost attacker n b
 
+-- The check has an evasion that leads to a position with the property.
+pub record HasEvasionTo (attacker : Side) (P : Board → Type 0) (b : Board) (check : Move) : Type 0 where
+  pub evasion : Move
+  pub is_evasion : IsEvasion attacker (after b check) evasion
+  pub leads : P (after_both b check evasion)
+
 -- The positions of s are closed, but for those of t: at each position of s the attacker is to move, and each check from it has an
--- answer that leads to a position of s or of t.
+-- evasion that leads to a position of s or of t.
 pub record IsClosed (attacker : Side) (s t : List Board) : Type 0 where
   pub turn : (b : Board) → Contains s b → b.side ≡ attacker
   pub answered : (b : Board) (check : Move) → Contains s b → IsCheck attacker b check
-      → (answer : Move) × IsAnswer attacker (after b check) answer
-      × (Contains s (after_both b check answer) ⊎ Contains t (after_both b check answer))
+      → HasEvasionTo attacker (λ q. Contains s q ⊎ Contains t q) b check
 
 -- The position is one of some closed positions, but for those of t: from it the defender escapes, or gets to one of t by checks and
--- answers.
+-- evasions.
 abbrev pub EscapesInto : Side → Board → List Board → Type 0
 EscapesInto attacker b t = (s : List Board) × Contains s b × IsClosed attacker s t
 
@@ -49,12 +54,12 @@ EscapeIsNoMate = (attacker : Side) (b : Board) → Escapes attacker b → ¬ IsM
 abbrev pub RankGrows : Type 0
 RankGrows = (attacker : Side) (n m : ℕ) (b : Board) → n ≤ m → RankAtMost attacker n b → RankAtMost attacker m b
 
--- The position has a check without an answer.
+-- The position has a check without an evasion.
 pub record MateInOne (attacker : Side) (b : Board) : Type 0 where
   pub check : Move
   pub is_check : IsCheck attacker b check
-  pub no_answer : (answer : Move) → ¬ IsAnswer attacker (after b check) answer
+  pub no_evasion : (evasion : Move) → ¬ IsEvasion attacker (after b check) evasion
 
--- A law: a position is mate within one move exactly where it has a check without an answer.
+-- A law: a position is mate within one move exactly where it has a check without an evasion.
 abbrev pub RankOne : Type 0
 RankOne = (attacker : Side) (b : Board) → (MateInOne attacker b → RankAtMost attacker 1 b) × (RankAtMost attacker 1 b → MateInOne attacker b)

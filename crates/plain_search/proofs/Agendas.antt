@@ -6,7 +6,7 @@ use Rattle.std.proofs.lemmas.List.{length_push}
 use Rattle.std.proofs.lemmas.List.Elements.{Contains-push, Contains-push_cases, Contains-append_left}
 use Rattle.std.proofs.lemmas.List.Sums.{sum_by-set}
 use Rattle.plain_search.specs.Agenda.{AreListed}
-use Rattle.plain_search.proofs.Lists.{contained, at_place, get_kept, apart_more}
+use Rattle.list_laws.proofs.Standing.{contained, at_place, get_kept, apart_more}
 
 marked_more : (count : ℕ) (listed : List Bool) (places : List ℕ) (place : ℕ) → AreListed count listed places → place < count
     → (p : ℕ) → Contains (places ++ place ∷ []) p → get_or (set listed place true) p false ≡ true

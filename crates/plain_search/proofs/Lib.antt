@@ -1,4 +1,3 @@
-pub mod Lists
 pub mod Queues
 pub mod Steps
 pub mod Growth
@@ -15,3 +14,4 @@ pub mod Deciding
 pub mod MoveOrder
 pub mod Held
 pub mod PlainPicked
+pub mod Ends

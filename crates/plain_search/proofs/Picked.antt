@@ -1,29 +1,23 @@
 -- A list that is picked from another by places, in the order of texts.
 use Rattle.std.proofs.Common.{◌≡◌, ◌<◌, ◌≤◌, ◌+◌, ◌++◌, inl, inr, ℕ, zero, suc, List, [], ◌∷◌, get_or, length, map, take, Contains, arith, ap, sym, refl, ◌∙◌, subst, ⊎_elim}
 use Rattle.std.specs.Prelude.{Some, slice_get}
-use Rattle.std.specs.List.{AllZip}
 use Rattle.std.specs.Option.{option_map}
-use Rattle.std.proofs.lemmas.List.{take_more, take_all, length-map}
-use Rattle.std.proofs.lemmas.List.Elements.{Contains-get_or}
+use Rattle.std.proofs.lemmas.List.{take_more, take_all, length-map, map-id}
 use Rattle.std.proofs.lemmas.Option.{slice_get-map, slice_get_read}
 use Rattle.board_core.specs.declared.piece.Side.{Side}
-use Rattle.board_core.specs.declared.moves.MateEntry.{MateEntry}
+use Rattle.cert_text.specs.declared.entry.MateEntry.{MateEntry}
 use Rattle.board_core.specs.Board.{Board}
 use Rattle.shogi_rules.specs.Tsume.{IsProblem}
 use Rattle.mate_def.specs.Mate.{IsClosed}
 use Rattle.cert_text.specs.Certificate.{Mating, Escaping, IsMating, IsEscaping, IsRising, positions_of}
 use Rattle.cert_check.specs.Valid.{IsListedBelow, ValidMate, ValidEscape}
 use Rattle.plain_search.specs.Plain.{IsPlainMate}
-use Rattle.plain_search.specs.Entries.{AreMateEntries, ArePlainEntries, mating_of, AreEscapeEntries, RiseAt, IsTextOrder}
-use Rattle.plain_search.proofs.Lists.{contained, at_place, from_map}
+use Rattle.plain_search.specs.Entries.{AreMateEntries, ArePlainEntries, mating_of, AreEscapeEntries, RiseAt, IsTextOrder, ArePicked}
+use Rattle.list_laws.proofs.Standing.{contained, at_place, from_map}
 
 -- 1. The members.
 
 module _ {X : Type 0} where
-  -- each of the picked stands in the list at its place of the order
-  abbrev pub ArePicked : List X → List ℕ → List X → Type 0
-  ArePicked xs order ys = AllZip (λ i y. slice_get xs i ≡ Some y) order ys
-
   push_pick : (xs : List X) (order : List ℕ) (ys : List X) (place : ℕ) (y : X) → slice_get xs place ≡ Some y → ArePicked xs order ys
       → ArePicked xs (order ++ place ∷ []) (ys ++ y ∷ [])
   push_pick xs [] [] place y e p = (e, tt)
@@ -37,11 +31,6 @@ module _ {X : Type 0} where
       subst (λ (zs : List X). ArePicked xs (take (i + 1) order) zs) (sym e)
       (subst (λ (os : List ℕ). ArePicked xs os (ys ++ y ∷ [])) (sym (take_more order i 0 h))
       (push_pick xs (take i order) ys (get_or order i 0) y (slice_get_read xs (length xs) (get_or order i 0) y refl inside is) p))
-
-  -- at the end of the order all is picked
-  pub all_picked : (xs : List X) (order places : List ℕ) (ys : List X) (i : ℕ) → places ≡ order → length places ≤ i → ArePicked xs (take i places) ys
-      → ArePicked xs order ys
-  all_picked xs order places ys i same h p = subst (λ (os : List ℕ). ArePicked xs os ys) (take_all i places h ∙ same) p
 
   picked_at : (xs : List X) (order : List ℕ) (ys : List X) → ArePicked xs order ys → (k : ℕ) (y : X) → slice_get ys k ≡ Some y → Contains xs y
   picked_at xs [] [] p k y e = absurd (cc)
@@ -94,14 +83,6 @@ pub all_positions : (entries : List MateEntry) (n : ℕ) (positions : List Board
     → positions ≡ positions_of entries
 all_positions entries n positions e h = e ∙ ap positions_of (take_all n entries h)
 
--- a place of the order is one of the list
-pub within : {X : Type 0} (positions : List Board) (order places : List ℕ) (xs : List X) (i : ℕ) → IsTextOrder positions order → places ≡ order
-    → length positions ≡ length xs → i < length places → get_or places i 0 < length xs
-within {X} positions order places xs i ordered same as_long h =
-    let there : Contains order (get_or places i 0) = subst (λ (os : List ℕ). Contains os (get_or places i 0)) same (Contains-get_or places i 0 h) in
-    let w : get_or places i 0 < length positions = ordered.within (get_or places i 0) there in
-    omega arith
-
 -- what every entry's position has, each listed position has
 pub of_entries : (P : Board → Type 0) (entries : List MateEntry) → ((entry : MateEntry) → Contains entries entry → P entry.at)
     → (b : Board) → Contains (positions_of entries) b → P b
@@ -117,9 +98,9 @@ pub mating : (p : Board) (entries sorted : List MateEntry) (order : List ℕ) �
 mating p entries sorted order accepted are ordered picked = record {
   is_problem = accepted;
   rising = rising (positions_of entries) order (positions_of sorted) (picked_map position_of entries order sorted picked) ordered.rises;
-  problems = λ entry c. are.problems entry (of_picked entries order sorted picked entry c);
-  ranks = λ entry c. are.ranks entry (of_picked entries order sorted picked entry c);
-  texts = λ entry c. are.texts entry (of_picked entries order sorted picked entry c);
+  listed = λ entry c.
+      let from = of_picked entries order sorted picked entry c in
+      record { has_text = are.texts entry from; is_entry = are.problems entry from };
 }
 
 all_entries : (entries : List MateEntry) (order : List ℕ) → IsTextOrder (positions_of entries) order → (place : ℕ) → place < length entries → Contains order place
@@ -138,7 +119,7 @@ valid_sorted p entries sorted order are ordered picked =
       listed = is_picked (positions_of entries) order (positions_of sorted) ordered.all (picked_map position_of entries order sorted picked) p are.listed;
       entries = λ entry c.
           let b = are.borne_out entry (of_picked entries order sorted picked entry c) in
-          record { check = b.check; answers = λ answer h. still_below entries sorted kept entry.rank _ (b.answers answer h) };
+          record { check = b.check; evasions = λ evasion h. still_below entries sorted kept entry.rank.number _ (b.evasions evasion h) };
     }
 
 pub valid_mate : (p : Board) (entries sorted : List MateEntry) (order : List ℕ) (certificate : Mating)
@@ -155,7 +136,7 @@ plain_sorted p known entries sorted kept of plain = record {
   entries = λ entry c. plain.entries entry (of entry c);
   reached = λ entry positions c holds. plain.reached entry positions (of entry c) (record {
     problem = holds.problem;
-    next = λ e answer there held is_answer. holds.next e answer (kept e there) held is_answer;
+    next = λ e evasion there held is_evasion. holds.next e evasion (kept e there) held is_evasion;
   });
 }
 
@@ -173,8 +154,8 @@ pub escaping : (p : Board) (entries sorted : List Board) (order : List ℕ) → 
     → IsTextOrder entries order → ArePicked entries order sorted → IsEscaping (record { problem = p; entries = sorted })
 escaping p entries sorted order accepted are ordered picked = record {
   is_problem = accepted;
-  rising = rising entries order sorted picked ordered.rises;
-  problems = λ b c. are.problems b (of_picked entries order sorted picked b c);
+  rising = subst IsRising (sym (map-id sorted)) (rising entries order sorted picked ordered.rises);
+  listed = λ b c. are.problems b (of_picked entries order sorted picked b c);
 }
 
 closed_sorted : (attacker : Side) (entries sorted : List Board) → ((b : Board) → Contains entries b → Contains sorted b)
@@ -183,7 +164,7 @@ closed_sorted attacker entries sorted kept of closed = record {
   turn = λ b c. closed.turn b (of b c);
   answered = λ b check c is_check.
       let a = closed.answered b check (of b c) is_check in
-      (a.0, a.1, ⊎_elim (λ h. inl (kept _ h)) (λ h. inr h) a.2);
+      record { evasion = a.evasion; is_evasion = a.is_evasion; leads = ⊎_elim (λ h. inl (kept _ h)) (λ h. inr h) a.leads };
 }
 
 pub valid_escape : (p : Board) (entries sorted : List Board) (order : List ℕ) (certificate : Escaping)

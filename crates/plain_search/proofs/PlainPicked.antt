@@ -3,8 +3,8 @@ use Rattle.std.proofs.Common.{◌≡◌, ℕ, List, Contains, sym, subst}
 use Rattle.board_core.specs.Board.{Board}
 use Rattle.cert_text.specs.Certificate.{Escaping}
 use Rattle.plain_search.specs.Plain.{IsPlainEscape}
-use Rattle.plain_search.specs.Entries.{IsTextOrder}
-use Rattle.plain_search.proofs.Picked.{ArePicked, of_picked, is_picked}
+use Rattle.plain_search.specs.Entries.{IsTextOrder, ArePicked}
+use Rattle.plain_search.proofs.Picked.{of_picked, is_picked}
 
 pub plain_escape : (p : Board) (known entries sorted : List Board) (order : List ℕ) (certificate : Escaping)
     → certificate ≡ record { problem = p; entries = sorted } → IsTextOrder entries order → ArePicked entries order sorted
@@ -17,7 +17,7 @@ plain_escape p known entries sorted order certificate is ordered picked plain =
       answered = λ b check c is_check. plain.answered b check (of b c) is_check;
       holds = record {
         problem = kept p plain.holds.problem;
-        next = λ b check answer c is_check first. kept _ (plain.holds.next b check answer (of b c) is_check first);
+        next = λ b check evasion c is_check first. kept _ (plain.holds.next b check evasion (of b c) is_check first);
       };
       reached = λ positions b holds c. plain.reached positions b holds (of b c);
     })

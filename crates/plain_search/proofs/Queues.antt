@@ -6,21 +6,50 @@ use Rattle.std.proofs.lemmas.List.Elements.{Contains-push_cases}
 use Rattle.board_core.specs.declared.moves.Move.{Move}
 use Rattle.board_core.specs.Board.{Board}
 use Rattle.shogi_rules.specs.Rules.{after}
-use Rattle.cert_check.specs.Places.{ArePlacesOf}
-use Rattle.plain_search.specs.Queue.{IsWith, IsWithAll}
-use Rattle.cert_text.specs.Certificate.{AreApart}
+use Rattle.cert_check.specs.Places.{ArePlacesOf, IsPlaceOrNext}
+use Rattle.plain_search.specs.Queue.{IsWithAll}
+use Rattle.cert_check.specs.Places.{IsWith}
 use Rattle.plain_search.specs.Graph.{IsInPlay, IsKeptQueue}
 use Rattle.plain_search.specs.declared.graph.Queue.{Queue}
-use Rattle.plain_search.proofs.Lists.{get_kept, apart_more}
+use Rattle.list_laws.proofs.Standing.{get_kept, contained}
 
 -- 1. A queue with one position more.
 
+-- a place within is that of the position
+pub listed_place : (positions : List Board) (b : Board) (place : ℕ) → IsPlaceOrNext positions b place → place < length positions
+    → slice_get positions place ≡ Some b
+listed_place positions b place (inl at) below = at
+listed_place positions b place (inr next) below = let e = next.1 in absurd (omega arith)
+
+-- a place behind all is that of a position that isn't there
+pub next_place : (positions : List Board) (b : Board) (place : ℕ) → IsPlaceOrNext positions b place → length positions ≤ place
+    → (¬ Contains positions b) × (place ≡ length positions)
+next_place positions b place (inl at) behind = let h = slice_get_within positions place b at in absurd (omega arith)
+next_place positions b place (inr next) behind = next
+
+pub kept_first : (p : Board) (new : Queue) → IsInPlay p p → new.positions.items ≡ p ∷ []
+    → ((longer : List Board) → IsWith [] p longer → ArePlacesOf new.places longer) → IsKeptQueue p new
+kept_first p new in_play alone added = record {
+  places = added new.positions.items (inr ((λ there. let w = there.1 in absurd (omega arith)), alone));
+  in_play = λ x there. elim (Contains-push_cases [] p x (subst (λ (xs : List Board). Contains xs x) alone there)) [
+    | inl before ↦ let w = before.1 in absurd (omega arith)
+    | inr same ↦ subst (IsInPlay p) same in_play
+  ];
+}
+
+pub kept_same : (p b : Board) (old new : Queue) (place : ℕ) → IsKeptQueue p old → slice_get old.positions.items place ≡ Some b
+    → new.positions.items ≡ old.positions.items
+    → ((longer : List Board) → IsWith old.positions.items b longer → ArePlacesOf new.places longer) → IsKeptQueue p new
+kept_same p b old new place kept at same added = record {
+  places = added new.positions.items (inl (contained old.positions.items place b at, same));
+  in_play = λ x there. kept.in_play x (subst (λ (xs : List Board). Contains xs x) same there);
+}
+
 pub kept_more : (p b : Board) (old new : Queue) → IsKeptQueue p old → IsInPlay p b → ¬ Contains old.positions.items b
-    → new.positions.items ≡ old.positions.items ++ b ∷ [] → ArePlacesOf new.places (old.positions.items ++ b ∷ [])
-    → IsKeptQueue p new
-kept_more p b old new kept in_play absent longer places = record {
-  places = subst (ArePlacesOf new.places) (sym longer) places;
-  apart = subst AreApart (sym longer) (apart_more old.positions.items b kept.apart absent);
+    → new.positions.items ≡ old.positions.items ++ b ∷ []
+    → ((longer : List Board) → IsWith old.positions.items b longer → ArePlacesOf new.places longer) → IsKeptQueue p new
+kept_more p b old new kept in_play absent longer added = record {
+  places = added new.positions.items (inr (absent, longer));
   in_play = λ x there. elim (Contains-push_cases old.positions.items b x (subst (λ (xs : List Board). Contains xs x) longer there)) [
     | inl before ↦ kept.in_play x before
     | inr same ↦ subst (IsInPlay p) same in_play

@@ -1,4 +1,4 @@
--- Steps: checks and answers, and lists of them.
+-- Steps: checks and evasions, and lists of them.
 use Rattle.std.proofs.Common.{◌≡◌, ◌<◌, ◌++◌, ℕ, List, [], ◌∷◌, Contains, arith, ap, sym, refl, ◌∙◌, subst, inl, inr}
 use Rattle.std.specs.Prelude.{Some, slice_get}
 use Rattle.std.proofs.lemmas.List.{map-append}
@@ -11,13 +11,14 @@ use Rattle.board_core.specs.Order.{Lists}
 use Rattle.board_core.specs.Text.{HasText}
 use Rattle.board_core.specs.declared.piece.Side.{Side}
 use Rattle.board_core.specs.declared.piece.Side.TheVariants.{Black, White}
-use Rattle.shogi_rules.specs.Tsume.{IsCheck, IsAnswer}
+use Rattle.shogi_rules.specs.Tsume.{IsCheck, IsEvasion}
 use Rattle.shogi_rules.specs.Rules.{IsLegal, IsQuiet, after}
-use Rattle.plain_search.specs.Queue.{IsStep, IsWith, IsWithAll}
+use Rattle.cert_check.specs.Places.{IsWith}
+use Rattle.plain_search.specs.Queue.{IsStep, IsWithAll}
 use Rattle.plain_search.specs.Graph.{IsInPlay, IsKeptQueue, AreSteps, moves_of}
 use Rattle.plain_search.specs.declared.graph.Step.{Step}
 use Rattle.plain_search.specs.declared.graph.Queue.{Queue}
-use Rattle.plain_search.proofs.Lists.{contained, at_place, from_map, contains_map}
+use Rattle.list_laws.proofs.Standing.{contained, at_place, from_map, contains_map}
 use Rattle.plain_search.proofs.Queues.{with_kept, with_all_more}
 
 -- 1. Sides and moves.
@@ -32,16 +33,16 @@ after_side b (moves.Drop _ _) = refl
 
 pub step_legal : (attacker : Side) (b : Board) (move : Move) → IsStep attacker b move → IsLegal b move
 step_legal attacker b move (inl check) = check.legal
-step_legal attacker b move (inr answer) = answer.legal
+step_legal attacker b move (inr evasion) = evasion.legal
 
--- a step of the attacker is a check, one of the defender an answer
+-- a step of the attacker is a check, one of the defender an evasion
 pub step_checks : (attacker : Side) (b : Board) (move : Move) → b.side ≡ attacker → IsStep attacker b move → IsCheck attacker b move
 step_checks attacker b move side (inl check) = check
-step_checks attacker b move side (inr answer) = absurd (other_side attacker (sym side ∙ answer.mover))
+step_checks attacker b move side (inr evasion) = absurd (other_side attacker (sym side ∙ evasion.mover))
 
-pub step_answers : (attacker : Side) (b : Board) (move : Move) → b.side ≡ other attacker → IsStep attacker b move → IsAnswer attacker b move
-step_answers attacker b move side (inl check) = absurd (other_side attacker (sym check.mover ∙ side))
-step_answers attacker b move side (inr answer) = answer
+pub step_evasions : (attacker : Side) (b : Board) (move : Move) → b.side ≡ other attacker → IsStep attacker b move → IsEvasion attacker b move
+step_evasions attacker b move side (inl check) = absurd (other_side attacker (sym check.mover ∙ side))
+step_evasions attacker b move side (inr evasion) = evasion
 
 -- where the attacker is to move, the checks are the steps
 pub checks_are_steps : (attacker : Side) (b : Board) (moves : List Move) → b.side ≡ attacker → Lists (IsCheck attacker b) moves
@@ -52,14 +53,14 @@ checks_are_steps attacker b moves same lists = record {
   rises = lists.rises;
 }
 
--- where the attacker isn't, the answers are
-pub answers_are_steps : (attacker : Side) (b : Board) (moves : List Move) → ¬ (b.side ≡ attacker) → Lists (IsAnswer attacker b) moves
+-- where the attacker isn't, the evasions are
+pub evasions_are_steps : (attacker : Side) (b : Board) (moves : List Move) → ¬ (b.side ≡ attacker) → Lists (IsEvasion attacker b) moves
     → Lists (IsStep attacker b) moves
-answers_are_steps attacker b moves others lists = record {
+evasions_are_steps attacker b moves others lists = record {
   sound = λ move there. inr (lists.sound move there);
   complete = λ move step. elim step [
     | inl check ↦ absurd (others check.mover)
-    | inr answer ↦ lists.complete move answer
+    | inr evasion ↦ lists.complete move evasion
   ];
   rises = lists.rises;
 }

@@ -1,28 +1,29 @@
 -- A map from texts to places holds the places of the positions in the order of their texts.
-use Rattle.std.proofs.Common.{◌≡◌, ◌≢◌, ◌<◌, ◌+◌, ◌⊎◌, inl, inr, ℕ, suc, List, [], ◌∷◌, length, Contains, Vec, arith, ap, sym, refl, ◌∙◌, subst, cond, true, false, Bool, ⊎_elim}
+use Rattle.std.proofs.Common.{◌≡◌, ◌≢◌, ◌<◌, ◌+◌, ℕ, suc, List, [], ◌∷◌, length, Contains, Vec, arith, ap, sym, refl, ◌∙◌, subst, true, false, ⊎_elim}
 use Rattle.std.specs.Prelude.{Some, None, slice_get}
 use Rattle.std.specs.Global.{Global}
 use Rattle.std.specs.Ordering.{nat_cmp, is_eq}
 use Rattle.std.specs.Cmp.{IsTotalOrder}
 use Rattle.std.specs.declared.cmp.Ordering.{Ordering}
-use Rattle.std.specs.declared.cmp.Ordering.TheVariants.{Less, Equal, Greater}
+use Rattle.std.specs.declared.cmp.Ordering.TheVariants.{Less}
 use Rattle.std.specs.Cmp.Lexicographic.{slice_cmp}
 use Rattle.std.specs.Map.{lookup, values_of, keys_of}
 use Rattle.std.specs.List.Sorted.{IsStrictlySortedBy}
 use Rattle.std.specs.BTreeMap.{get, is_at, BTreeMap, Updates, IsOrdered, values}
-use Rattle.std.proofs.lemmas.Bool.{cases_eq}
+use Rattle.std.proofs.lemmas.Bool.{cases_eq, cases_Bool}
 use Rattle.std.proofs.lemmas.Cmp.{nat_list_cmp_total, tied_itself, on_total}
 use Rattle.std.proofs.lemmas.Map.Lookups.{exact_bytes}
 use Rattle.std.proofs.lemmas.Map.Entries.{place_from_lookup, btree_map_get_place}
 use Rattle.std.proofs.lemmas.Map.Keys.{Less-from_sorted, sorted_tail}
 use Rattle.std.proofs.lemmas.Option.{same_Some}
+use Rattle.list_laws.proofs.Mapped.{equal_from, written, unwritten}
 use Rattle.board_core.specs.Board.{Board}
 use Rattle.board_core.specs.Kept.{IsKept}
 use Rattle.sfen_text.specs.Spelling.{sfen_of}
 use Rattle.cert_text.specs.Certificate.{IsBefore}
 use Rattle.cert_text.specs.Certificate.{AreApart}
 use Rattle.plain_search.specs.Entries.{RiseAt, IsTextOrder}
-use Rattle.plain_search.proofs.Lists.{contained, at_place, from_map, contains_map}
+use Rattle.list_laws.proofs.Standing.{contained, at_place, from_map, contains_map}
 
 abbrev pub Text : Type 0
 Text = Vec ℕ Global
@@ -58,30 +59,11 @@ none_yet positions by_text empty = record {
   all = λ place h. absurd (omega arith);
 }
 
-two_ways : (b : Bool) → (b ≡ true) ⊎ (b ≡ false)
-two_ways true = inl refl
-two_ways false = inr refl
-
-equal_from : (o : Ordering) → is_eq o ≡ true → o ≡ Equal
-equal_from Less h = absurd (cc)
-equal_from Equal h = refl
-equal_from Greater h = absurd (cc)
-
 same_text : (a k : Text) → is_at (text_cmp a) k ≡ true → a.items ≡ k.items
 same_text a k h = exact_bytes a.items k.items (equal_from (text_cmp a k) h)
 
 at_itself : (a : Text) → is_at (text_cmp a) a ≡ true
 at_itself a = ap is_eq (tied_itself nat_list_cmp_total a.items)
-
-written : (old new : BTreeMap Text ℕ) (key : Text) (place : ℕ) → Updates text_cmp old new key (Some place) → (k : Text)
-    → is_at (text_cmp key) k ≡ true → get text_cmp new k ≡ Some place
-written old new key place updates k h =
-    subst (λ (t : Bool). get text_cmp new k ≡ cond t (Some place) (get text_cmp old k)) h (updates.0 k)
-
-unwritten : (old new : BTreeMap Text ℕ) (key : Text) (place : ℕ) → Updates text_cmp old new key (Some place) → (k : Text)
-    → is_at (text_cmp key) k ≡ false → get text_cmp new k ≡ get text_cmp old k
-unwritten old new key place updates k h =
-    subst (λ (t : Bool). get text_cmp new k ≡ cond t (Some place) (get text_cmp old k)) h (updates.0 k)
 
 right_after : (positions : List Board) (n : ℕ) (p : Board) (key : Text) (old new : BTreeMap Text ℕ)
     → slice_get positions n ≡ Some p → key.items ≡ sfen_of p
@@ -90,7 +72,7 @@ right_after : (positions : List Board) (n : ℕ) (p : Board) (key : Text) (old n
 right_after positions n p key old new here words updates known text place h =
     ⊎_elim
     (λ (yes : is_at (text_cmp key) text ≡ true).
-    let same : n ≡ place = same_Some n place (sym (written old new key n updates text yes) ∙ h) in
+    let same : n ≡ place = same_Some n place (sym (written text_cmp old new key n updates text yes) ∙ h) in
     record {
       position = p;
       there = subst (λ (i : ℕ). slice_get positions i ≡ Some p) same here;
@@ -98,9 +80,9 @@ right_after positions n p key old new here words updates known text place h =
       text_of = sym words ∙ same_text key text yes;
     })
     (λ (no : is_at (text_cmp key) text ≡ false).
-    let s = known.right text place (sym (unwritten old new key n updates text no) ∙ h) in
+    let s = known.right text place (sym (unwritten text_cmp old new key n updates text no) ∙ h) in
     record { position = s.position; there = s.there; below = (let b = s.below in omega arith); text_of = s.text_of })
-    (two_ways (is_at (text_cmp key) text))
+    (cases_Bool (is_at (text_cmp key) text))
 
 -- another position has another text, so its entry stays
 stays : (positions : List Board) (n : ℕ) (p : Board) (key : Text) (old new : BTreeMap Text ℕ)
@@ -116,8 +98,8 @@ stays positions n p key old new apart kept here words own updates known place h 
     let same : s.position ≡ p = own s.position (kept s.position (contained positions place s.position s.there)) (s.text_of ∙ sym (same_text key k.text yes)) in
     let one : place ≡ n = apart place n p (s.there ∙ ap (λ (b : Board). Some b) same) here in
     absurd (omega arith))
-    (λ (no : is_at (text_cmp key) k.text ≡ false). record { text = k.text; leads = unwritten old new key n updates k.text no ∙ k.leads })
-    (two_ways (is_at (text_cmp key) k.text))
+    (λ (no : is_at (text_cmp key) k.text ≡ false). record { text = k.text; leads = unwritten text_cmp old new key n updates k.text no ∙ k.leads })
+    (cases_Bool (is_at (text_cmp key) k.text))
 
 pub one_text_more : (positions : List Board) (n : ℕ) (p : Board) (key : Text) (old new : BTreeMap Text ℕ)
     → AreApart positions → ((b : Board) → Contains positions b → IsKept b)
@@ -127,7 +109,7 @@ one_text_more positions n p key old new apart kept here words own updates known 
   right = right_after positions n p key old new here words updates known;
   all = λ place h.
       ⊎_elim
-      (λ (last : place ≡ n). record { text = key; leads = written old new key n updates key (at_itself key) ∙ ap (λ (i : ℕ). Some i) (sym last) })
+      (λ (last : place ≡ n). record { text = key; leads = written text_cmp old new key n updates key (at_itself key) ∙ ap (λ (i : ℕ). Some i) (sym last) })
       (λ (sooner : place ≢ n). stays positions n p key old new apart kept here words own updates known place (omega arith))
       (cases_eq place n);
 }

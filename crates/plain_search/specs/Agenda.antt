@@ -1,4 +1,4 @@
--- Places to be dealt with, each once.
+-- For the functions of the crate alone: places to be dealt with, each once.
 use Rattle.std.specs.Prelude.{◌≡◌, ◌<◌, ◌+◌, ℕ, List, Bool, true, false, Some, Contains, length, count_by, slice_get, slice_index_or, not}
 use Rattle.plain_search.specs.declared.agenda.Agenda.{Agenda}
 

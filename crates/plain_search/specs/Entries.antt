@@ -1,6 +1,7 @@
--- The entries of a certificate before they are put in order.
-use Rattle.std.specs.Prelude.{◌≡◌, ◌≤◌, ◌<◌, ℕ, List, [], ◌∷◌, Some, Contains, length, slice_get}
-use Rattle.board_core.specs.declared.moves.MateEntry.{MateEntry}
+-- For the functions of the crate alone: the entries of a certificate, before and after they are put in order.
+use Rattle.std.specs.Prelude.{◌≡◌, ◌<◌, ℕ, List, [], ◌∷◌, Some, Contains, length, slice_get}
+use Rattle.std.specs.List.{AllZip}
+use Rattle.cert_text.specs.declared.entry.MateEntry.{MateEntry}
 use Rattle.board_core.specs.Board.{Board}
 use Rattle.board_core.specs.Kept.{IsKept}
 use Rattle.mate_def.specs.Mate.{IsClosed}
@@ -17,7 +18,6 @@ pub record AreMateEntries (p : Board) (entries : List MateEntry) : Type 0 where
   pub borne_out : (entry : MateEntry) → Contains entries entry → IsBorneOut entries p.side entry
   pub problems : (entry : MateEntry) → Contains entries entry → IsEntry p entry.at
   pub kept : (entry : MateEntry) → Contains entries entry → IsKept entry.at
-  pub ranks : (entry : MateEntry) → Contains entries entry → 1 ≤ entry.rank
   pub texts : (entry : MateEntry) → Contains entries entry → HasText entry.by
   pub apart : AreApart (positions_of entries)
 
@@ -50,3 +50,7 @@ pub record IsTextOrder (positions : List Board) (order : List ℕ) : Type 0 wher
   pub all : (place : ℕ) → place < length positions → Contains order place
   pub within : (place : ℕ) → Contains order place → place < length positions
   pub rises : RiseAt positions order
+
+-- The picked items are those of the list at the places of the order, one by one.
+abbrev pub ArePicked : {X : Type 0} → List X → List ℕ → List X → Type 0
+ArePicked xs order picked = AllZip (λ place x. slice_get xs place ≡ Some x) order picked

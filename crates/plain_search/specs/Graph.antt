@@ -1,4 +1,5 @@
--- What a search has met: positions by their place in the queue, and the steps from the first of them.
+-- For the functions of the crate alone: what a search has met, positions by their place in the queue, and the steps from the
+-- first of them.
 use Rattle.std.specs.Prelude.{◌≡◌, ◌<◌, ◌≤◌, ℕ, List, [], Option, Some, None, Contains, Vec, map, length, slice_get, vec_len}
 use Rattle.std.specs.Global.{Global}
 use Rattle.board_core.specs.declared.piece.Side.{Side}
@@ -8,7 +9,6 @@ use Rattle.board_core.specs.Board.{Board, kings_of}
 use Rattle.board_core.specs.Order.{Lists}
 use Rattle.board_core.specs.Text.{HasText}
 use Rattle.shogi_rules.specs.Rules.{IsQuiet, after}
-use Rattle.cert_text.specs.Certificate.{AreApart}
 use Rattle.cert_check.specs.Places.{ArePlacesOf}
 use Rattle.plain_search.specs.Queue.{IsStep, IsQueue}
 use Rattle.plain_search.specs.declared.graph.Step.{Step}
@@ -21,10 +21,9 @@ pub record IsInPlay (p b : Board) : Type 0 where
   pub quiet : IsQuiet b
   pub king : 0 < kings_of b (other p.side)
 
--- What a queue keeps: each position is found by its key, none stands twice, and each is as play leads to it.
+-- What a queue keeps: each position is found by its key, so that none stands twice, and each is as play leads to it.
 pub record IsKeptQueue (p : Board) (queue : Queue) : Type 0 where
   pub places : ArePlacesOf queue.places queue.positions.items
-  pub apart : AreApart queue.positions.items
   pub in_play : (b : Board) → Contains queue.positions.items b → IsInPlay p b
 
 -- The moves of steps.
@@ -48,18 +47,18 @@ abbrev pub steps_at : Graph → ℕ → List Step
 steps_at graph place = items_of (slice_get graph.steps.items place)
 
 -- How many positions of a graph had their steps listed: the first so many.
-abbrev pub units_of : Graph → ℕ
-units_of graph = vec_len graph.steps
+abbrev pub expansions_of : Graph → ℕ
+expansions_of graph = vec_len graph.steps
 
--- The positions of a graph.
-abbrev pub positions_of : Graph → List Board
-positions_of graph = graph.queue.positions.items
+-- The positions that a search has met, in the order of its queue.
+abbrev pub positions_met : Graph → List Board
+positions_met graph = graph.queue.positions.items
 
--- What a graph keeps: it is what the search for the position has met after its units.
+-- What a graph keeps: it is what the search for the position has met after its expansions.
 pub record IsGraph (p : Board) (graph : Graph) : Type 0 where
   pub kept : IsKeptQueue p graph.queue
-  pub order : IsQueue p (units_of graph) (positions_of graph)
-  pub within : units_of graph ≤ length (positions_of graph)
-  pub begins : slice_get (positions_of graph) 0 ≡ Some p
-  pub steps : (place : ℕ) (b : Board) → place < units_of graph → slice_get (positions_of graph) place ≡ Some b
-      → AreSteps p.side (positions_of graph) b (steps_at graph place)
+  pub order : IsQueue p (expansions_of graph) (positions_met graph)
+  pub within : expansions_of graph ≤ length (positions_met graph)
+  pub begins : slice_get (positions_met graph) 0 ≡ Some p
+  pub steps : (place : ℕ) (b : Board) → place < expansions_of graph → slice_get (positions_met graph) place ≡ Some b
+      → AreSteps p.side (positions_met graph) b (steps_at graph place)

@@ -1,3 +1,4 @@
+-- This project's.
 pub mod Queue
 pub mod Within
 pub mod Plain

@@ -10,22 +10,22 @@ use Rattle.plain_search.specs.declared.outcome.Outcome.TheVariants.{Mate, NoMate
 
 -- A mate was found: a certificate that is valid for the position, and is the plain one of what was known where the search
 -- decided.
-pub record IsMateFound (p : Board) (limit : ℕ) (c : Mating) : Type 0 where
+pub record IsMateFound (p : Board) (allowed : ℕ) (c : Mating) : Type 0 where
   pub valid : ValidMate c p
   pub known : List Board
-  pub known_at : IsKnownAt p limit known
+  pub known_at : IsKnownAt p allowed known
   pub plain : IsPlainMate p known c
 
 -- An escape was found, likewise.
-pub record IsEscapeFound (p : Board) (limit : ℕ) (c : Escaping) : Type 0 where
+pub record IsEscapeFound (p : Board) (allowed : ℕ) (c : Escaping) : Type 0 where
   pub valid : ValidEscape c p
   pub known : List Board
-  pub known_at : IsKnownAt p limit known
+  pub known_at : IsKnownAt p allowed known
   pub plain : IsPlainEscape p known c
 
--- The outcome for a position, with this many units at most: a mate or an escape that was found; or that after all units neither
--- is told.
+-- The outcome for a position, with this many expansions at most: a mate or an escape that was found; or that after all of them
+-- neither is told.
 abbrev pub IsOutcome : Board → ℕ → Outcome → Type 0
-IsOutcome p limit (Mate c) = IsMateFound p limit c
-IsOutcome p limit (NoMate c) = IsEscapeFound p limit c
-IsOutcome p limit Spent = IsUndecided p limit
+IsOutcome p allowed (Mate c) = IsMateFound p allowed c
+IsOutcome p allowed (NoMate c) = IsEscapeFound p allowed c
+IsOutcome p allowed Spent = IsUndecided p allowed

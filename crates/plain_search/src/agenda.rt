@@ -2,8 +2,7 @@
 ghost use Rattle.std.specs.Prelude.{◌≡◌, ◌<◌, ◌⊎◌, ◌++◌, ◌∷◌, [], IfOk, OnOk, Contains};
 ghost use Rattle.plain_search.specs.Agenda.{IsAgenda};
 
-use board_core::NoMemory;
-use std::alloc::Global;
+use std::alloc::{AllocError, Global};
 
 /// Places in the order in which they were named, each once.
 #[derive(Drop)]
@@ -14,7 +13,7 @@ pub(crate) struct Agenda {
 
 impl Agenda {
     /// An agenda of places below a count, with none.
-    pub(crate) fn new(alloc: Global, count: usize) -> Result<Agenda, NoMemory>
+    pub(crate) fn new(alloc: Global, count: usize) -> Result<Agenda, AllocError>
         ensures kept { IfOk result (λ agenda. IsAgenda count agenda) }
         ensures none { IfOk result (λ agenda. agenda.places.items ≡ []) }
     {
@@ -29,7 +28,7 @@ impl Agenda {
     }
 
     /// Lists a place, unless it is listed.
-    pub(crate) fn add(&mut self, count: usize, place: usize) -> Result<(), NoMemory>
+    pub(crate) fn add(&mut self, count: usize, place: usize) -> Result<(), AllocError>
         requires kept { IsAgenda count self.old }
         requires place { place < count }
         ensures kept { OnOk result (IsAgenda count self.new) }

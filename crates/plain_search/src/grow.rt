@@ -1,26 +1,26 @@
-// A unit of a search: the steps from one more position.
+// An expansion of a search: the steps from one more position.
 ghost use Rattle.std.specs.Prelude.{◌≡◌, ◌<◌, ◌≤◌, ◌+◌, IfOk, OnOk, length};
 ghost use Rattle.board_core.specs.Order.{Lists};
 ghost use Rattle.shogi_rules.specs.Rules.{IsQuiet};
 ghost use Rattle.plain_search.specs.Queue.{IsStep, IsWithAll};
-ghost use Rattle.plain_search.specs.Graph.{IsInPlay, IsKeptQueue, AreSteps, IsGraph, moves_of, units_of, positions_of};
+ghost use Rattle.plain_search.specs.Graph.{IsInPlay, IsKeptQueue, AreSteps, IsGraph, moves_of, expansions_of, positions_met};
 
 use crate::graph::{Graph, Queue, Step};
-use board_core::{Move, NoMemory, Position};
-use shogi_rules::trial::{trial_answers, trial_checks};
+use board_core::{Move, Position};
+use search_gate::Gate;
+use shogi_rules::trial::{trial_checks, trial_evasions};
 use shogi_rules::{Problem, apply};
-use std::alloc::Global;
-use tsume_io::Gate;
+use std::alloc::{AllocError, Global};
 
-// The checks or the answers at a position, whoever is to move.
-fn moves_at(alloc: Global, problem: &Problem, position: &Position) -> Result<Vec<Move>, NoMemory>
+// The checks or the evasions at a position, whoever is to move.
+fn moves_at(alloc: Global, problem: &Problem, position: &Position) -> Result<Vec<Move>, AllocError>
     requires { IsQuiet position.now }
     ensures { IfOk result (λ moves. Lists (IsStep problem.now.position.side position.now) moves.items) }
 {
     if position.side() == problem.attacker() {
         trial_checks(alloc, problem, position)
     } else {
-        trial_answers(alloc, problem, position)
+        trial_evasions(alloc, problem, position)
     }
 }
 
@@ -30,7 +30,7 @@ fn steps_from(
     problem: &Problem,
     queue: &mut Queue,
     position: &Position,
-) -> Result<Vec<Step>, NoMemory>
+) -> Result<Vec<Step>, AllocError>
     requires kept { IsKeptQueue problem.now.position queue.old }
     requires in_play { IsInPlay problem.now.position position.now }
     ensures kept { OnOk result (IsKeptQueue problem.now.position queue.new) }
@@ -47,24 +47,24 @@ fn steps_from(
     Ok(steps)
 }
 
-// One more unit.
-fn grow(alloc: Global, problem: &Problem, graph: &mut Graph) -> Result<(), NoMemory>
+// One more expansion.
+fn grow(alloc: Global, problem: &Problem, graph: &mut Graph) -> Result<(), AllocError>
     requires graph { IsGraph problem.now.position graph.old }
-    requires left { units_of graph.old < length (positions_of graph.old) }
+    requires left { expansions_of graph.old < length (positions_met graph.old) }
     ensures graph { OnOk result (IsGraph problem.now.position graph.new) }
-    ensures more { OnOk result (units_of graph.new ≡ units_of graph.old + 1) }
-    ensures longer { OnOk result (length (positions_of graph.old) ≤ length (positions_of graph.new)) }
+    ensures more { OnOk result (expansions_of graph.new ≡ expansions_of graph.old + 1) }
+    ensures longer { OnOk result (length (positions_met graph.old) ≤ length (positions_met graph.new)) }
 {
-    let front = *graph.position(graph.units());
+    let front = *graph.position(graph.expansions());
     let steps = steps_from(alloc, problem, &mut graph.queue, &front)?;
     graph.steps.push(steps)?;
     Ok(())
 }
 
-/// The graph of a problem alone, before any unit.
-pub(crate) fn graph_of(alloc: Global, problem: &Problem) -> Result<Graph, NoMemory>
+/// The graph of a problem alone, before any expansion.
+pub(crate) fn graph_of(alloc: Global, problem: &Problem) -> Result<Graph, AllocError>
     ensures graph { IfOk result (λ graph. IsGraph problem.now.position graph) }
-    ensures none { IfOk result (λ graph. units_of graph ≡ 0) }
+    ensures none { IfOk result (λ graph. expansions_of graph ≡ 0) }
 {
     let queue = Queue::of(alloc, problem)?;
     Ok(Graph {
@@ -73,22 +73,23 @@ pub(crate) fn graph_of(alloc: Global, problem: &Problem) -> Result<Graph, NoMemo
     })
 }
 
-/// Units up to a number of them, that of positions met or less. The gate is passed for each, as the first worker.
+/// Grows the graph up to a number of expansions in all, that of positions met or less. The gate is passed before each, as the
+/// first worker.
 pub(crate) fn grow_to<G: Gate>(
     alloc: Global,
     problem: &Problem,
     graph: &mut Graph,
-    units: usize,
+    expansions: usize,
     gate: &G,
-) -> Result<(), NoMemory>
+) -> Result<(), AllocError>
     requires graph { IsGraph problem.now.position graph.old }
-    requires from { units_of graph.old ≤ units }
-    requires to { units ≤ length (positions_of graph.old) }
+    requires from { expansions_of graph.old ≤ expansions }
+    requires to { expansions ≤ length (positions_met graph.old) }
     ensures graph { OnOk result (IsGraph problem.now.position graph.new) }
-    ensures units { OnOk result (units_of graph.new ≡ units) }
+    ensures expansions { OnOk result (expansions_of graph.new ≡ expansions) }
 {
-    for unit in graph.units()..units {
-        gate.pass(1, unit as u64 + 1);
+    for expansion in graph.expansions()..expansions {
+        gate.pass(1, expansion as u64 + 1);
         grow(alloc, problem, graph)?;
     }
     Ok(())

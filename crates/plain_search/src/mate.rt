@@ -1,34 +1,50 @@
-// The entries of a mate: from the problem on, at each position the first check of its rank, and all that the answers lead to.
-ghost use Rattle.std.specs.Prelude.{◌≡◌, ◌<◌, ◌≤◌, IfOk, length, slice_index, false, Contains};
+// The entries of a mate: from the problem on, at each position the first check of its rank, and all that the evasions lead to.
+ghost use Rattle.std.specs.Prelude.{◌≡◌, ◌<◌, ◌≤◌, Some, IfOk, length, false, Contains};
 ghost use Rattle.board_core.specs.Order.{order_of, RisesFrom};
-ghost use Rattle.plain_search.specs.Graph.{IsGraph, steps_at, moves_of, units_of};
+ghost use Rattle.search_gate.specs.declared.expansions.TheConstants.{MOST_EXPANSIONS};
+ghost use Rattle.plain_search.specs.Graph.{IsGraph, steps_at, moves_of, expansions_of};
 ghost use Rattle.plain_search.specs.declared.graph.Step.{Step};
-ghost use Rattle.plain_search.specs.Ranks.{IsWon, IsBeaten, AreRanks};
+ghost use Rattle.plain_search.specs.Ranks.{rank_at, HasRank, IsWon, IsBeaten, AreRanks};
 ghost use Rattle.plain_search.specs.Decision.{known_of};
 ghost use Rattle.plain_search.specs.Entries.{AreMateEntries, ArePlainEntries};
 
 use crate::agenda::Agenda;
 use crate::graph::{Graph, Step};
-use crate::ranks::is_beaten;
-use board_core::{MateEntry, NoMemory, order_laws};
+use crate::ranks::{is_beaten, rank_of};
+use board_core::order_laws;
+use cert_text::{MateEntry, Rank};
 use shogi_rules::Problem;
-use std::alloc::Global;
+use std::alloc::{AllocError, Global};
 
-// The first step from a place to one that is beaten below its rank.
-fn winning_step(graph: &Graph, ranks: &[u32], place: usize) -> Step
-    requires all { length ranks.now ≡ units_of graph.now }
+// The rank of a place that has one: less than the number of known positions, of which the defender's have none.
+fn known_rank(problem: &Problem, graph: &Graph, ranks: &[Option<u32>], place: usize) -> Rank
+    requires graph { IsGraph problem.now.position graph.now }
+    requires ranks { AreRanks false problem.now.position graph.now ranks.now }
+    requires short { expansions_of graph.now ≤ MOST_EXPANSIONS }
+    requires has { HasRank ranks.now place }
+    ensures { rank_at ranks.now place ≡ Some result.number }
+{
+    match rank_of(ranks, place) {
+        Some(number) => Rank { number },
+        None => unreachable!(),
+    }
+}
+
+// The first step from a place to one that is beaten below a rank.
+fn winning_step(graph: &Graph, ranks: &[Option<u32>], rank: u32, place: usize) -> Step
+    requires all { length ranks.now ≡ expansions_of graph.now }
     requires place { place < length ranks.now }
-    requires won { IsWon false graph.now ranks.now (slice_index ranks.now place) place }
+    requires won { IsWon false graph.now ranks.now (Some rank) place }
     requires rises { RisesFrom 0 (moves_of (steps_at graph.now place)) }
     ensures step { Contains (steps_at graph.now place) result }
-    ensures beaten { IsBeaten false graph.now ranks.now (slice_index ranks.now place) result.to }
-    ensures first { (other : Step) → Contains (steps_at graph.now place) other → IsBeaten false graph.now ranks.now (slice_index ranks.now place) other.to
+    ensures beaten { IsBeaten false graph.now ranks.now (Some rank) result.to }
+    ensures first { (other : Step) → Contains (steps_at graph.now place) other → IsBeaten false graph.now ranks.now (Some rank) other.to
         → order_of result.by ≤ order_of other.by }
 {
     // In a list in the order of moves, what comes sooner stands sooner.
     order_laws();
     for step in graph.steps(place) {
-        if is_beaten(graph, ranks, false, ranks[place], step.to) {
+        if is_beaten(graph, ranks, false, rank, step.to) {
             return *step;
         }
     }
@@ -40,12 +56,13 @@ pub(crate) fn mate_entries(
     alloc: Global,
     problem: &Problem,
     graph: &Graph,
-    ranks: &[u32],
-) -> Result<Vec<MateEntry>, NoMemory>
+    ranks: &[Option<u32>],
+) -> Result<Vec<MateEntry>, AllocError>
     requires graph { IsGraph problem.now.position graph.now }
     requires ranks { AreRanks false problem.now.position graph.now ranks.now }
-    requires known { 0 < units_of graph.now }
-    requires mate { 0 < slice_index ranks.now 0 }
+    requires known { 0 < expansions_of graph.now }
+    requires short { expansions_of graph.now ≤ MOST_EXPANSIONS }
+    requires mate { HasRank ranks.now 0 }
     ensures entries { IfOk result (λ entries. AreMateEntries problem.now.position entries.items) }
     ensures plain { IfOk result (λ entries. ArePlainEntries problem.now.position (known_of graph.now) entries.items) }
 {
@@ -54,12 +71,13 @@ pub(crate) fn mate_entries(
     let mut entries = Vec::new(alloc);
     while entries.len() < agenda.places().len() {
         let place = agenda.places()[entries.len()];
-        let step = winning_step(graph, ranks, place);
-        for answer in graph.steps(step.to) {
-            agenda.add(ranks.len(), answer.to)?;
+        let rank = known_rank(problem, graph, ranks, place);
+        let step = winning_step(graph, ranks, rank.number, place);
+        for evasion in graph.steps(step.to) {
+            agenda.add(ranks.len(), evasion.to)?;
         }
         entries.push(MateEntry {
-            rank: ranks[place],
+            rank,
             by: step.by,
             at: *graph.position(place),
         })?;

@@ -5,13 +5,13 @@ ghost use Rattle.board_core.specs.Kept.{IsKept};
 ghost use Rattle.cert_text.specs.Certificate.{AreApart};
 ghost use Rattle.plain_search.specs.Entries.{IsTextOrder};
 
-use board_core::{NoMemory, Position};
+use board_core::Position;
 use sfen_text::write_sfen;
-use std::alloc::Global;
+use std::alloc::{AllocError, Global};
 use std::collections::BTreeMap;
 
 /// The places of positions, of which none stands twice, in the order of the bytes of their SFEN texts.
-pub(crate) fn text_order(alloc: Global, positions: &[Position]) -> Result<Vec<usize>, NoMemory>
+pub(crate) fn text_order(alloc: Global, positions: &[Position]) -> Result<Vec<usize>, AllocError>
     requires apart { AreApart positions.now }
     requires kept { (b : Board) → Contains positions.now b → IsKept b }
     ensures { IfOk result (λ order. IsTextOrder positions.now order.items) }

@@ -8,6 +8,6 @@ pub enum Outcome {
     Mate(MateCertificate),
     /// It is none.
     NoMate(EscapeCertificate),
-    /// All units were used up, and neither was told.
+    /// All expansions were used up, and neither was told.
     Spent,
 }

@@ -1,33 +1,46 @@
 // Ranks of the known positions, by their places.
-ghost use Rattle.std.specs.Prelude.{◌≡◌, ◌<◌, ◌≤◌, ◌↔◌, ◌==◌, IfOk, IsTrue, length, replicate, count_by};
-ghost use Rattle.plain_search.specs.Graph.{IsGraph, units_of};
-ghost use Rattle.plain_search.specs.Ranks.{IsRanked, IsBeaten, IsWon, IsNext, AreNext, AreRanks};
+ghost use Rattle.std.specs.Prelude.{◌≡◌, ◌<◌, ◌≤◌, ◌↔◌, None, Some, IfOk, IsTrue, length, replicate, count_by, is_none};
+ghost use Rattle.search_gate.specs.declared.expansions.TheConstants.{MOST_EXPANSIONS};
+ghost use Rattle.plain_search.specs.Graph.{IsGraph, expansions_of};
+ghost use Rattle.plain_search.specs.Ranks.{rank_at, IsRanked, IsBeaten, IsWon, IsNext, AreNext, AreRanks};
 
 use crate::graph::Graph;
-use board_core::NoMemory;
 use shogi_rules::Problem;
-use std::alloc::Global;
+use std::alloc::{AllocError, Global};
 
-fn is_ranked(ranks: &[u32], beyond: bool, below: u32, place: usize) -> bool
-    ensures { IsTrue result ↔ IsRanked beyond ranks.now below place }
+/// The rank of a place; none, where it has none, and beyond the known places.
+pub(crate) fn rank_of(ranks: &[Option<u32>], place: usize) -> Option<u32>
+    ensures { result ≡ rank_at ranks.now place }
 {
     if place < ranks.len() {
-        0 < ranks[place] && ranks[place] < below
+        ranks[place]
     } else {
-        beyond
+        None
+    }
+}
+
+fn is_ranked(ranks: &[Option<u32>], beyond: bool, below: u32, place: usize) -> bool
+    ensures { IsTrue result ↔ IsRanked beyond ranks.now (Some below) place }
+{
+    if place >= ranks.len() {
+        return beyond;
+    }
+    match rank_of(ranks, place) {
+        Some(rank) => rank < below,
+        None => false,
     }
 }
 
 /// Whether all steps from a place lead to places with a rank below this one.
 pub(crate) fn is_beaten(
     graph: &Graph,
-    ranks: &[u32],
+    ranks: &[Option<u32>],
     beyond: bool,
     below: u32,
     place: usize,
 ) -> bool
-    requires { length ranks.now ≡ units_of graph.now }
-    ensures { IsTrue result ↔ IsBeaten beyond graph.now ranks.now below place }
+    requires { length ranks.now ≡ expansions_of graph.now }
+    ensures { IsTrue result ↔ IsBeaten beyond graph.now ranks.now (Some below) place }
 {
     if place >= ranks.len() {
         return beyond;
@@ -41,10 +54,10 @@ pub(crate) fn is_beaten(
 }
 
 // Whether one of the steps from a place leads to a beaten one.
-fn is_won(graph: &Graph, ranks: &[u32], beyond: bool, below: u32, place: usize) -> bool
-    requires all { length ranks.now ≡ units_of graph.now }
+fn is_won(graph: &Graph, ranks: &[Option<u32>], beyond: bool, below: u32, place: usize) -> bool
+    requires all { length ranks.now ≡ expansions_of graph.now }
     requires place { place < length ranks.now }
-    ensures { IsTrue result ↔ IsWon beyond graph.now ranks.now below place }
+    ensures { IsTrue result ↔ IsWon beyond graph.now ranks.now (Some below) place }
 {
     for step in graph.steps(place) {
         if is_beaten(graph, ranks, beyond, below, step.to) {
@@ -55,37 +68,36 @@ fn is_won(graph: &Graph, ranks: &[u32], beyond: bool, below: u32, place: usize) 
 }
 
 // How many places have no rank.
-fn unranked(ranks: &[u32]) -> usize
-    ensures { result ≡ count_by (λ rank. rank == 0) ranks.now }
+fn unranked(ranks: &[Option<u32>]) -> usize
+    ensures { result ≡ count_by is_none ranks.now }
 {
-    ranks.iter().filter(|rank| **rank == 0).count()
+    ranks.iter().filter(|rank| rank.is_none()).count()
 }
 
 // The rank of a place once those of this rank, which is above all others, are added.
-fn rank_at(
+fn next_rank(
     problem: &Problem,
     graph: &Graph,
-    ranks: &[u32],
+    ranks: &[Option<u32>],
     beyond: bool,
     rank: u32,
     place: usize,
-) -> u32
+) -> Option<u32>
     requires graph { IsGraph problem.now.position graph.now }
-    requires all { length ranks.now ≡ units_of graph.now }
+    requires all { length ranks.now ≡ expansions_of graph.now }
     requires place { place < length ranks.now }
     ensures { IsNext beyond problem.now.position graph.now ranks.now rank place result }
 {
-    let old = ranks[place];
-    if old > 0 {
-        return old;
+    if let Some(old) = rank_of(ranks, place) {
+        return Some(old);
     }
     if graph.position(place).side() != problem.attacker() {
-        return 0;
+        return None;
     }
     if is_won(graph, ranks, beyond, rank, place) {
-        rank
+        Some(rank)
     } else {
-        0
+        None
     }
 }
 
@@ -94,28 +106,28 @@ fn with_rank(
     alloc: Global,
     problem: &Problem,
     graph: &Graph,
-    ranks: &[u32],
+    ranks: &[Option<u32>],
     beyond: bool,
     rank: u32,
-) -> Result<Vec<u32>, NoMemory>
+) -> Result<Vec<Option<u32>>, AllocError>
     requires graph { IsGraph problem.now.position graph.now }
-    requires all { length ranks.now ≡ units_of graph.now }
+    requires all { length ranks.now ≡ expansions_of graph.now }
     ensures next { IfOk result (λ next. AreNext beyond problem.now.position graph.now ranks.now rank next.items) }
 {
     let mut next = Vec::new(alloc);
     for place in 0..ranks.len() {
-        next.push(rank_at(problem, graph, ranks, beyond, rank, place))?;
+        next.push(next_rank(problem, graph, ranks, beyond, rank, place))?;
     }
     Ok(next)
 }
 
 // No ranks yet.
-fn no_ranks(alloc: Global, count: usize) -> Result<Vec<u32>, NoMemory>
-    ensures { IfOk result (λ ranks. ranks.items ≡ replicate count 0) }
+fn no_ranks(alloc: Global, count: usize) -> Result<Vec<Option<u32>>, AllocError>
+    ensures { IfOk result (λ ranks. ranks.items ≡ replicate count None) }
 {
     let mut ranks = Vec::new(alloc);
     for _ in 0..count {
-        ranks.push(0)?;
+        ranks.push(None)?;
     }
     Ok(ranks)
 }
@@ -126,12 +138,12 @@ pub(crate) fn ranks_of(
     problem: &Problem,
     graph: &Graph,
     beyond: bool,
-) -> Result<Vec<u32>, NoMemory>
+) -> Result<Vec<Option<u32>>, AllocError>
     requires graph { IsGraph problem.now.position graph.now }
-    requires short { units_of graph.now ≤ 1000000000 }
+    requires short { expansions_of graph.now ≤ MOST_EXPANSIONS }
     ensures { IfOk result (λ ranks. AreRanks beyond problem.now.position graph.now ranks.items) }
 {
-    let mut ranks = no_ranks(alloc, graph.units())?;
+    let mut ranks = no_ranks(alloc, graph.expansions())?;
     let mut rank = 1;
     loop {
         let next = with_rank(alloc, problem, graph, &ranks, beyond, rank)?;

@@ -1,12 +1,12 @@
--- The main line of a mate's certificate: the attacker plays the certificate's move, the defender the answer that lasts longest.
+-- The main line of a mate's certificate: the attacker plays the certificate's move, the defender the evasion that lasts longest.
 use Rattle.std.specs.Prelude.{◌≡◌, ◌≤◌, ℕ, List, [], ◌∷◌, Option, Some, None, Contains}
 use Rattle.board_core.specs.declared.piece.Side.{Side}
 use Rattle.board_core.specs.declared.moves.Move.{Move}
-use Rattle.board_core.specs.declared.moves.MateEntry.{MateEntry}
+use Rattle.cert_text.specs.declared.entry.MateEntry.{MateEntry}
 use Rattle.board_core.specs.Board.{Board}
 use Rattle.board_core.specs.Order.{order_of}
 use Rattle.shogi_rules.specs.Rules.{after}
-use Rattle.shogi_rules.specs.Tsume.{IsAnswer}
+use Rattle.shogi_rules.specs.Tsume.{IsEvasion}
 use Rattle.mate_def.specs.Mate.{after_both}
 use Rattle.cert_text.specs.Certificate.{Mating}
 
@@ -22,26 +22,26 @@ pub record IsRankAt (c : Mating) (position : Board) (rank : ℕ) : Type 0 where
   pub entry : MateEntry
   pub listed : Contains c.entries entry
   pub same : entry.at ≡ position
-  pub has_rank : entry.rank ≡ rank
+  pub has_rank : entry.rank.number ≡ rank
 
--- The answer that lasts longest: it leads to the position of the highest rank, and is the first that does, in the order of
+-- The evasion that lasts longest: it leads to the position of the highest rank, and is the first that does, in the order of
 -- moves.
-pub record IsLongest (c : Mating) (attacker : Side) (b : Board) (answer : Move) : Type 0 where
-  pub is_answer : IsAnswer attacker b answer
+pub record IsLongest (c : Mating) (attacker : Side) (b : Board) (evasion : Move) : Type 0 where
+  pub is_evasion : IsEvasion attacker b evasion
   pub rank : ℕ
-  pub leads : IsRankAt c (after b answer) rank
-  pub highest : (other : Move) (lower : ℕ) → IsAnswer attacker b other → IsRankAt c (after b other) lower → lower ≤ rank
-  pub first : (other : Move) → IsAnswer attacker b other → IsRankAt c (after b other) rank → order_of answer ≤ order_of other
+  pub leads : IsRankAt c (after b evasion) rank
+  pub highest : (other : Move) (lower : ℕ) → IsEvasion attacker b other → IsRankAt c (after b other) lower → lower ≤ rank
+  pub first : (other : Move) → IsEvasion attacker b other → IsRankAt c (after b other) rank → order_of evasion ≤ order_of other
 
--- The main line at a position: the certificate's move there; where the defender has no answer to it, that is all; else it goes
--- on with the answer that lasts longest, and then with the main line from there.
+-- The main line at a position: the certificate's move there; where the defender has no evasion to it, that is all; else it goes
+-- on with the evasion that lasts longest, and then with the main line from there.
 abbrev pub IsMainLine : Mating → Side → Board → List Move → Type 0
 IsMainLine c attacker b [] = ⊥
-IsMainLine c attacker b (check ∷ []) = IsMoveAt c b check × ((answer : Move) → ¬ IsAnswer attacker (after b check) answer)
-IsMainLine c attacker b (check ∷ answer ∷ rest) =
-    IsMoveAt c b check × IsLongest c attacker (after b check) answer × IsMainLine c attacker (after_both b check answer) rest
+IsMainLine c attacker b (check ∷ []) = IsMoveAt c b check × ((evasion : Move) → ¬ IsEvasion attacker (after b check) evasion)
+IsMainLine c attacker b (check ∷ evasion ∷ rest) =
+    IsMoveAt c b check × IsLongest c attacker (after b check) evasion × IsMainLine c attacker (after_both b check evasion) rest
 
--- What the defender plays after a check: nothing where he has no answer, else the one that lasts longest.
+-- What the defender plays after a check: nothing where he has no evasion, else the one that lasts longest.
 abbrev pub IsDefence : Mating → Side → Board → Option Move → Type 0
-IsDefence c attacker b None = (answer : Move) → ¬ IsAnswer attacker b answer
-IsDefence c attacker b (Some answer) = IsLongest c attacker b answer
+IsDefence c attacker b None = (evasion : Move) → ¬ IsEvasion attacker b evasion
+IsDefence c attacker b (Some evasion) = IsLongest c attacker b evasion

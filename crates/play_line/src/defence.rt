@@ -1,45 +1,61 @@
-// The answer that lasts longest.
+// The evasion that lasts longest.
 ghost use Rattle.std.specs.Prelude.{IfOk, Contains};
 ghost use Rattle.board_core.specs.declared.moves.Move.{Move};
 ghost use Rattle.shogi_rules.specs.Rules.{IsQuiet, after};
-ghost use Rattle.shogi_rules.specs.Tsume.{IsAnswer};
+ghost use Rattle.shogi_rules.specs.Tsume.{IsEvasion};
 ghost use Rattle.cert_text.specs.Certificate.{positions_of};
 ghost use Rattle.cert_check.specs.Places.{ArePlacesOf};
 ghost use Rattle.play_line.specs.Line.{IsDefence};
+ghost use Rattle.play_line.specs.Lasting.{IsLonger};
 
 use crate::finding::rank_after;
-use board_core::{Move, NoMemory, Position, order_laws};
+use board_core::{Move, Position, order_laws};
 use cert_check::Places;
 use cert_text::MateCertificate;
 use shogi_rules::Problem;
-use shogi_rules::trial::trial_answers;
-use std::alloc::Global;
+use shogi_rules::trial::trial_evasions;
+use std::alloc::{AllocError, Global};
 
-/// What the defender plays at a position after a check, where each answer leads to a listed position.
+// An evasion, and the rank of what it leads to.
+#[derive(Clone, Copy)]
+struct Lasting {
+    by: Move,
+    rank: u32,
+}
+
+// The one of the evasions so far that lasts longest, with one more that comes after them.
+fn longer(longest: Option<Lasting>, next: Lasting) -> Lasting
+    ensures { IsLonger longest next result }
+{
+    match longest {
+        None => next,
+        Some(first) => { if next.rank > first.rank { next } else { first } }
+    }
+}
+
+/// What the defender plays at a position after a check, where each evasion leads to a listed position.
 pub(crate) fn defence(
     alloc: Global,
     problem: &Problem,
     certificate: &MateCertificate,
     places: &Places,
     checked: &Position,
-) -> Result<Option<Move>, NoMemory>
+) -> Result<Option<Move>, AllocError>
     requires places { ArePlacesOf places.now (positions_of certificate.now.entries) }
     requires quiet { IsQuiet checked.now }
-    requires listed { (answer : Move) → IsAnswer problem.now.position.side checked.now answer → Contains (positions_of certificate.now.entries) (after checked.now answer) }
-    ensures { IfOk result (λ answer. IsDefence certificate.now problem.now.position.side checked.now answer) }
+    requires listed { (evasion : Move) → IsEvasion problem.now.position.side checked.now evasion → Contains (positions_of certificate.now.entries) (after checked.now evasion) }
+    ensures { IfOk result (λ evasion. IsDefence certificate.now problem.now.position.side checked.now evasion) }
 {
     // In a list in the order of moves, what comes sooner stands sooner.
     order_laws();
-    let answers = trial_answers(alloc, problem, checked)?;
+    let evasions = trial_evasions(alloc, problem, checked)?;
     let mut longest = None;
-    // Ranks are at least 1, so the first answer is above this.
-    let mut highest = 0;
-    for answer in &answers {
-        let rank = rank_after(certificate, places, checked, *answer);
-        if rank > highest {
-            highest = rank;
-            longest = Some(*answer);
-        }
+    for evasion in &evasions {
+        let rank = rank_after(certificate, places, checked, *evasion);
+        longest = Some(longer(longest, Lasting { by: *evasion, rank }));
     }
-    Ok(longest)
+    match longest {
+        None => Ok(None),
+        Some(longest) => Ok(Some(longest.by)),
+    }
 }

@@ -1,26 +1,14 @@
 // Finding the entries of a certificate by their positions.
-ghost use Rattle.std.specs.Prelude.{◌≡◌, ◌≤◌, ℕ, Some, IfOk, Contains, slice_get};
+ghost use Rattle.std.specs.Prelude.{◌≡◌, ℕ, Some, Contains, slice_get};
 ghost use Rattle.shogi_rules.specs.Rules.{IsQuiet, IsLegal, after};
 ghost use Rattle.cert_text.specs.Certificate.{positions_of};
 ghost use Rattle.cert_check.specs.Places.{ArePlacesOf};
 ghost use Rattle.play_line.specs.Line.{IsRankAt};
 
-use board_core::{Move, NoMemory, Position};
+use board_core::{Move, Position};
 use cert_check::Places;
-use cert_text::MateCertificate;
+use cert_text::{MateCertificate, cert_laws};
 use shogi_rules::apply;
-use std::alloc::Global;
-
-/// Where each position of the certificate stands.
-pub(crate) fn places_of(alloc: Global, certificate: &MateCertificate) -> Result<Places, NoMemory>
-    ensures { IfOk result (λ places. ArePlacesOf places (positions_of certificate.now.entries)) }
-{
-    let mut places = Places::new(alloc);
-    for (place, entry) in certificate.entries().iter().enumerate() {
-        places.add(&entry.at, place)?;
-    }
-    Ok(places)
-}
 
 /// The place of a position that is listed.
 pub(crate) fn place_of(certificate: &MateCertificate, places: &Places, position: &Position) -> usize
@@ -47,8 +35,9 @@ pub(crate) fn rank_after(
     requires listed { Contains (positions_of certificate.now.entries) (after position.now by) }
     ensures rank { IsRankAt certificate.now (after position.now by) result }
     ensures only { (rank : ℕ) → IsRankAt certificate.now (after position.now by) rank → rank ≡ result }
-    ensures least { 1 ≤ result }
 {
+    // Entries of one position are one entry.
+    cert_laws();
     let place = place_of(certificate, places, &apply(position, by));
-    certificate.entries()[place].rank
+    certificate.entries()[place].rank.number
 }

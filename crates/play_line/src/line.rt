@@ -5,24 +5,27 @@ ghost use Rattle.cert_check.specs.Valid.{ValidMate};
 ghost use Rattle.play_line.specs.Line.{IsMainLine};
 
 use crate::defence::defence;
-use crate::finding::{place_of, places_of};
-use board_core::{Move, NoMemory};
-use cert_text::MateCertificate;
+use crate::finding::place_of;
+use board_core::Move;
+use cert_check::places_of;
+use cert_text::{MateCertificate, cert_laws};
 use shogi_rules::{Problem, apply};
-use std::alloc::Global;
+use std::alloc::{AllocError, Global};
 
 /// The main line of a mate's certificate that is valid for the problem: at each position of the attacker the certificate's
-/// move, and as long as the defender has an answer, the one that leads to the position of the highest rank, the first such in
-/// the order of moves. It ends with the move that has no answer. Errors: want of memory alone.
+/// move, and as long as the defender has an evasion, the one that leads to the position of the highest rank, the first such in
+/// the order of moves. It ends with the move that has no evasion. Errors: want of memory alone.
 pub fn main_line(
     alloc: Global,
     problem: &Problem,
     certificate: &MateCertificate,
-) -> Result<Vec<Move>, NoMemory>
+) -> Result<Vec<Move>, AllocError>
     requires { ValidMate certificate.now problem.now.position }
     ensures line { IfOk result (λ moves. IsMainLine certificate.now problem.now.position.side problem.now.position moves.items) }
     ensures texts { IfOk result (λ moves. AllHaveText moves.items) }
 {
+    // Entries of one position are one entry.
+    cert_laws();
     let places = places_of(alloc, certificate)?;
     let entries = certificate.entries();
     let mut place = place_of(certificate, &places, &problem.position);
@@ -33,9 +36,9 @@ pub fn main_line(
         let checked = apply(&entry.at, entry.by);
         match defence(alloc, problem, certificate, &places, &checked)? {
             None => return Ok(moves),
-            Some(answer) => {
-                moves.push(answer)?;
-                place = place_of(certificate, &places, &apply(&checked, answer));
+            Some(evasion) => {
+                moves.push(evasion)?;
+                place = place_of(certificate, &places, &apply(&checked, evasion));
             }
         }
     }

@@ -1,10 +1,10 @@
 // Answers, and how the rules find them.
 use crate::question::{Question, read_question};
-use board_core::{Move, NoMemory, Position};
+use board_core::{Move, Position};
 use sfen_text::{TextFault, read_sfen};
-use shogi_rules::trial::{trial_answers, trial_checks};
+use shogi_rules::trial::{trial_checks, trial_evasions};
 use shogi_rules::{Illegal, Problem, apply, in_check, legal};
-use std::alloc::Global;
+use std::alloc::{AllocError, Global};
 
 /// What a line is answered.
 #[derive(Drop)]
@@ -38,7 +38,7 @@ fn about_move(problem: &Problem, by: Move) -> Answer {
 }
 
 // The answers to a move that is a check; any other move is no question.
-fn about_check(alloc: Global, problem: &Problem, by: Move) -> Result<Answer, NoMemory> {
+fn about_check(alloc: Global, problem: &Problem, by: Move) -> Result<Answer, AllocError> {
     if legal(&problem.position, by).is_err() {
         return Ok(Answer::NotAQuestion);
     }
@@ -46,11 +46,11 @@ fn about_check(alloc: Global, problem: &Problem, by: Move) -> Result<Answer, NoM
     if !in_check(&after, after.side()) {
         return Ok(Answer::NotAQuestion);
     }
-    Ok(Answer::Moves(trial_answers(alloc, problem, &after)?))
+    Ok(Answer::Moves(trial_evasions(alloc, problem, &after)?))
 }
 
 /// The answer to a line, which comes without its line feed. Errors: want of memory alone.
-pub fn answer_to(alloc: Global, line: &[u8]) -> Result<Answer, NoMemory> {
+pub fn answer_to(alloc: Global, line: &[u8]) -> Result<Answer, AllocError> {
     match read_question(line) {
         Some(Question::Text(text)) => Ok(about_text(text)),
         Some(Question::Legal { by, problem }) => Ok(about_move(&problem, by)),

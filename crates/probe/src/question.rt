@@ -36,8 +36,6 @@ fn split_at_space(text: &[u8]) -> Option<(&[u8], &[u8])> {
 // not to move is in check.
 fn read_problem(text: &[u8]) -> Option<Problem> {
     let position = read_sfen(text).ok()?;
-    // Each position that is read has this king.
-    position.king_square(position.side().other())?;
     accept_problem(position).ok()
 }
 

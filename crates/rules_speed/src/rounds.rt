@@ -1,8 +1,8 @@
 // The work that is measured.
-use board_core::{NoMemory, Position, Side, Square};
+use board_core::{Position, Side, Square};
 use shogi_rules::trial::trial_checks;
 use shogi_rules::{Problem, attacked as is_attacked, in_check as is_in_check};
-use std::alloc::Global;
+use std::alloc::{AllocError, Global};
 
 fn side(round: u64) -> Side {
     if round % 2 == 0 {
@@ -36,7 +36,7 @@ pub fn in_check(position: &Position, rounds: u64) -> u64 {
 }
 
 /// Lists a problem's checks each round; answers how many were listed in all.
-pub fn checks(alloc: Global, problem: &Problem, rounds: u64) -> Result<u64, NoMemory> {
+pub fn checks(alloc: Global, problem: &Problem, rounds: u64) -> Result<u64, AllocError> {
     let mut listed: u64 = 0;
     for _ in 0..rounds {
         let moves = trial_checks(alloc, problem, &problem.position)?;

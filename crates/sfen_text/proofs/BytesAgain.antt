@@ -7,9 +7,9 @@ use Rattle.board_core.specs.declared.piece.Kind.{Kind}
 use Rattle.board_core.specs.declared.piece.Side.{Side}
 use Rattle.board_core.specs.declared.piece.Piece.{Piece}
 use Rattle.board_core.specs.declared.piece.Kind.TheVariants.{King, Rook, Bishop, Gold, Silver, Knight, Lance, Pawn}
-use Rattle.board_core.specs.Board.{held}
+use Rattle.board_core.specs.Board.{hand_count}
 use Rattle.sfen_text.specs.Pieces.{letter_of, plus_text, piece_text}
-use Rattle.sfen_text.specs.Spelling.{row_of, run_text, row_text, slashed_row, board_text, count_text, held_text, hand_text}
+use Rattle.sfen_text.specs.Spelling.{cells_of_row, run_text, row_text, slashed_row, board_text, count_text, held_text, hand_text}
 use Rattle.sfen_text.proofs.PiecesAgain.{IsPlain, letter_plain}
 use Rattle.sfen_text.proofs.RowsAgain.{row_size}
 use Rattle.sfen_text.proofs.HandsAgain.{IsSmall}
@@ -41,20 +41,20 @@ row_plain [] run le = run_plain run (omega arith)
 row_plain (None ∷ xs) run le = row_plain xs (run + 1) (omega arith)
 row_plain (Some p ∷ xs) run le = both_plain (run_text run ++ piece_text p) (row_text 0 xs) (both_plain (run_text run) (piece_text p) (run_plain run (omega arith)) (piece_plain p)) (row_plain xs 0 (omega arith))
 
-rows_plain : (n rank : ℕ) (cells : List (Option Piece)) → ArePlain (flat_map (slashed_row cells) (range_with_len rank n))
-rows_plain zero rank cells = tt
-rows_plain (suc n) rank cells = both_plain (slashed_row cells rank) (flat_map (slashed_row cells) (range_with_len (rank + 1) n))
-    (low_plain 47 (omega arith) (omega arith) (λ e. omega arith), row_plain (row_of cells rank) 0 (omega (arith, row_size cells rank))) (rows_plain n (rank + 1) cells)
+rows_plain : (n row_number : ℕ) (cells : List (Option Piece)) → ArePlain (flat_map (slashed_row cells) (range_with_len row_number n))
+rows_plain zero row_number cells = tt
+rows_plain (suc n) row_number cells = both_plain (slashed_row cells row_number) (flat_map (slashed_row cells) (range_with_len (row_number + 1) n))
+    (low_plain 47 (omega arith) (omega arith) (λ e. omega arith), row_plain (cells_of_row cells row_number) 0 (omega (arith, row_size cells row_number))) (rows_plain n (row_number + 1) cells)
 
 pub board_plain : (cells : List (Option Piece)) → ArePlain (board_text cells)
-board_plain cells = both_plain (row_text 0 (row_of cells 1)) (flat_map (slashed_row cells) (range_with_len 2 8)) (row_plain (row_of cells 1) 0 (omega (arith, row_size cells 1))) (rows_plain 8 2 cells)
+board_plain cells = both_plain (row_text 0 (cells_of_row cells 1)) (flat_map (slashed_row cells) (range_with_len 2 8)) (row_plain (cells_of_row cells 1) 0 (omega (arith, row_size cells 1))) (rows_plain 8 2 cells)
 
-rows_long : (n rank : ℕ) (cells : List (Option Piece)) → n ≤ length (flat_map (slashed_row cells) (range_with_len rank n))
-rows_long zero rank cells = omega arith
-rows_long (suc n) rank cells = omega (arith, rows_long n (rank + 1) cells, length-append (slashed_row cells rank) (flat_map (slashed_row cells) (range_with_len (rank + 1) n)))
+rows_long : (n row_number : ℕ) (cells : List (Option Piece)) → n ≤ length (flat_map (slashed_row cells) (range_with_len row_number n))
+rows_long zero row_number cells = omega arith
+rows_long (suc n) row_number cells = omega (arith, rows_long n (row_number + 1) cells, length-append (slashed_row cells row_number) (flat_map (slashed_row cells) (range_with_len (row_number + 1) n)))
 
 pub board_long : (cells : List (Option Piece)) → 2 ≤ length (board_text cells)
-board_long cells = omega (arith, rows_long 8 2 cells, length-append (row_text 0 (row_of cells 1)) (flat_map (slashed_row cells) (range_with_len 2 8)))
+board_long cells = omega (arith, rows_long 8 2 cells, length-append (row_text 0 (cells_of_row cells 1)) (flat_map (slashed_row cells) (range_with_len 2 8)))
 
 count_plain : (n : ℕ) → n ≤ 18 → ArePlain (count_text n)
 count_plain n le = go (eqb n 1) (ltb n 10) refl where
@@ -69,5 +69,5 @@ held_plain side k (suc n) le = both_plain (count_text (suc n)) (letter_of side k
 
 pub hand_plain : (side : Side) (hand : List ℕ) → IsSmall hand → ArePlain (hand_text side hand)
 hand_plain side hand small =
-    let one = λ (kind : Kind) (king : kind ≢ King). held_plain side kind (held hand kind) (small kind king) in
+    let one = λ (kind : Kind) (king : kind ≢ King). held_plain side kind (hand_count hand kind) (small kind king) in
     both_plain _ _ (one Rook (λ e. cc)) (both_plain _ _ (one Bishop (λ e. cc)) (both_plain _ _ (one Gold (λ e. cc)) (both_plain _ _ (one Silver (λ e. cc)) (both_plain _ _ (one Knight (λ e. cc)) (both_plain _ _ (one Lance (λ e. cc)) (both_plain _ _ (one Pawn (λ e. cc)) tt))))))

@@ -5,7 +5,9 @@ use Rattle.std.specs.List.{starts_with}
 use Rattle.std.proofs.lemmas.Bool.Decides.{eqb_tells, nat_tests}
 use Rattle.std.proofs.lemmas.List.{take_all, take_at, drop_at, reverse-append}
 use Rattle.std.proofs.lemmas.List.Sums.{take_while-cons}
-use Rattle.sfen_text.specs.Reading.{is_space, is_blank, leading, without_end_blanks, front_len, field, field_of}
+use Rattle.sfen_text.specs.Reading.{leading, without_end_blanks, front_len, field_of}
+use Rattle.sfen_text.specs.Bytes.{is_space, is_blank}
+use Rattle.sfen_text.specs.Fields.{field}
 use Rattle.sfen_text.proofs.PiecesAgain.{IsPlain}
 use Rattle.sfen_text.proofs.BytesAgain.{ArePlain}
 
@@ -69,11 +71,6 @@ field_behind at x xs rest solid ends =
     let none = leading_none is_space x (xs ++ rest) (no_space x solid.0) in
     let size = field_size (x ∷ xs) rest solid ends in
     rw (one, none, size, take_at (x ∷ xs) rest (length (x ∷ xs)) refl, drop_at (x ∷ xs) rest (length (x ∷ xs)) refl) refl
-
--- Behind the last field there is none.
-pub no_field : (at : ℕ) → (field_of at []).text ≡ []
-unfolding field_of leading
-no_field at = refl
 
 -- ---- both ends
 

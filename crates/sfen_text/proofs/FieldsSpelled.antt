@@ -6,17 +6,20 @@ use Rattle.std.proofs.lemmas.Bool.{and_parts, and_from}
 use Rattle.std.proofs.lemmas.Bool.Decides.{eqb_tells, nat_tests}
 use Rattle.std.proofs.lemmas.List.{append-nil, length-append, length-replicate, length-reverse, reverse-append, reverse-reverse, take_at, drop_at}
 use Rattle.std.proofs.lemmas.List.Folds.{list_all-append}
+use Rattle.board_core.specs.Kind.{PlacesInHand}
 use Rattle.board_core.specs.declared.piece.Piece.{Piece}
 use Rattle.board_core.specs.Board.{Board}
 use Rattle.sfen_text.specs.Spelling.{side_letter}
-use Rattle.sfen_text.specs.Spells.{Stretch, empty, one, stretch_text, stretch_squares, row_squares, slashed, BoardSpells, HandsSpell, IsGap, IsNumber, IsEnd, hand_item_text}
-use Rattle.sfen_text.specs.Hands.{is_digit}
-use Rattle.sfen_text.specs.Reading.{is_space, is_blank, leading, without_end_blanks, Field, field, field_of, end_of, ended, fields_at}
+use Rattle.sfen_text.specs.Spells.{Stretch, empty, one, stretch_text, stretch_squares, row_squares, row_behind_slash, BoardSpells, HandsSpell, IsGap, IsNumber, IsEnd, hand_item_text}
+use Rattle.sfen_text.specs.Reading.{leading, without_end_blanks, field_of, end_outcome, fields_at}
+use Rattle.sfen_text.specs.Bytes.{is_digit, is_space, is_blank}
+use Rattle.sfen_text.specs.Fields.{Field, field, end_of}
 use Rattle.sfen_text.proofs.BytesAgain.{ArePlain, both_plain, low_plain, run_plain, piece_plain}
 use Rattle.sfen_text.proofs.Fields.{all_good}
 use Rattle.sfen_text.proofs.FieldsAgain.{Ends, AreSolid, leading_none, leading_more, leading_nil, no_space, no_blank, field_size, solid_from_plain, last_solid}
 use Rattle.sfen_text.proofs.TextAgain.{Begun, Two, two_of, dash_begun, end_again, side_again, side_solid}
-use Rattle.sfen_text.proofs.BoardSpelled.{AreNine, rows_are, spelled_cells}
+use Rattle.sfen_text.specs.Faults.{AreNineEach}
+use Rattle.sfen_text.proofs.BoardSpelled.{rows_are, spelled_cells}
 use Rattle.sfen_text.proofs.HandsSpelled.{items_plain, spelled_hands}
 
 -- ---- bytes that pass a test
@@ -24,7 +27,7 @@ use Rattle.sfen_text.proofs.HandsSpelled.{items_plain, spelled_hands}
 pub all_of_both : (test : ℕ → Bool) (xs ys : List ℕ) → list_all test xs ≡ true → list_all test ys ≡ true → list_all test (xs ++ ys) ≡ true
 all_of_both test xs ys p q = list_all-append test xs ys ∙ and_from (list_all test xs) (list_all test ys) p q
 
-all_reversed : (test : ℕ → Bool) (xs : List ℕ) → list_all test xs ≡ true → list_all test (reverse xs) ≡ true
+pub all_reversed : (test : ℕ → Bool) (xs : List ℕ) → list_all test xs ≡ true → list_all test (reverse xs) ≡ true
 all_reversed test [] h = h
 all_reversed test (x ∷ xs) h =
     let parts = and_parts (test x) (list_all test xs) h in
@@ -110,19 +113,19 @@ row_plain (s ∷ row) le =
     let size = length-append (stretch_squares s) (row_squares row) in
     both_plain (stretch_text s) (flat_map stretch_text row) (stretch_plain s (omega (arith, size, le))) (row_plain row (omega (arith, size, le)))
 
-rows_plain : (rows : List (List Stretch)) → AreNine rows → ArePlain (flat_map slashed rows)
+rows_plain : (rows : List (List Stretch)) → AreNineEach rows → ArePlain (flat_map row_behind_slash rows)
 rows_plain [] nine = tt
-rows_plain (row ∷ rows) nine = both_plain (slashed row) (flat_map slashed rows) (low_plain 47 (omega arith) (omega arith) (λ e. omega arith), row_plain row (omega (arith, nine.0))) (rows_plain rows nine.1)
+rows_plain (row ∷ rows) nine = both_plain (row_behind_slash row) (flat_map row_behind_slash rows) (low_plain 47 (omega arith) (omega arith) (λ e. omega arith), row_plain row (omega (arith, nine.0))) (rows_plain rows nine.1)
 
-rows_long : (rows : List (List Stretch)) → length rows ≤ length (flat_map slashed rows)
+rows_long : (rows : List (List Stretch)) → length rows ≤ length (flat_map row_behind_slash rows)
 rows_long [] = omega arith
-rows_long (row ∷ rows) = omega (arith, rows_long rows, length-append (slashed row) (flat_map slashed rows))
+rows_long (row ∷ rows) = omega (arith, rows_long rows, length-append (row_behind_slash row) (flat_map row_behind_slash rows))
 
 pub board_two : (text : List ℕ) (cells : List (Option Piece)) → BoardSpells text cells → Two text
 board_two text cells spells =
     let are = rows_are 9 spells.0 cells 1 spells.2 in
     let plain : ArePlain (47 ∷ text) = subst ArePlain (sym spells.1) (rows_plain spells.0 are.1) in
-    let long : length (47 ∷ text) ≡ length (flat_map slashed spells.0) = ap length spells.1 in
+    let long : length (47 ∷ text) ≡ length (flat_map row_behind_slash spells.0) = ap length spells.1 in
     two_of text plain.1 (omega (arith, long, rows_long spells.0, are.0))
 
 pub hands_begun : (text black white : List ℕ) → HandsSpell text black white → Begun text
@@ -139,15 +142,15 @@ digits_solid (x ∷ xs) h =
     let from : 48 ≤ x = grind (arith, nat_tests, (and_parts (nat_le 48 x) (nat_le x 57) parts.0).0) in
     (omega (arith, from), digits_solid xs parts.1)
 
-number_ended : (at : ℕ) (digits : List ℕ) → length digits ≤ 9 → list_all is_digit digits ≡ true → ended (field at digits []) ≡ Ok (field at digits [])
-unfolding ended field_of leading
+number_ended : (at : ℕ) (digits : List ℕ) → length digits ≤ 9 → list_all is_digit digits ≡ true → end_outcome (field at digits []) ≡ Ok (field at digits [])
+unfolding end_outcome field_of leading
 number_ended at digits le all = let fits : nat_le (length digits) 9 ≡ true = grind (arith, nat_tests, le) in rw (fits, all) refl
 
 -- What may stand behind the hands is read to its end.
 record EndRead (at : ℕ) (end : List ℕ) : Type 0 where
   found : Field
   is : found ≡ field_of at end
-  good : ended found ≡ Ok found
+  good : end_outcome found ≡ Ok found
 
 nothing_here : (at : ℕ) → field (at + 0) [] [] ≡ field_of at []
 unfolding field_of leading
@@ -177,10 +180,10 @@ two_begun : (text : List ℕ) → Two text → Begun text
 two_begun text two = record { first = two.first; others = two.second ∷ two.others; parts = two.parts; solid = solid_from_plain (two.first ∷ two.second ∷ two.others) two.plain }
 
 -- The fields of a position, from any place.
-pub fields_read : (at : ℕ) (p : Board) (spaces board gap next_gap hands end : List ℕ) → length p.cells ≡ 81 → length p.black ≡ 7 → length p.white ≡ 7
+pub fields_read : PlacesInHand → (at : ℕ) (p : Board) (spaces board gap next_gap hands end : List ℕ) → length p.cells ≡ 81 → length p.black ≡ 7 → length p.white ≡ 7
     → list_all is_space spaces ≡ true → BoardSpells board p.cells → IsGap gap → IsGap next_gap → HandsSpell hands p.black p.white → IsEnd end
     → fields_at at (spaces ++ (board ++ (gap ++ (side_letter p.side ∷ (next_gap ++ (hands ++ end)))))) ≡ Ok p
-fields_read at p spaces board gap next_gap hands end cells black white is_spaces is_board is_gap is_next_gap is_hands is_end =
+fields_read in_hand at p spaces board gap next_gap hands end cells black white is_spaces is_board is_gap is_next_gap is_hands is_end =
     let third = next_gap ++ (hands ++ end) in
     let second = gap ++ (side_letter p.side ∷ third) in
     let f1 = field (at + length spaces) board second in
@@ -193,6 +196,6 @@ fields_read at p spaces board gap next_gap hands end cells black white is_spaces
     (sym (field_found (end_of f1) gap (side_letter p.side) [] third is_gap.1 (side_solid p.side) (gap_ends next_gap (hands ++ end) is_next_gap)))
     (side_again p.side f2.at)
     (found_by (end_of f2) next_gap hands end is_next_gap.1 (hands_begun hands p.black p.white is_hands) (end_ends end is_end))
-    (spelled_hands hands p.black p.white f3.at black white is_hands)
+    (spelled_hands in_hand hands p.black p.white f3.at black white is_hands)
     last.is
     last.good

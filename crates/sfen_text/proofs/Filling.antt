@@ -15,7 +15,7 @@ use Rattle.sfen_text.specs.declared.fault.TextFault.{TextFault}
 use Rattle.sfen_text.specs.declared.squares.Filling.{Filling}
 use Rattle.sfen_text.specs.declared.squares.Sign.TheVariants.{Run, Stands}
 use Rattle.sfen_text.specs.Pieces.{promoted_of, promoted_piece}
-use Rattle.sfen_text.specs.Signs.{plain_sign, stands, Signs, sign, signs, in_front, squares, IsFilling, filled, read_count, reading_place, cells_of}
+use Rattle.sfen_text.specs.Signs.{plain_sign, sign_of_piece, Signs, sign, signs, in_front, squares, IsFilling, filled_squares, read_count, reading_place, cells_of}
 use Rattle.std.proofs.lemmas.Bool.Decides.{nat_tests}
 use Rattle.std.proofs.lemmas.List.{ext_get_or}
 use Rattle.std.proofs.lemmas.List.FromFn.{length-map-range_with_len, get_or-map-range_with_len}
@@ -49,7 +49,7 @@ signs_first [] lt h at = absurd (omega arith)
 signs_first (byte ∷ text) lt (inl h) at = signs_one at byte text (inl (omega arith))
 signs_first (byte ∷ text) lt (inr h) at = signs_one at byte text (inr h)
 
-pub signs_promoted : (text : List ℕ) → 2 ≤ length text → get_or text 0 0 ≡ 43 → (at : ℕ) → signs at text ≡ sign at (stands (promoted_of (get_or text 1 0))) (signs (at + 2) (drop 2 text))
+pub signs_promoted : (text : List ℕ) → 2 ≤ length text → get_or text 0 0 ≡ 43 → (at : ℕ) → signs at text ≡ sign at (sign_of_piece (promoted_of (get_or text 1 0))) (signs (at + 2) (drop 2 text))
 unfolding signs
 signs_promoted [] lt h at = absurd (omega arith)
 signs_promoted (byte ∷ []) lt h at = absurd (omega arith)
@@ -89,8 +89,8 @@ none_everywhere zero (suc place) = refl
 none_everywhere (suc n) zero = refl
 none_everywhere (suc n) (suc place) = none_everywhere n place
 
-pub nothing_filled : IsFilling (record { read = replicate 81 None; ranks = 8; left = 9 })
-nothing_filled = record { size = refl; ranks = omega arith; left = omega arith; ahead = λ place _. none_everywhere 81 place }
+pub nothing_filled : IsFilling (record { read = replicate 81 None; further_rows = 8; left = 9 })
+nothing_filled = record { size = refl; further_rows = omega arith; left = omega arith; ahead = λ place _. none_everywhere 81 place }
 
 pub all_cells : (cells read : List (Option Piece)) → length cells ≡ 81 → ((k : ℕ) → k < 81 → get_or cells k None ≡ piece_at read (reading_place k)) → cells ≡ cells_of read
 unfolding cells_of
@@ -99,36 +99,36 @@ all_cells cells read size each = ext_get_or None cells (map (λ square. piece_at
 
 pub run_taken : (f : Filling) (count at : ℕ) → IsFilling f → count ≤ f.left
     → IsFilling (record f { left = f.left - count })
-    × ((end : ℕ) (rest : Signs) → in_front (filled f) (squares end f.ranks f.left (sign at (Run count) rest)) ≡ in_front (filled (record f { left = f.left - count })) (squares end f.ranks (f.left - count) rest))
+    × ((end : ℕ) (rest : Signs) → in_front (filled_squares f) (squares end f.further_rows f.left (sign at (Run count) rest)) ≡ in_front (filled_squares (record f { left = f.left - count })) (squares end f.further_rows (f.left - count) rest))
 unfolding squares
 run_taken f count at is le =
     let size = is.size in
-    let ranks = is.ranks in
+    let further_rows = is.further_rows in
     let left = is.left in
-    let more : 81 - 9 * f.ranks - (f.left - count) ≡ read_count f + count = omega arith in
+    let more : 81 - 9 * f.further_rows - (f.left - count) ≡ read_count f + count = omega arith in
     let fits : nat_le count f.left ≡ true = le_passes count f.left le in
-    let text : take (81 - 9 * f.ranks - (f.left - count)) f.read ≡ filled f ++ replicate count None = rw more (take_none count (read_count f) f.read (omega arith) is.ahead) in (
-      record { size = size; ranks = ranks; left = omega arith; ahead = λ place h. is.ahead place (omega arith) },
-      λ end rest. rw (fits, text) (in_front_twice (filled f) (replicate count None) (squares end f.ranks (f.left - count) rest)),
+    let text : take (81 - 9 * f.further_rows - (f.left - count)) f.read ≡ filled_squares f ++ replicate count None = rw more (take_none count (read_count f) f.read (omega arith) is.ahead) in (
+      record { size = size; further_rows = further_rows; left = omega arith; ahead = λ place h. is.ahead place (omega arith) },
+      λ end rest. rw (fits, text) (in_front_twice (filled_squares f) (replicate count None) (squares end f.further_rows (f.left - count) rest)),
     )
 
 pub piece_taken : (f : Filling) (piece : Piece) (at : ℕ) → IsFilling f → 0 < f.left
-    → IsFilling (record { read = set f.read (81 - 9 * f.ranks - f.left) (Some piece); ranks = f.ranks; left = f.left - 1 })
-    × ((end : ℕ) (rest : Signs) → in_front (filled f) (squares end f.ranks f.left (sign at (Stands piece) rest)) ≡ in_front (filled (record { read = set f.read (81 - 9 * f.ranks - f.left) (Some piece); ranks = f.ranks; left = f.left - 1 })) (squares end f.ranks (f.left - 1) rest))
+    → IsFilling (record { read = set f.read (81 - 9 * f.further_rows - f.left) (Some piece); further_rows = f.further_rows; left = f.left - 1 })
+    × ((end : ℕ) (rest : Signs) → in_front (filled_squares f) (squares end f.further_rows f.left (sign at (Stands piece) rest)) ≡ in_front (filled_squares (record { read = set f.read (81 - 9 * f.further_rows - f.left) (Some piece); further_rows = f.further_rows; left = f.left - 1 })) (squares end f.further_rows (f.left - 1) rest))
 unfolding squares
 piece_taken f piece at is lt =
     let size = is.size in
-    let ranks = is.ranks in
+    let further_rows = is.further_rows in
     let left = is.left in
-    let here = 81 - 9 * f.ranks - f.left in
-    let more : 81 - 9 * f.ranks - (f.left - 1) ≡ here + 1 = omega arith in
+    let here = 81 - 9 * f.further_rows - f.left in
+    let more : 81 - 9 * f.further_rows - (f.left - 1) ≡ here + 1 = omega arith in
     let fits : nat_lt 0 f.left ≡ true = lt-ltb 0 f.left lt in
-    let text : take (81 - 9 * f.ranks - (f.left - 1)) (set f.read here (Some piece)) ≡ filled f ++ Some piece ∷ [] = rw more (take_more_set f.read here (Some piece) (omega arith)) in (
+    let text : take (81 - 9 * f.further_rows - (f.left - 1)) (set f.read here (Some piece)) ≡ filled_squares f ++ Some piece ∷ [] = rw more (take_more_set f.read here (Some piece) (omega arith)) in (
       record {
         size = length-set f.read here (Some piece) ∙ size;
-        ranks = ranks;
+        further_rows = further_rows;
         left = omega arith;
         ahead = λ place h. piece_at_is (set f.read here (Some piece)) place ∙ (let apart : place ≡ here → ⊥ = λ e. omega arith in get_or-set_other f.read here place (Some piece) None apart) ∙ sym (piece_at_is f.read place) ∙ is.ahead place (omega arith);
       },
-      λ end rest. rw (fits, text) (in_front_twice (filled f) (Some piece ∷ []) (squares end f.ranks (f.left - 1) rest)),
+      λ end rest. rw (fits, text) (in_front_twice (filled_squares f) (Some piece ∷ []) (squares end f.further_rows (f.left - 1) rest)),
     )

@@ -12,3 +12,7 @@ pub mod BoardSpelled
 pub mod HandsSpelled
 pub mod FieldsSpelled
 pub mod TextSpelled
+pub mod FieldsFound
+pub mod BoardFaults
+pub mod HandsFaults
+pub mod FirstFault

@@ -9,8 +9,9 @@ use Rattle.board_core.specs.declared.piece.Side.TheVariants.{Black, White}
 use Rattle.board_core.specs.declared.piece.Piece.{Piece}
 use Rattle.board_core.specs.Kind.{can_promote}
 use Rattle.sfen_text.specs.declared.squares.Sign.TheVariants.{Stands}
-use Rattle.sfen_text.specs.Pieces.{letter_of, plus_text, piece_text, plain_piece, promoted_piece, piece_of, promoted_of}
-use Rattle.sfen_text.specs.Signs.{plain_sign, stands, sign, signs}
+use Rattle.board_core.specs.Board.{plain_piece}
+use Rattle.sfen_text.specs.Pieces.{letter_of, plus_text, piece_text, promoted_piece, piece_of, promoted_of}
+use Rattle.sfen_text.specs.Signs.{plain_sign, sign_of_piece, sign, signs}
 use Rattle.sfen_text.proofs.Filling.{signs_one}
 
 promotes_same : (b : Bool) (k : Kind) (f g : b ≡ true → can_promote k ≡ true) → f ≡ g
@@ -24,7 +25,7 @@ piece_same p q kind promoted side = λ i. record {
   promotes = is_prop→PathP (λ j. promoted j ≡ true → can_promote (kind j) ≡ true) (λ j. promotes_same (promoted j) (kind j)) p.promotes q.promotes i;
 }
 
-pub letter_again : (side : Side) (kind : Kind) → piece_of (letter_of side kind) ≡ Some (plain_piece side kind)
+pub letter_again : (side : Side) (kind : Kind) → piece_of (letter_of side kind) ≡ Some (plain_piece kind side)
 unfolding piece_of
 letter_again Black Pawn = refl
 letter_again Black Lance = refl
@@ -62,7 +63,7 @@ promoted_again White Bishop = refl
 promoted_again White Rook = refl
 promoted_again White King = refl
 
-pub plain_again : (side : Side) (kind : Kind) → plain_sign (letter_of side kind) ≡ stands (piece_of (letter_of side kind))
+pub plain_again : (side : Side) (kind : Kind) → plain_sign (letter_of side kind) ≡ sign_of_piece (piece_of (letter_of side kind))
 plain_again Black Pawn = refl
 plain_again Black Lance = refl
 plain_again Black Knight = refl
@@ -119,7 +120,7 @@ sign_plain : (p : Piece) → p.promoted ≡ false → (at : ℕ) (text : List �
 sign_plain p e at text =
     let apart = (letter_plain p.side p.kind).1 in
     let one = signs_one at (letter_of p.side p.kind) text (inr (λ h. omega (arith, apart))) in
-    let same : plain_piece p.side p.kind ≡ p = piece_same (plain_piece p.side p.kind) p refl (sym e) refl in
+    let same : plain_piece p.kind p.side ≡ p = piece_same (plain_piece p.kind p.side) p refl (sym e) refl in
     rw (one, plain_again, letter_again, same) refl
 
 sign_promoted : (p : Piece) → p.promoted ≡ true → (at : ℕ) (text : List ℕ) → signs at (43 ∷ letter_of p.side p.kind ∷ text) ≡ sign at (Stands p) (signs (at + 2) text)

@@ -1,5 +1,5 @@
 -- What is written for a position is read as that position.
-use Rattle.std.proofs.Common.{◌≡◌, ◌≢◌, inl, inr, ℕ, ◌+◌, ◌≤◌, false, List, [], ◌∷◌, ◌++◌, length, drop, Option, Result, Ok, Err, refl, sym, ap, subst, ◌∙◌, append_assoc, arith}
+use Rattle.std.proofs.Common.{◌≡◌, ◌≢◌, inl, inr, ℕ, ◌+◌, ◌≤◌, false, List, [], ◌∷◌, ◌++◌, length, drop, Option, Result, None, Ok, Err, refl, sym, ap, subst, ◌∙◌, append_assoc, arith}
 use Rattle.std.proofs.Math.Dec.{eqb-suc-zero}
 use Rattle.std.proofs.lemmas.Bool.{false≢true}
 use Rattle.std.proofs.lemmas.Bool.Decides.{eqb_tells}
@@ -11,14 +11,16 @@ use Rattle.board_core.specs.declared.piece.Side.TheVariants.{Black, White}
 use Rattle.board_core.specs.declared.build.BadPosition.{BadPosition as Bad}
 use Rattle.board_core.specs.declared.build.BadPosition.TheVariants as bad
 use Rattle.board_core.specs.Kind.{other}
-use Rattle.board_core.specs.Board.{Board}
+use Rattle.board_core.specs.Board.{HasDefender, Board}
 use Rattle.board_core.specs.Kept.{IsKept}
 use Rattle.board_core.specs.Build.{HasFault}
 use Rattle.sfen_text.specs.declared.fault.TextFault.{TextFault}
 use Rattle.sfen_text.specs.declared.fault.TextFault.TheVariants as faults
 use Rattle.sfen_text.specs.Spelling.{board_text, side_letter, hand_text, hands_text, or_dash, sfen_of}
 use Rattle.sfen_text.specs.Hands.{items, hands_with, hands_of, is_byte, empty_hand}
-use Rattle.sfen_text.specs.Reading.{is_blank, leading, without_end_blanks, front_len, field, field_of, next_of, end_of, cells_at, side_at, ended, fields_at, reading, IsReadingAnswer, HasDefender}
+use Rattle.sfen_text.specs.Reading.{leading, without_end_blanks, front_len, field_of, next_of, cells_at, side_at, end_outcome, fields_at, input_parts, IsOutcomeOf}
+use Rattle.sfen_text.specs.Bytes.{is_blank}
+use Rattle.sfen_text.specs.Fields.{field, end_of}
 use Rattle.sfen_text.proofs.RowsAgain.{board_again, cells_again}
 use Rattle.sfen_text.proofs.HandsAgain.{IsSmall, both_again}
 use Rattle.sfen_text.proofs.BytesAgain.{ArePlain, board_plain, board_long, hand_plain, both_plain}
@@ -44,7 +46,7 @@ pub not_dash : (x : ℕ) (xs : List ℕ) → x ≢ 45 → is_byte 45 (x ∷ xs) 
 not_dash x [] h = elim (eqb_tells x 45) [ inl t ↦ absurd (h t.1) | inr f ↦ f.0 ]
 not_dash x (y ∷ xs) h = refl
 
-pub dash_again : (text : List ℕ) (at : ℕ) (hands : List ℕ × List ℕ) → ArePlain text → hands_with empty_hand empty_hand (items at 0 at text) ≡ Ok hands → hands_of at (or_dash text) ≡ Ok hands
+pub dash_again : (text : List ℕ) (at : ℕ) (hands : List ℕ × List ℕ) → ArePlain text → hands_with empty_hand empty_hand (items at None at text) ≡ Ok hands → hands_of at (or_dash text) ≡ Ok hands
 unfolding hands_of items hands_with
 dash_again [] at hands plain e = e
 dash_again (x ∷ xs) at hands plain e = rw (eqb-suc-zero (length xs), not_dash x xs plain.0.not_dash) e
@@ -79,8 +81,8 @@ two_of [] plain le = absurd (omega arith)
 two_of (x ∷ []) plain le = absurd (omega arith)
 two_of (x ∷ y ∷ text) plain le = record { first = x; second = y; others = text; parts = refl; plain = plain }
 
-pub end_again : (at : ℕ) → ended (field at [] []) ≡ Ok (field at [] [])
-unfolding ended field_of leading
+pub end_again : (at : ℕ) → end_outcome (field at [] []) ≡ Ok (field at [] [])
+unfolding end_outcome field_of leading
 end_again at = refl
 
 pub nothing_behind : (at : ℕ) (text : List ℕ) → field (at + length text + 0) [] [] ≡ next_of (field at text [])
@@ -138,7 +140,7 @@ fields_again b at kept =
     (nothing_behind three.at hands)
     (end_again four.at)
 
-drop_none : (xs : List ℕ) → drop 0 xs ≡ xs
+pub drop_none : (xs : List ℕ) → drop 0 xs ≡ xs
 drop_none [] = refl
 drop_none (x ∷ xs) = refl
 
@@ -152,8 +154,8 @@ no_end_of : (front text : List ℕ) → Begun text → without_end_blanks (front
 no_end_of front text begun = rw begun.parts (no_end_blanks front begun.first begun.others begun.solid)
 
 -- What is written for a position that is kept is read as it.
-pub text_again : (b : Board) → IsKept b → reading (sfen_of b) ≡ Ok b
-unfolding reading sfen_of
+pub text_again : (b : Board) → IsKept b → input_parts (sfen_of b) ≡ Ok b
+unfolding input_parts sfen_of
 text_again b kept =
     let hands = hands_text b.black b.white in
     let begun = hands_begun b.black b.white (small_black b kept) (small_white b kept) in
@@ -163,12 +165,12 @@ text_again b kept =
     let end : without_end_blanks (sfen_of b) ≡ sfen_of b = ap without_end_blanks regroup ∙ no_end_of (board_text b.cells ++ 32 ∷ side_letter b.side ∷ 32 ∷ []) hands begun ∙ sym regroup in
     rw (start, drop_none (sfen_of b), end, word, drop_none (sfen_of b)) (fields_again b 0 kept)
 
-ok_same : (a b : Board) → (r : Result Board TextFault) → r ≡ Ok a → r ≡ Ok b → a ≡ b
+pub ok_same : (a b : Board) → (r : Result Board TextFault) → r ≡ Ok a → r ≡ Ok b → a ≡ b
 ok_same a b r p q = cc
 
 -- No two positions have one text.
 pub texts_apart : (a b : Board) → IsKept a → IsKept b → sfen_of a ≡ sfen_of b → a ≡ b
-texts_apart a b ka kb e = ok_same a b (reading (sfen_of a)) (text_again a ka) (ap reading e ∙ text_again b kb)
+texts_apart a b ka kb e = ok_same a b (input_parts (sfen_of a)) (text_again a ka) (ap input_parts e ∙ text_again b kb)
 
 -- A position that is kept has no fault, where the side that isn't to move has a king.
 no_fault : (b : Board) (fault : Bad) → IsKept b → HasDefender b → HasFault b fault → ⊥
@@ -178,19 +180,18 @@ no_fault b bad.TwoKings kept king h = omega (arith, h.1, kept.kings h.0)
 no_fault b (bad.DeadPiece square) kept king h = false≢true (sym (kept.alive square.number square.on_board) ∙ h)
 no_fault b (bad.TwoPawns file) kept king h = kept.pawns h.0 file h.1
 
-pub answer_again : (b : Board) (answer : Result Board TextFault) → IsKept b → HasDefender b → IsReadingAnswer (Ok b) answer → answer ≡ Ok b
-answer_again b (Ok p) kept king is = ap (λ (q : Board). Ok q) is.0
-answer_again b (Err (faults.BadPosition fault)) kept king is = absurd (no_fault b fault kept king is.0)
-answer_again b (Err (faults.BadRow at)) kept king is = absurd is
-answer_again b (Err (faults.BadPiece at)) kept king is = absurd is
-answer_again b (Err (faults.BadSide at)) kept king is = absurd is
-answer_again b (Err (faults.BadHand at)) kept king is = absurd is
-answer_again b (Err (faults.HandTwice at)) kept king is = absurd is
-answer_again b (Err (faults.Trailing at)) kept king is = absurd is
-answer_again b (Err faults.DefenderInCheck) kept king is = absurd is
+pub outcome_again : (b : Board) (outcome : Result Board TextFault) → IsKept b → HasDefender b → IsOutcomeOf (Ok b) outcome → outcome ≡ Ok b
+outcome_again b (Ok p) kept king is = ap (λ (q : Board). Ok q) is.0
+outcome_again b (Err (faults.BadPosition fault)) kept king is = absurd (no_fault b fault kept king is.0)
+outcome_again b (Err (faults.BadRow at)) kept king is = absurd is
+outcome_again b (Err (faults.BadPiece at)) kept king is = absurd is
+outcome_again b (Err (faults.BadSide at)) kept king is = absurd is
+outcome_again b (Err (faults.BadHand at)) kept king is = absurd is
+outcome_again b (Err (faults.HandTwice at)) kept king is = absurd is
+outcome_again b (Err (faults.Trailing at)) kept king is = absurd is
 
-pub read_again : (input : List ℕ) (answer : Result Board TextFault) → IsReadingAnswer (reading input) answer → (b : Board) → IsKept b → HasDefender b → input ≡ sfen_of b → answer ≡ Ok b
-read_again input answer is b kept king e = answer_again b answer kept king (subst (λ (r : Result Board TextFault). IsReadingAnswer r answer) (ap reading e ∙ text_again b kept) is)
+pub read_again : (input : List ℕ) (outcome : Result Board TextFault) → IsOutcomeOf (input_parts input) outcome → (b : Board) → IsKept b → HasDefender b → input ≡ sfen_of b → outcome ≡ Ok b
+read_again input outcome is b kept king e = outcome_again b outcome kept king (subst (λ (r : Result Board TextFault). IsOutcomeOf r outcome) (ap input_parts e ∙ text_again b kept) is)
 
 pub only_text : (b : Board) (text : List ℕ) → IsKept b → text ≡ sfen_of b → (other : Board) → IsKept other → sfen_of other ≡ text → other ≡ b
 only_text b text kept e other keeps h = texts_apart other b keeps kept (h ∙ e)

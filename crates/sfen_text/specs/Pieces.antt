@@ -1,12 +1,12 @@
 -- The letters of pieces (SFEN).
-use Rattle.std.specs.Prelude.{◌+◌, ◌-◌, ◌==◌, ℕ, List, [], ◌∷◌, ◌++◌, Bool, true, false, Option, Some, None, nat_le, if◌then◌else◌, option_and_then, refl}
-use Rattle.std.proofs.lemmas.Bool.{false≢true}
+use Rattle.std.specs.Prelude.{◌+◌, ◌-◌, ℕ, List, [], ◌∷◌, ◌++◌, Bool, true, false, Option, Some, None, nat_le, if◌then◌else◌, option_and_then, refl}
 use Rattle.board_core.specs.declared.piece.Kind.{Kind}
 use Rattle.board_core.specs.declared.piece.Kind.TheVariants.{Pawn, Lance, Knight, Silver, Gold, Bishop, Rook, King}
 use Rattle.board_core.specs.declared.piece.Side.{Side}
 use Rattle.board_core.specs.declared.piece.Side.TheVariants.{Black, White}
 use Rattle.board_core.specs.declared.piece.Piece.{Piece}
-use Rattle.board_core.specs.Text.{kind_letter}
+use Rattle.board_core.specs.Text.{kind_letter, kind_of_letter}
+use Rattle.board_core.specs.Board.{plain_piece}
 
 -- The letter of a side's piece of a kind: Black's is a capital letter, White's a small one.
 abbrev pub letter_of : Side → Kind → ℕ
@@ -21,23 +21,6 @@ plus_text false = []
 -- A piece: its letter, behind a plus where it is promoted.
 abbrev pub piece_text : Piece → List ℕ
 piece_text piece = plus_text piece.promoted ++ letter_of piece.side piece.kind ∷ []
-
--- The kind of a capital letter, where there is one.
-abbrev pub kind_of : ℕ → Option Kind
-kind_of byte =
-    if byte == 80 then Some Pawn
-    else (if byte == 76 then Some Lance
-    else (if byte == 78 then Some Knight
-    else (if byte == 83 then Some Silver
-    else (if byte == 71 then Some Gold
-    else (if byte == 66 then Some Bishop
-    else (if byte == 82 then Some Rook
-    else (if byte == 75 then Some King
-    else None)))))))
-
--- A side's unpromoted piece of a kind.
-abbrev pub plain_piece : Side → Kind → Piece
-plain_piece side kind = record { kind = kind; promoted = false; side = side; promotes = λ e. absurd (false≢true e) }
 
 -- A side's promoted piece of a kind; gold and king have none.
 abbrev pub promoted_piece : Side → Kind → Option Piece
@@ -60,8 +43,8 @@ capital_of byte = if nat_le 97 byte then byte - 32 else byte
 
 -- The unpromoted piece of a letter, where there is one.
 unfoldable pub piece_of : ℕ → Option Piece
-piece_of byte = option_and_then (λ kind. Some (plain_piece (side_of_letter byte) kind)) (kind_of (capital_of byte))
+piece_of byte = option_and_then (λ kind. Some (plain_piece kind (side_of_letter byte))) (kind_of_letter (capital_of byte))
 
 -- The promoted piece of a letter, where there is one.
 unfoldable pub promoted_of : ℕ → Option Piece
-promoted_of byte = option_and_then (λ kind. promoted_piece (side_of_letter byte) kind) (kind_of (capital_of byte))
+promoted_of byte = option_and_then (λ kind. promoted_piece (side_of_letter byte) kind) (kind_of_letter (capital_of byte))

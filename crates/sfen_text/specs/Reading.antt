@@ -1,30 +1,23 @@
--- What an SFEN text stands for, or its first fault.
-use Rattle.std.specs.Prelude.{◌≡◌, ◌+◌, ◌-◌, ◌==◌, ◌&&◌, ◌||◌, ℕ, List, length, take, drop, reverse, take_while, codes, Bool, not, Option, Result, Ok, Err, nat_eq, nat_le, if◌then◌else◌}
+-- Serves private functions alone: how an SFEN text is read.
+use Rattle.std.specs.Prelude.{◌≡◌, ◌+◌, ◌-◌, ◌==◌, ◌&&◌, ℕ, List, length, take, drop, reverse, take_while, codes, Bool, not, Option, Result, Ok, Err, nat_eq, nat_le, if◌then◌else◌}
 use Rattle.std.specs.List.{list_all, starts_with}
 use Rattle.board_core.specs.declared.piece.Side.{Side}
 use Rattle.board_core.specs.declared.piece.Side.TheVariants.{Black, White}
 use Rattle.board_core.specs.declared.piece.Piece.{Piece}
-use Rattle.board_core.specs.Kind.{other}
-use Rattle.board_core.specs.Board.{Board, kings_of}
+use Rattle.board_core.specs.Board.{Board}
 use Rattle.board_core.specs.Build.{IsBuilt}
 use Rattle.sfen_text.specs.declared.fault.TextFault.{TextFault}
 use Rattle.sfen_text.specs.declared.fault.TextFault.TheVariants.{BadSide, Trailing, BadPosition}
 use Rattle.sfen_text.specs.Signs.{signs, squares, cells_of}
-use Rattle.sfen_text.specs.Hands.{is_digit, is_byte, hands_of}
+use Rattle.sfen_text.specs.Bytes.{is_digit, is_space, is_blank}
+use Rattle.sfen_text.specs.Fields.{Field, field, end_of}
+use Rattle.sfen_text.specs.Hands.{is_byte, hands_of}
 
--- What follows a step, unless the step has a fault.
 infixl 10 ◌>>=◌
+-- What follows a step, unless the step has a fault.
 abbrev pub ◌>>=◌ : {A B : Type 0} → Result A TextFault → (A → Result B TextFault) → Result B TextFault
 (Ok x) >>= f = f x
 (Err e) >>= f = Err e
-
--- Whether a byte is a space.
-abbrev pub is_space : ℕ → Bool
-is_space byte = byte == 32
-
--- Whether a byte is one of the blanks that are dropped at both ends: space, tab, carriage return, line feed.
-abbrev pub is_blank : ℕ → Bool
-is_blank byte = byte == 32 || byte == 9 || byte == 13 || byte == 10
 
 -- How many bytes at the front of a text pass a test.
 unfoldable pub leading : (ℕ → Bool) → List ℕ → ℕ
@@ -38,16 +31,6 @@ without_end_blanks text = take (length text - leading is_blank (reverse text)) t
 unfoldable pub front_len : List ℕ → ℕ
 front_len text = if starts_with nat_eq text (codes "position sfen ") then 14 else (if starts_with nat_eq text (codes "sfen ") then 5 else 0)
 
--- A field: its place, its bytes, and the text behind it.
-pub record Field : Type 0 where
-  pub at : ℕ
-  pub text : List ℕ
-  pub rest : List ℕ
-
--- A field of these parts.
-abbrev pub field : ℕ → List ℕ → List ℕ → Field
-field at text rest = record { at = at; text = text; rest = rest }
-
 -- The next field of a text that begins at a place: what stands up to the next space, behind the spaces in front. Where the
 -- text has ended, an empty field at its end.
 unfoldable pub field_of : ℕ → List ℕ → Field
@@ -56,10 +39,6 @@ field_of at text =
     let here = drop spaces text in
     let size = leading (λ byte. not (is_space byte)) here in
     record { at = at + spaces; text = take size here; rest = drop size here }
-
--- The place at which a field ends.
-abbrev pub end_of : Field → ℕ
-end_of field = field.at + length field.text
 
 -- The field behind a field.
 abbrev pub next_of : Field → Field
@@ -80,8 +59,8 @@ abbrev pub is_number : List ℕ → Bool
 is_number text = nat_le (length text) 9 && list_all is_digit text
 
 -- The first fault of what stands behind the hands: one move number may stand there.
-unfoldable pub ended : Field → Result Field TextFault
-ended field = if not (is_number field.text) then Err (Trailing field.at)
+unfoldable pub end_outcome : Field → Result Field TextFault
+end_outcome field = if not (is_number field.text) then Err (Trailing field.at)
     else (if length (next_of field).text == 0 then Ok field else Err (Trailing (next_of field).at))
 
 -- The board, side and hands of a text that begins at a place; or the first fault of their fields.
@@ -91,29 +70,25 @@ fields_at at text = do
   cells ← cells_at board.at board.text
   let turn = next_of board
   side ← side_at turn.at turn.text
-  let held = next_of turn
-  hands ← hands_of held.at held.text
-  over ← ended (next_of held)
+  let hands_field = next_of turn
+  hands ← hands_of hands_field.at hands_field.text
+  over ← end_outcome (next_of hands_field)
   Ok (record { cells = cells; black = hands.0; white = hands.1; side = side })
 
 -- The board, side and hands of an input; or the first fault of its fields.
-unfoldable pub reading : List ℕ → Result Board TextFault
-reading input =
+unfoldable pub input_parts : List ℕ → Result Board TextFault
+input_parts input =
     let blanks = leading is_blank input in
     let body = without_end_blanks (drop blanks input) in
     let front = front_len body in
     fields_at (blanks + front) (drop front body)
 
--- The answer to an input: the position that it stands for; else its first fault, one of the text before one of the position.
-abbrev pub IsReadingAnswer : Result Board TextFault → Result Board TextFault → Type 0
-IsReadingAnswer (Err fault) answer = answer ≡ Err fault
-IsReadingAnswer (Ok b) (Ok position) = IsBuilt b (Ok position)
-IsReadingAnswer (Ok b) (Err (BadPosition bad)) = IsBuilt b (Err bad)
-IsReadingAnswer (Ok b) (Err fault) = ⊥
-
--- The side that isn't to move has a king.
-abbrev pub HasDefender : Board → Type 0
-HasDefender b = kings_of b (other b.side) ≡ 1
+-- The outcome to what was read: its fault; else the position that the parts make, or their first fault.
+abbrev pub IsOutcomeOf : Result Board TextFault → Result Board TextFault → Type 0
+IsOutcomeOf (Err fault) outcome = outcome ≡ Err fault
+IsOutcomeOf (Ok b) (Ok position) = IsBuilt b (Ok position)
+IsOutcomeOf (Ok b) (Err (BadPosition bad)) = IsBuilt b (Err bad)
+IsOutcomeOf (Ok b) (Err fault) = ⊥
 
 -- What a reader gave, seen by view, is what reading gives.
 abbrev pub Gives : {X Y : Type 0} → (X → Y) → Result X TextFault → Result Y TextFault → Type 0

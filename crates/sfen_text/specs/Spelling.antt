@@ -7,17 +7,17 @@ use Rattle.board_core.specs.declared.piece.Side.{Side}
 use Rattle.board_core.specs.declared.piece.Side.TheVariants.{Black, White}
 use Rattle.board_core.specs.declared.piece.Piece.{Piece}
 use Rattle.board_core.specs.Square.{square_on}
-use Rattle.board_core.specs.Board.{Board, piece_at, held}
+use Rattle.board_core.specs.Board.{Board, piece_at, hand_count}
 use Rattle.sfen_text.specs.Pieces.{letter_of, piece_text}
 
--- What stands on a rank, from a file down to file 1.
+-- What stands on a row, from a file down to file 1.
 abbrev pub row_from : List (Option Piece) → ℕ → ℕ → List (Option Piece)
-row_from cells rank zero = []
-row_from cells rank (suc file) = piece_at cells (square_on (suc file) rank) ∷ row_from cells rank file
+row_from cells row_number zero = []
+row_from cells row_number (suc file) = piece_at cells (square_on (suc file) row_number) ∷ row_from cells row_number file
 
--- What stands on a rank, from file 9 to file 1.
-unfoldable pub row_of : List (Option Piece) → ℕ → List (Option Piece)
-row_of cells rank = row_from cells rank 9
+-- What stands on a row, from file 9 to file 1.
+unfoldable pub cells_of_row : List (Option Piece) → ℕ → List (Option Piece)
+cells_of_row cells row_number = row_from cells row_number 9
 
 -- A run of empty squares: its length as a digit, or nothing.
 abbrev pub run_text : ℕ → List ℕ
@@ -30,13 +30,13 @@ row_text run [] = run_text run
 row_text run (None ∷ row) = row_text (run + 1) row
 row_text run (Some piece ∷ row) = run_text run ++ piece_text piece ++ row_text 0 row
 
--- A slash and the row of a rank.
+-- A slash and the row of a row.
 abbrev pub slashed_row : List (Option Piece) → ℕ → List ℕ
-slashed_row cells rank = 47 ∷ row_text 0 (row_of cells rank)
+slashed_row cells row_number = 47 ∷ row_text 0 (cells_of_row cells row_number)
 
--- The board: the row of rank a, and behind a slash each the rows of the ranks b to i.
+-- The board: the row of row a, and behind a slash each the rows of the rows b to i.
 abbrev pub board_text : List (Option Piece) → List ℕ
-board_text cells = row_text 0 (row_of cells 1) ++ flat_map (slashed_row cells) (range_with_len 2 8)
+board_text cells = row_text 0 (cells_of_row cells 1) ++ flat_map (slashed_row cells) (range_with_len 2 8)
 
 -- The side to move.
 abbrev pub side_letter : Side → ℕ
@@ -54,7 +54,7 @@ held_text side k (suc n) = count_text (suc n) ++ letter_of side k ∷ []
 
 -- A side's hand, in the order rook, bishop, gold, silver, knight, lance, pawn.
 abbrev pub hand_text : Side → List ℕ → List ℕ
-hand_text side hand = flat_map (λ kind. held_text side kind (held hand kind)) (Rook ∷ Bishop ∷ Gold ∷ Silver ∷ Knight ∷ Lance ∷ Pawn ∷ [])
+hand_text side hand = flat_map (λ kind. held_text side kind (hand_count hand kind)) (Rook ∷ Bishop ∷ Gold ∷ Silver ∷ Knight ∷ Lance ∷ Pawn ∷ [])
 
 -- A dash in place of nothing.
 abbrev pub or_dash : List ℕ → List ℕ

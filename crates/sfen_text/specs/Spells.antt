@@ -2,16 +2,15 @@
 use Rattle.std.specs.Prelude.{◌≡◌, ◌≢◌, ◌⊎◌, ◌≤◌, ◌+◌, ◌/◌, ◌%◌, ◌&&◌, ℕ, zero, suc, List, [], ◌∷◌, ◌++◌, map, replicate, length, codes, true, Option, Some, None, nat_lt, if◌then◌else◌}
 use Rattle.std.specs.List.{flat_map, range_with_len, list_all}
 use Rattle.board_core.specs.declared.piece.Kind.{Kind}
-use Rattle.board_core.specs.declared.piece.Kind.TheVariants.{King}
+use Rattle.board_core.specs.declared.piece.Kind.TheVariants.{Pawn, King}
 use Rattle.board_core.specs.declared.piece.Side.{Side}
 use Rattle.board_core.specs.declared.piece.Side.TheVariants.{Black, White}
 use Rattle.board_core.specs.declared.piece.Piece.{Piece}
-use Rattle.board_core.specs.Kind.{same_side, same_kind}
-use Rattle.board_core.specs.Board.{Board, held}
+use Rattle.board_core.specs.Kind.{same_side, same_kind, total_of}
+use Rattle.board_core.specs.Board.{Board, hand_count}
 use Rattle.sfen_text.specs.Pieces.{letter_of, piece_text}
-use Rattle.sfen_text.specs.Spelling.{row_of, run_text, or_dash, side_letter}
-use Rattle.sfen_text.specs.Hands.{is_digit}
-use Rattle.sfen_text.specs.Reading.{is_space, is_blank}
+use Rattle.sfen_text.specs.Spelling.{cells_of_row, run_text, or_dash, side_letter}
+use Rattle.sfen_text.specs.Bytes.{is_digit, is_space, is_blank}
 
 -- A stretch of a row: so many empty squares side by side, or one piece.
 pub data Stretch : Type 0 where
@@ -34,26 +33,27 @@ abbrev pub row_squares : List Stretch → List (Option Piece)
 row_squares row = flat_map stretch_squares row
 
 -- A slash, and a row of stretches.
-abbrev pub slashed : List Stretch → List ℕ
-slashed row = 47 ∷ flat_map stretch_text row
+abbrev pub row_behind_slash : List Stretch → List ℕ
+row_behind_slash row = 47 ∷ flat_map stretch_text row
 
--- A text spells the board: with a slash in front it is rows with a slash in front of each, and these rows are the ranks a
+-- A text spells the board: with a slash in front it is rows with a slash in front of each, and these rows are the rows a
 -- to i, each from file 9 to file 1.
 abbrev pub BoardSpells : List ℕ → List (Option Piece) → Type 0
-BoardSpells text cells = (rows : List (List Stretch)) × (47 ∷ text ≡ flat_map slashed rows) × (map row_squares rows ≡ map (row_of cells) (range_with_len 1 9))
+BoardSpells text cells = (rows : List (List Stretch)) × (47 ∷ text ≡ flat_map row_behind_slash rows) × (map row_squares rows ≡ map (cells_of_row cells) (range_with_len 1 9))
 
 -- The digits of a count below a hundred, without a leading zero.
 abbrev pub count_digits : ℕ → List ℕ
 count_digits n = if nat_lt n 10 then (48 + n) ∷ [] else (48 + n / 10) ∷ (48 + n % 10) ∷ []
 
--- An item of the hands: 1 to 18 pieces of a side's kind, which is no king. Its count may be left out where it is 1.
+-- An item of the hands: one piece or more of a side's kind, which is no king, and at most as many as there are pawns, 18.
+-- Its count may be left out where it is 1.
 pub record HandItem : Type 0 where
   pub digits : List ℕ
   pub count : ℕ
   pub side : Side
   pub kind : Kind
   pub some : 1 ≤ count
-  pub few : count ≤ 18
+  pub few : count ≤ total_of Pawn
   pub no_king : kind ≢ King
   pub spelled : (digits ≡ count_digits count) ⊎ ((count ≡ 1) × (digits ≡ []))
 
@@ -72,7 +72,7 @@ one_count (suc n) = suc n ∷ []
 
 -- Items hold a side's hand: each kind is counted once, where the hand holds it, by as many as it holds.
 abbrev pub ItemsHold : Side → List HandItem → List ℕ → Type 0
-ItemsHold side items hand = (kind : Kind) → kind ≢ King → counts_for side kind items ≡ one_count (held hand kind)
+ItemsHold side items hand = (kind : Kind) → kind ≢ King → counts_for side kind items ≡ one_count (hand_count hand kind)
 
 -- A text spells both hands: it is items in any order that hold them; a dash where there are none.
 abbrev pub HandsSpell : List ℕ → List ℕ → List ℕ → Type 0

@@ -1,5 +1,5 @@
 // What is wrong with a text.
-use board_core::{BadPosition, Kind, Square};
+use board_core::{BadPosition, Square};
 use std::fmt::{self, Write};
 
 /// Why a text is no position that can be solved: its first fault. Places are byte offsets in the whole input, from 0.
@@ -20,8 +20,6 @@ pub enum TextFault {
     Trailing(usize),
     /// The text is well formed, and makes no position.
     BadPosition(BadPosition),
-    /// The side that isn't to move is in check.
-    DefenderInCheck,
 }
 
 impl fmt::Display for TextFault {
@@ -36,39 +34,25 @@ impl fmt::Display for TextFault {
             TextFault::HandTwice(at) => write!(f, "hand twice at {at}"),
             TextFault::Trailing(at) => write!(f, "trailing at {at}"),
             TextFault::BadPosition(bad) => write_bad_position(*bad, f),
-            TextFault::DefenderInCheck => write!(f, "defender in check"),
         }
     }
 }
 
 fn write_bad_position<W: Write>(bad: BadPosition, f: &mut fmt::Formatter<W>) -> fmt::Result {
     match bad {
-        BadPosition::TooMany(kind) => write!(f, "too many {}", letter(kind)),
+        BadPosition::TooMany(kind) => write!(f, "too many {}", char::from(kind.letter())),
         BadPosition::NoDefenderKing => write!(f, "no defender king"),
         BadPosition::TwoKings => write!(f, "two kings"),
         BadPosition::DeadPiece(square) => write!(
             f,
             "dead piece at {}{}",
             square.file(),
-            rank_letter(square)
+            row_letter(square)
         ),
         BadPosition::TwoPawns(file) => write!(f, "two pawns on file {file}"),
     }
 }
 
-fn letter(kind: Kind) -> char {
-    match kind {
-        Kind::Pawn => 'P',
-        Kind::Lance => 'L',
-        Kind::Knight => 'N',
-        Kind::Silver => 'S',
-        Kind::Gold => 'G',
-        Kind::Bishop => 'B',
-        Kind::Rook => 'R',
-        Kind::King => 'K',
-    }
-}
-
-fn rank_letter(square: Square) -> char {
-    char::from(b'a' - 1 + square.rank())
+fn row_letter(square: Square) -> char {
+    char::from(b'a' - 1 + square.row())
 }

@@ -2,19 +2,20 @@
 ghost use Rattle.std.specs.Prelude.{◌≡◌, ◌≢◌, ◌≤◌, ◌<◌, ◌+◌, ◌^◌, length, slice_set, IsTrue, false};
 ghost use Rattle.board_core.specs.Kind.{place_of};
 ghost use Rattle.board_core.specs.declared.piece.Kind.TheVariants.{King};
-ghost use Rattle.sfen_text.specs.Hands.{items, hands_with, hands_of, empty_hand, is_digit, IsItemRead};
+ghost use Rattle.sfen_text.specs.Hands.{items, hands_with, hands_of, empty_hand, IsCountSoFar, IsItemRead};
 ghost use Rattle.sfen_text.specs.Reading.{Gives};
+ghost use Rattle.sfen_text.specs.Bytes.{is_digit};
 
 use crate::TextFault;
 use crate::pieces::piece_of;
 use board_core::{Hand, Kind, Side};
 
-// What was read so far: the hands, and of the item that is being read where it begins and the value of its digits, 0
-// where there are none.
+// What was read so far: the hands, and of the item that is being read where it begins and the value of its digits, where
+// there are any.
 #[derive(Clone, Copy)]
 struct Holding {
     start: usize,
-    count: u8,
+    count: Option<u8>,
     black: Hand,
     white: Hand,
 }
@@ -32,14 +33,17 @@ fn with_count(hand: Hand, kind: Kind, count: u8) -> Hand
 #[tactic(auto, unfolding(crate::specs::Hands::items, crate::specs::Hands::hands_with))]
 fn take_digit(holding: Holding, byte: u8, at: usize) -> Result<Holding, TextFault>
     requires digit { IsTrue (is_digit byte) }
-    requires count { holding.count ≤ 18 }
+    requires count { IsCountSoFar holding.count }
     ensures { IsItemRead holding byte at result }
 {
-    let count = 10 * holding.count + (byte - b'0');
-    if count == 0 || count > 18 {
+    let count = 10 * holding.count.unwrap_or(0) + (byte - b'0');
+    if count == 0 || count > Kind::Pawn.total() {
         return Err(TextFault::BadHand(holding.start));
     }
-    Ok(Holding { count, ..holding })
+    Ok(Holding {
+        count: Some(count),
+        ..holding
+    })
 }
 
 // Reads one more byte, the letter at the end of an item.
@@ -55,7 +59,7 @@ fn take_letter(holding: Holding, byte: u8, at: usize) -> Result<Holding, TextFau
     if piece.kind == Kind::King {
         return Err(TextFault::BadHand(holding.start));
     }
-    let count = holding.count.max(1);
+    let count = holding.count.unwrap_or(1);
     let hand = match piece.side {
         Side::Black => holding.black,
         Side::White => holding.white,
@@ -70,7 +74,7 @@ fn take_letter(holding: Holding, byte: u8, at: usize) -> Result<Holding, TextFau
     };
     Ok(Holding {
         start: at + 1,
-        count: 0,
+        count: None,
         black,
         white,
     })
@@ -79,7 +83,7 @@ fn take_letter(holding: Holding, byte: u8, at: usize) -> Result<Holding, TextFau
 // Reads one more byte.
 fn take_byte(holding: Holding, byte: u8, at: usize) -> Result<Holding, TextFault>
     requires next { at + 1 < 2 ^ 64 }
-    requires count { holding.count ≤ 18 }
+    requires count { IsCountSoFar holding.count }
     ensures { IsItemRead holding byte at result }
 {
     if byte.is_ascii_digit() {
@@ -92,11 +96,11 @@ fn take_byte(holding: Holding, byte: u8, at: usize) -> Result<Holding, TextFault
 #[tactic(auto, unfolding(crate::specs::Hands::items, crate::specs::Hands::hands_with))]
 fn items_of(text: &[u8], at: usize) -> Result<(Hand, Hand), TextFault>
     requires { at + length text.now < 2 ^ 64 }
-    ensures { Gives (λ hands. (hands.0, hands.1)) result (hands_with empty_hand empty_hand (items at 0 at text.now)) }
+    ensures { Gives (λ hands. (hands.0, hands.1)) result (hands_with empty_hand empty_hand (items at None at text.now)) }
 {
     let mut holding = Holding {
         start: at,
-        count: 0,
+        count: None,
         black: Hand::empty(),
         white: Hand::empty(),
     };
@@ -105,7 +109,7 @@ fn items_of(text: &[u8], at: usize) -> Result<(Hand, Hand), TextFault>
         holding = take_byte(holding, *byte, here)?;
         here += 1;
     }
-    if holding.count > 0 {
+    if holding.count.is_some() {
         return Err(TextFault::BadHand(holding.start));
     }
     Ok((holding.black, holding.white))

@@ -1,10 +1,18 @@
 // What is true of the texts of all positions.
-ghost use Rattle.sfen_text.specs.Laws.{TextsApart, TextsHaveBytes, TextsAreLines};
+ghost use Rattle.sfen_text.specs.Laws.{PositionTextsApart, TextsHaveBytes, TextsAreLines, OnePositionSpelled, OneReadingOutcome};
 
-/// Laws about the texts of positions: no two have one, none is empty, and each is one line of bytes from the space on (SFEN).
-/// Does nothing; whoever reads texts that hold positions calls it to know this. Takes no memory.
+use board_core::value_laws;
+
+/// Laws about the texts of positions: no two positions have one, none is empty, and each is one line of bytes from the space on
+/// (SFEN); no input spells two positions, and none has two outcomes. Does nothing; whoever reads texts that hold positions
+/// calls it to know this. Takes no memory.
 pub fn sfen_laws()
-    ensures apart { TextsApart }
+    ensures apart { PositionTextsApart }
     ensures bytes { TextsHaveBytes }
     ensures lines { TextsAreLines }
-{}
+    ensures spelled { OnePositionSpelled }
+    ensures outcomes { OneReadingOutcome }
+{
+    // No two squares have one number, and no two kinds one place: so one fault of a position comes first.
+    value_laws();
+}

@@ -1,6 +1,6 @@
 // Letters as pieces.
 ghost use Rattle.std.specs.Prelude.{◌≡◌};
-ghost use Rattle.sfen_text.specs.Pieces.{kind_of, plain_piece, promoted_piece, side_of_letter, capital_of, piece_of, promoted_of};
+ghost use Rattle.sfen_text.specs.Pieces.{promoted_piece, side_of_letter, capital_of, piece_of, promoted_of};
 
 use board_core::{Kind, Piece, Side};
 
@@ -18,32 +18,6 @@ fn capital_of(byte: u8) -> u8
     ensures { result ≡ capital_of byte }
 {
     if byte >= b'a' { byte - 32 } else { byte }
-}
-
-fn kind_of(capital: u8) -> Option<Kind>
-    ensures { result ≡ kind_of capital }
-{
-    match capital {
-        b'P' => Some(Kind::Pawn),
-        b'L' => Some(Kind::Lance),
-        b'N' => Some(Kind::Knight),
-        b'S' => Some(Kind::Silver),
-        b'G' => Some(Kind::Gold),
-        b'B' => Some(Kind::Bishop),
-        b'R' => Some(Kind::Rook),
-        b'K' => Some(Kind::King),
-        _ => None,
-    }
-}
-
-fn plain_piece(side: Side, kind: Kind) -> Piece
-    ensures { result ≡ plain_piece side kind }
-{
-    Piece {
-        kind,
-        promoted: false,
-        side,
-    }
 }
 
 fn promoted_piece(side: Side, kind: Kind) -> Option<Piece>
@@ -64,8 +38,8 @@ fn promoted_piece(side: Side, kind: Kind) -> Option<Piece>
 pub fn piece_of(letter: u8) -> Option<Piece>
     ensures { result ≡ piece_of letter }
 {
-    let kind = kind_of(capital_of(letter))?;
-    Some(plain_piece(side_of_letter(letter), kind))
+    let kind = Kind::of_letter(capital_of(letter))?;
+    Some(Piece::plain(kind, side_of_letter(letter)))
 }
 
 // The promoted piece of a letter.
@@ -73,6 +47,6 @@ pub fn piece_of(letter: u8) -> Option<Piece>
 pub fn promoted_of(letter: u8) -> Option<Piece>
     ensures { result ≡ promoted_of letter }
 {
-    let kind = kind_of(capital_of(letter))?;
+    let kind = Kind::of_letter(capital_of(letter))?;
     promoted_piece(side_of_letter(letter), kind)
 }

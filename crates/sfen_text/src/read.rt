@@ -1,17 +1,21 @@
 // Texts as positions.
-ghost use Rattle.std.specs.Prelude.{◌≡◌, ◌≤◌, ◌<◌, ◌+◌, ◌-◌, ◌^◌, ◌∷◌, ℕ, List, length, take, drop, reverse, take_while, not, Ok, IfOk};
+ghost use Rattle.std.specs.Prelude.{◌≡◌, ◌≤◌, ◌<◌, ◌+◌, ◌-◌, ◌^◌, ◌∷◌, ℕ, List, length, take, drop, reverse, take_while, not, Result, Ok, IfOk};
 ghost use Rattle.std.specs.List.{list_all};
-ghost use Rattle.board_core.specs.Board.{Board};
+ghost use Rattle.board_core.specs.Board.{Board, HasDefender};
 ghost use Rattle.board_core.specs.Kept.{IsKept};
 ghost use Rattle.sfen_text.specs.Spelling.{sfen_of};
 ghost use Rattle.sfen_text.specs.Spells.{Spells};
-ghost use Rattle.sfen_text.specs.Reading.{is_space, is_blank, leading, without_end_blanks, front_len, field, field_of, next_of, end_of, cells_at, side_at, is_number, ended, fields_at, reading, IsReadingAnswer, HasDefender, Gives};
-ghost use Rattle.sfen_text.specs.Hands.{hands_of, is_digit};
+ghost use Rattle.sfen_text.specs.Reading.{leading, without_end_blanks, front_len, field_of, next_of, cells_at, side_at, is_number, end_outcome, fields_at, input_parts, IsOutcomeOf, Gives};
+ghost use Rattle.sfen_text.specs.declared.fault.TextFault.{TextFault};
+ghost use Rattle.sfen_text.specs.Faults.{IsReadingOutcome};
+ghost use Rattle.sfen_text.specs.Hands.{hands_of};
+ghost use Rattle.sfen_text.specs.Bytes.{is_space, is_blank, is_digit};
+ghost use Rattle.sfen_text.specs.Fields.{field, end_of};
 
-use crate::TextFault;
 use crate::hands::hands_of;
 use crate::squares::board_of;
-use board_core::{Hand, Piece, Position, Side};
+use crate::{TextFault, sfen_laws};
+use board_core::{Hand, Piece, Position, Side, value_laws};
 
 fn is_blank(byte: u8) -> bool
     ensures { result ≡ is_blank byte }
@@ -129,10 +133,10 @@ fn is_number(text: &[u8]) -> bool
     text.len() <= 9 && all_digits(text)
 }
 
-#[tactic(auto, unfolding(crate::specs::Reading::ended))]
-fn end(span: Span<'_>) -> Result<(), TextFault>
+#[tactic(auto, unfolding(crate::specs::Reading::end_outcome))]
+fn end_outcome(span: Span<'_>) -> Result<(), TextFault>
     requires { span.at + length span.text.now + length span.rest.now < 2 ^ 64 }
-    ensures { Gives (λ _. field span.entry.at span.entry.text.now span.entry.rest.now) result (ended (field span.entry.at span.entry.text.now span.entry.rest.now)) }
+    ensures { Gives (λ _. field span.entry.at span.entry.text.now span.entry.rest.now) result (end_outcome (field span.entry.at span.entry.text.now span.entry.rest.now)) }
 {
     if !is_number(span.text) {
         return Err(TextFault::Trailing(span.at));
@@ -162,9 +166,9 @@ fn parts_of(text: &[u8], at: usize) -> Result<Parts, TextFault>
     let cells = board_of(board.text, board.at)?;
     let turn = span_behind(board);
     let side = side_of(turn)?;
-    let held = span_behind(turn);
-    let (black, white) = hands_of(held.text, held.at)?;
-    end(span_behind(held))?;
+    let hands_field = span_behind(turn);
+    let (black, white) = hands_of(hands_field.text, hands_field.at)?;
+    end_outcome(span_behind(hands_field))?;
     Ok(Parts {
         cells,
         black,
@@ -174,9 +178,9 @@ fn parts_of(text: &[u8], at: usize) -> Result<Parts, TextFault>
 }
 
 // The text without the blanks at its ends and without a word in front, and its place.
-#[tactic(auto, unfolding(crate::specs::Reading::reading, crate::specs::Reading::without_end_blanks))]
+#[tactic(auto, unfolding(crate::specs::Reading::input_parts, crate::specs::Reading::without_end_blanks))]
 fn body_of(input: &[u8]) -> (usize, &[u8])
-    ensures reading { reading input.now ≡ fields_at result.0 result.1.now }
+    ensures input_parts { input_parts input.now ≡ fields_at result.0 result.1.now }
     ensures within { result.0 + length result.1.now ≤ length input.now }
 {
     let blanks = leading_blanks(input);
@@ -186,8 +190,9 @@ fn body_of(input: &[u8]) -> (usize, &[u8])
     (blanks + front, &body[front..])
 }
 
-fn built(parts: Parts) -> Result<Position, TextFault>
-    ensures { IsReadingAnswer (Ok (record { cells = parts.cells; black = parts.black; white = parts.white; side = parts.side })) result }
+fn position_of(parts: Parts) -> Result<Position, TextFault>
+    ensures defender { IfOk result HasDefender }
+    ensures built { IsOutcomeOf (Ok (record { cells = parts.cells; black = parts.black; white = parts.white; side = parts.side })) result }
 {
     match Position::build(&parts.cells, parts.black, parts.white, parts.side) {
         Ok(position) => Ok(position),
@@ -195,22 +200,28 @@ fn built(parts: Parts) -> Result<Position, TextFault>
     }
 }
 
-fn answer_of(input: &[u8]) -> Result<Position, TextFault>
-    ensures { IsReadingAnswer (reading input.now) result }
+fn outcome_of(input: &[u8]) -> Result<Position, TextFault>
+    ensures defender { IfOk result HasDefender }
+    ensures outcome { IsOutcomeOf (input_parts input.now) result }
 {
     let (at, text) = body_of(input);
     let parts = parts_of(text, at)?;
-    built(parts)
+    position_of(parts)
 }
 
 /// The position that an SFEN text stands for; else its first fault from the left, with its place in the whole input, or,
 /// where the text is well formed, the fault of its parts ([`TextFault`]). Takes no memory, in one pass.
 ///
 /// Spaces, tabs, carriage returns and line feeds at both ends don't count, nor does `sfen ` or `position sfen ` in front
-/// (USI protocol: `position`). The rest is three or four fields with spaces between: the board from rank a to rank i, each
+/// (USI protocol: `position`). The rest is three or four fields with spaces between: the board from row a to row i, each
 /// from file 9 to file 1; the side to move; the hands; perhaps a move number of one to nine digits, which isn't used.
 pub fn read_sfen(input: &[u8]) -> Result<Position, TextFault>
-    ensures exact { IsReadingAnswer (reading input.now) result }
+    // The position that the input spells; else its first fault.
+    ensures exact { IsReadingOutcome input.now result }
+    // And nothing else is.
+    ensures only { (other : Result Board TextFault) → IsReadingOutcome input.now other → result ≡ other }
+    // The defender, the side that isn't to move, has a king.
+    ensures defender { IfOk result HasDefender }
     // The text spells the position that is read.
     ensures spelled { IfOk result (λ p. Spells input.now p) }
     // A position that the text spells is read, where it keeps what every position keeps and the side that isn't to move has
@@ -219,5 +230,8 @@ pub fn read_sfen(input: &[u8]) -> Result<Position, TextFault>
     // What is written for a position is read as it.
     ensures again { (p : Board) → IsKept p → HasDefender p → input.now ≡ sfen_of p → result ≡ Ok p }
 {
-    answer_of(input)
+    // The kinds that can stand in a hand have a count there; and no input has two outcomes.
+    value_laws();
+    sfen_laws();
+    outcome_of(input)
 }

@@ -1,6 +1,6 @@
 // The board field of a text.
 ghost use Rattle.std.specs.Prelude.{◌≡◌, [], ◌≤◌, ◌<◌, ◌+◌, ◌-◌, ◌*◌, ◌^◌, ℕ, length, drop};
-ghost use Rattle.sfen_text.specs.Signs.{stands, plain_sign, sign, signs, squares, cells_of, IsFilling, filled, IsTaken};
+ghost use Rattle.sfen_text.specs.Signs.{sign_of_piece, plain_sign, sign, signs, squares, cells_of, IsFilling, filled_squares, IsSignTaken};
 ghost use Rattle.sfen_text.specs.Reading.{Gives, cells_at};
 
 use crate::TextFault;
@@ -20,17 +20,17 @@ pub enum Sign {
     Broken,
 }
 
-// What was read so far: the squares in the order of reading, how many ranks are still to come, and how many squares of
-// this rank.
+// What was read so far: the squares in the order of reading, how many rows are still to come, and how many squares of
+// this row.
 #[derive(Clone, Copy)]
 struct Filling {
     read: [Option<Piece>; 81],
-    ranks: u8,
+    further_rows: u8,
     left: u8,
 }
 
-fn stands(piece: Option<Piece>) -> Sign
-    ensures { result ≡ stands piece }
+fn sign_of_piece(piece: Option<Piece>) -> Sign
+    ensures { result ≡ sign_of_piece piece }
 {
     match piece {
         Some(piece) => Sign::Stands(piece),
@@ -44,7 +44,7 @@ fn plain_sign(byte: u8) -> Sign
     match byte {
         b'/' => Sign::Slash,
         b'1'..=b'9' => Sign::Run(byte - b'0'),
-        _ => stands(piece_of(byte)),
+        _ => sign_of_piece(piece_of(byte)),
     }
 }
 
@@ -62,21 +62,21 @@ fn sign_of(text: &[u8]) -> (Sign, usize)
     if text[0] != b'+' {
         return plain;
     }
-    (stands(promoted_of(text[1])), 2)
+    (sign_of_piece(promoted_of(text[1])), 2)
 }
 
 #[tactic(auto, unfolding(crate::specs::Signs::squares))]
 fn take_sign(filling: &mut Filling, found: Sign, at: usize) -> Result<(), TextFault>
     requires { IsFilling filling.old }
-    ensures { IsTaken filling.old filling.new found at result }
+    ensures { IsSignTaken filling.old filling.new found at result }
 {
     match found {
         Sign::Broken => return Err(TextFault::BadPiece(at)),
         Sign::Slash => {
-            if filling.left > 0 || filling.ranks == 0 {
+            if filling.left > 0 || filling.further_rows == 0 {
                 return Err(TextFault::BadRow(at));
             }
-            filling.ranks -= 1;
+            filling.further_rows -= 1;
             filling.left = 9;
         }
         Sign::Run(count) => {
@@ -89,7 +89,9 @@ fn take_sign(filling: &mut Filling, found: Sign, at: usize) -> Result<(), TextFa
             if filling.left == 0 {
                 return Err(TextFault::BadRow(at));
             }
-            filling.read[81 - 9 * filling.ranks as usize - filling.left as usize] = Some(piece);
+            filling.read[81 - 9 * filling.further_rows as usize - filling.left as usize] = Some(
+                piece,
+            );
             filling.left -= 1;
         }
     }
@@ -98,13 +100,13 @@ fn take_sign(filling: &mut Filling, found: Sign, at: usize) -> Result<(), TextFa
 
 fn nothing_filled() -> Filling
     ensures filling { IsFilling result }
-    ensures nothing { filled result ≡ [] }
-    ensures ranks { result.ranks ≡ 8 }
+    ensures nothing { filled_squares result ≡ [] }
+    ensures further_rows { result.further_rows ≡ 8 }
     ensures left { result.left ≡ 9 }
 {
     Filling {
         read: [None; 81],
-        ranks: 8,
+        further_rows: 8,
         left: 9,
     }
 }
@@ -125,7 +127,7 @@ fn squares_of(text: &[u8], at: usize) -> Result<[Option<Piece>; 81], TextFault>
         here += size;
         rest = &rest[size..];
     }
-    if filling.ranks > 0 || filling.left > 0 {
+    if filling.further_rows > 0 || filling.left > 0 {
         return Err(TextFault::BadRow(end));
     }
     Ok(filling.read)

@@ -102,7 +102,5 @@ fn the_first_fault_is_named_with_its_place(rt: HostRuntime) -> Result<(), Fail> 
         let found = format!(in rt.alloc(); "{fault}")?;
         refused(&rt, found.as_str(), wanted, text);
     }
-    let found = format!(in rt.alloc(); "{}", crate::TextFault::DefenderInCheck)?;
-    refused(&rt, found.as_str(), "defender in check", "");
     Ok(())
 }

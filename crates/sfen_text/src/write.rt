@@ -1,15 +1,14 @@
 // Positions as texts.
 ghost use Rattle.std.specs.Prelude.{◌≡◌, ◌≢◌, ◌≤◌, ◌<◌, ◌+◌, ◌++◌, ◌∷◌, [], List, ℕ, IfOk, OnOk};
-ghost use Rattle.board_core.specs.Board.{Board, held, hand_of};
+ghost use Rattle.board_core.specs.Board.{Board, hand_count, hand_of};
 ghost use Rattle.board_core.specs.Kept.{IsKept};
 ghost use Rattle.board_core.specs.declared.piece.Kind.TheVariants.{King};
 ghost use Rattle.board_core.specs.declared.piece.Side.TheVariants.{Black, White};
 ghost use Rattle.sfen_text.specs.Pieces.{letter_of, piece_text};
-ghost use Rattle.sfen_text.specs.Spelling.{row_of, run_text, row_text, slashed_row, board_text, side_letter, count_text, held_text, hand_text, hands_text, sfen_of};
+ghost use Rattle.sfen_text.specs.Spelling.{cells_of_row, run_text, row_text, slashed_row, board_text, side_letter, count_text, held_text, hand_text, hands_text, sfen_of};
 
-use crate::NoMemory;
 use board_core::{Hand, Kind, Piece, Position, Side, Square};
-use std::alloc::Global;
+use std::alloc::{AllocError, Global};
 
 fn letter(side: Side, kind: Kind) -> u8
     ensures { result ≡ letter_of side kind }
@@ -20,7 +19,7 @@ fn letter(side: Side, kind: Kind) -> u8
     }
 }
 
-fn put_piece(out: &mut Vec<u8>, piece: Piece) -> Result<(), NoMemory>
+fn put_piece(out: &mut Vec<u8>, piece: Piece) -> Result<(), AllocError>
     ensures { OnOk result (out.new.items ≡ out.old.items ++ piece_text piece) }
 {
     if piece.promoted {
@@ -30,7 +29,7 @@ fn put_piece(out: &mut Vec<u8>, piece: Piece) -> Result<(), NoMemory>
     Ok(())
 }
 
-fn put_run(out: &mut Vec<u8>, run: u8) -> Result<(), NoMemory>
+fn put_run(out: &mut Vec<u8>, run: u8) -> Result<(), AllocError>
     requires { run ≤ 9 }
     ensures { OnOk result (out.new.items ≡ out.old.items ++ run_text run) }
 {
@@ -40,15 +39,15 @@ fn put_run(out: &mut Vec<u8>, run: u8) -> Result<(), NoMemory>
     Ok(())
 }
 
-#[tactic(auto, using(crate::proofs::Writing::row_from_more), unfolding(crate::specs::Spelling::row_of))]
-fn put_row(out: &mut Vec<u8>, position: &Position, rank: u8) -> Result<(), NoMemory>
-    requires from { 1 ≤ rank }
-    requires to { rank ≤ 9 }
-    ensures { OnOk result (out.new.items ≡ out.old.items ++ row_text 0 (row_of position.now.cells rank)) }
+#[tactic(auto, using(crate::proofs::Writing::row_from_more), unfolding(crate::specs::Spelling::cells_of_row))]
+fn put_row(out: &mut Vec<u8>, position: &Position, row_number: u8) -> Result<(), AllocError>
+    requires from { 1 ≤ row_number }
+    requires to { row_number ≤ 9 }
+    ensures { OnOk result (out.new.items ≡ out.old.items ++ row_text 0 (cells_of_row position.now.cells row_number)) }
 {
     let mut run = 0;
     for file in (1..10).rev() {
-        match position.piece_at(Square::on(file, rank)) {
+        match position.piece_at(Square::on(file, row_number)) {
             None => run += 1,
             Some(piece) => {
                 put_run(out, run)?;
@@ -60,18 +59,18 @@ fn put_row(out: &mut Vec<u8>, position: &Position, rank: u8) -> Result<(), NoMem
     put_run(out, run)
 }
 
-fn put_board(out: &mut Vec<u8>, position: &Position) -> Result<(), NoMemory>
+fn put_board(out: &mut Vec<u8>, position: &Position) -> Result<(), AllocError>
     ensures { OnOk result (out.new.items ≡ out.old.items ++ board_text position.now.cells) }
 {
     put_row(out, position, 1)?;
-    for rank in 2..10 {
+    for row_number in 2..10 {
         out.push(b'/')?;
-        put_row(out, position, rank)?;
+        put_row(out, position, row_number)?;
     }
     Ok(())
 }
 
-fn put_held(out: &mut Vec<u8>, side: Side, kind: Kind, count: u8) -> Result<(), NoMemory>
+fn put_held(out: &mut Vec<u8>, side: Side, kind: Kind, count: u8) -> Result<(), AllocError>
     requires { count < 100 }
     ensures { OnOk result (out.new.items ≡ out.old.items ++ held_text side kind count) }
 {
@@ -88,15 +87,20 @@ fn put_held(out: &mut Vec<u8>, side: Side, kind: Kind, count: u8) -> Result<(), 
     Ok(())
 }
 
-fn put_kind(out: &mut Vec<u8>, position: &Position, side: Side, kind: Kind) -> Result<(), NoMemory>
+fn put_kind(
+    out: &mut Vec<u8>,
+    position: &Position,
+    side: Side,
+    kind: Kind,
+) -> Result<(), AllocError>
     requires { kind ≢ King }
-    ensures { OnOk result (out.new.items ≡ out.old.items ++ held_text side kind (held (hand_of position.now side) kind)) }
+    ensures { OnOk result (out.new.items ≡ out.old.items ++ held_text side kind (hand_count (hand_of position.now side) kind)) }
 {
-    position.cells();
+    position.laws();
     put_held(out, side, kind, position.hand(side).count(kind))
 }
 
-fn put_hand(out: &mut Vec<u8>, position: &Position, side: Side) -> Result<(), NoMemory>
+fn put_hand(out: &mut Vec<u8>, position: &Position, side: Side) -> Result<(), AllocError>
     ensures { OnOk result (out.new.items ≡ out.old.items ++ hand_text side (hand_of position.now side)) }
 {
     put_kind(out, position, side, Kind::Rook)?;
@@ -108,14 +112,14 @@ fn put_hand(out: &mut Vec<u8>, position: &Position, side: Side) -> Result<(), No
     put_kind(out, position, side, Kind::Pawn)
 }
 
-fn put_both(out: &mut Vec<u8>, position: &Position) -> Result<(), NoMemory>
+fn put_both(out: &mut Vec<u8>, position: &Position) -> Result<(), AllocError>
     ensures { OnOk result (out.new.items ≡ out.old.items ++ (hand_text Black position.now.black ++ hand_text White position.now.white)) }
 {
     put_hand(out, position, Side::Black)?;
     put_hand(out, position, Side::White)
 }
 
-fn put_hands(out: &mut Vec<u8>, position: &Position) -> Result<(), NoMemory>
+fn put_hands(out: &mut Vec<u8>, position: &Position) -> Result<(), AllocError>
     ensures { OnOk result (out.new.items ≡ out.old.items ++ hands_text position.now.black position.now.white) }
 {
     let before = out.len();
@@ -135,27 +139,37 @@ fn side_byte(side: Side) -> u8
     }
 }
 
-fn text_of(alloc: Global, position: &Position) -> Result<Vec<u8>, NoMemory>
+/// Writes the text of a position behind what stands there already: see [`write_sfen`]. Where memory is wanted, a part of it may
+/// stand there. Errors: want of memory alone.
+pub fn append_sfen(out: &mut Vec<u8>, position: &Position) -> Result<(), AllocError>
+    ensures text { OnOk result (out.new.items ≡ out.old.items ++ sfen_of position.now) }
+    ensures kept { IsKept position.now }
+{
+    position.laws();
+    put_board(out, position)?;
+    out.push(b' ')?;
+    out.push(side_byte(position.side()))?;
+    out.push(b' ')?;
+    put_hands(out, position)
+}
+
+fn text_of(alloc: Global, position: &Position) -> Result<Vec<u8>, AllocError>
     ensures { IfOk result (λ text. text.items ≡ sfen_of position.now) }
 {
     let mut text = Vec::new(alloc);
-    put_board(&mut text, position)?;
-    text.push(b' ')?;
-    text.push(side_byte(position.side()))?;
-    text.push(b' ')?;
-    put_hands(&mut text, position)?;
+    append_sfen(&mut text, position)?;
     Ok(text)
 }
 
 /// The text of a position (SFEN): the board with longest runs of empty squares, the side to move, and the hands, a space
 /// between. In the hands Black's letters come first, each side's in the order R B G S N L P, each with its count before it
-/// where that is above 1; a dash where both are empty. No move number, no line feed. Answers `NoMemory` only where the
-/// memory ends.
-pub fn write_sfen(alloc: Global, position: &Position) -> Result<Vec<u8>, NoMemory>
+/// where that is above 1; a dash where both are empty. No move number, no line feed. Errors: want of memory alone.
+pub fn write_sfen(alloc: Global, position: &Position) -> Result<Vec<u8>, AllocError>
     ensures text { IfOk result (λ text. text.items ≡ sfen_of position.now) }
     // No other position has this text.
     ensures apart { IfOk result (λ text. (other : Board) → IsKept other → sfen_of other ≡ text.items → other ≡ position.now) }
+    ensures kept { IsKept position.now }
 {
-    position.cells();
+    position.laws();
     text_of(alloc, position)
 }

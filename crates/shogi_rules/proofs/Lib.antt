@@ -4,4 +4,3 @@ pub mod Firsts
 pub mod Decided
 pub mod Turns
 pub mod Listing
-mod Kings

@@ -1,7 +1,7 @@
 -- What a move on the board needs and keeps.
 use Rattle.std.proofs.Common.{◌≡◌, ◌≢◌, ◌<◌, ◌≤◌, ◌+◌, ◌/◌, ◌⊎◌, inl, inr, ◌||◌, ◌&&◌, ◌==◌, ℕ, zero, suc, List, [], ◌∷◌, Option, Some, None, Bool, true, false, slice_set, IsTrue, IsSome, arith, ap, sym, refl, subst}
 use Rattle.std.specs.Prelude.{not}
-use Rattle.std.proofs.lemmas.Bool.{cases_eq, cases_order}
+use Rattle.std.proofs.lemmas.Bool.{cases_eq, cases_order, eq-eqb}
 use Rattle.std.proofs.lemmas.Bool.Decides.{eqb_tells}
 use Rattle.board_core.specs.declared.piece.Piece.{Piece}
 use Rattle.board_core.specs.declared.piece.Kind.{Kind}
@@ -9,10 +9,10 @@ use Rattle.board_core.specs.declared.piece.Kind.TheVariants.{Pawn, Lance, Knight
 use Rattle.board_core.specs.declared.piece.Side.{Side}
 use Rattle.board_core.specs.declared.piece.Side.TheVariants.{Black, White}
 use Rattle.board_core.specs.Square.{file_of}
-use Rattle.board_core.specs.Kind.{other, same_kind, same_side, total_of, can_promote}
-use Rattle.board_core.specs.Board.{Board, piece_at, is_of_kind, is_king_of, is_pawn_of, count_of, kings_of, with_cell, with_hand, passed, hand_of, one_if, ChangesCell}
+use Rattle.board_core.specs.Kind.{other, same_kind, same_side, total_of, can_promote, place_of}
+use Rattle.board_core.specs.Board.{Board, piece_at, is_of_kind, is_king_of, is_pawn_of, count_of, kings_of, with_cell, with_hand, with_turn_passed, hand_of, one_if, ChangesCell}
 use Rattle.board_core.specs.Kept.{IsKept, TwoPawnsOn}
-use Rattle.shogi_rules.specs.Rules.{fits, distance, landed, gained, after_board, IsClear, IsQuiet, IsOwn}
+use Rattle.shogi_rules.specs.Rules.{fits, distance, landed_piece, hand_with_capture, after_board, IsClear, IsQuiet, IsOwn}
 
 pub true_or_false : (b : Bool) → (b ≡ true) ⊎ (b ≡ false)
 true_or_false true = inl refl
@@ -110,7 +110,7 @@ no_second b t u from to s man kept start there first second kind plain moved wit
 -- a pawn that moved meets no other pawn of its side on its file
 pub pawn_alone : (b t u : Board) (from to : ℕ) (promote : Bool) (man : Piece) → IsKept b → from < 81 → piece_at b.cells from ≡ Some man
     → IsTrue (fits man from to) → ChangesCell b t from None → ChangesCell t u to None
-    → is_pawn_of man.side (Some (landed promote man)) ≡ true
+    → is_pawn_of man.side (Some (landed_piece promote man)) ≡ true
     → (s : ℕ) → s < 81 → file_of s ≡ file_of to → is_pawn_of man.side (piece_at u.cells s) ≡ false
 pawn_alone b t u from to promote man kept start there fit first second pawn s within file =
     let kind : man.kind ≡ Pawn = pawn_place man.kind (and_left _ _ pawn) in
@@ -138,25 +138,15 @@ no_king_taken b from to man taken quiet start within there owner free fit clear 
       record { king = is; attacked = (from, start, rw (there, other_twice b.side) (owner, record { fit = fit; clear = clear })) },
     )
 
-same_kind_refl : (k : Kind) → same_kind k k ≡ true
-same_kind_refl Pawn = refl
-same_kind_refl Lance = refl
-same_kind_refl Knight = refl
-same_kind_refl Silver = refl
-same_kind_refl Gold = refl
-same_kind_refl Bishop = refl
-same_kind_refl Rook = refl
-same_kind_refl King = refl
-
 -- what was taken is left over
 pub taken_left : (b t u v : Board) (from to : ℕ) (promote : Bool) (man taken : Piece) → IsKept b → from ≢ to → taken.kind ≢ King
     → piece_at b.cells from ≡ Some man → piece_at b.cells to ≡ Some taken
-    → ChangesCell b t from None → ChangesCell t u to None → ChangesCell u v to (Some (landed promote man))
+    → ChangesCell b t from None → ChangesCell t u to None → ChangesCell u v to (Some (landed_piece promote man))
     → count_of v taken.kind < total_of taken.kind
 taken_left b t u v from to promote man taken kept apart king there at first second third =
     let most = kept.totals taken.kind king in
     let one = rw there at (first.counts taken.kind) in
-    let two = rw (first.elsewhere to (λ e. apart (sym e)), at, same_kind_refl taken.kind) at (second.counts taken.kind) in
+    let two = rw (first.elsewhere to (λ e. apart (sym e)), at, eq-eqb (place_of taken.kind) (place_of taken.kind) refl) at (second.counts taken.kind) in
     let three = rw second.there at (third.counts taken.kind) in
     omega arith
 
@@ -167,13 +157,13 @@ set_set (x ∷ xs) (suc i) v w = ap (λ (ys : List (Option Piece)). x ∷ ys) (s
 
 -- emptying both squares and putting the piece is the move on the board
 pub moved_is : (b : Board) (from to : ℕ) (promote : Bool) (man : Piece) → piece_at b.cells from ≡ Some man
-    → passed (with_hand (with_cell (with_cell (with_cell b from None) to None) to (Some (landed promote man))) b.side (gained (piece_at b.cells to) (hand_of b b.side)))
+    → with_turn_passed (with_hand (with_cell (with_cell (with_cell b from None) to None) to (Some (landed_piece promote man))) b.side (hand_with_capture (piece_at b.cells to) (hand_of b b.side)))
     ≡ after_board b from to promote
-moved_is b from to promote man there = rw (there, set_set (slice_set b.cells from None) to None (Some (landed promote man))) refl
+moved_is b from to promote man there = rw (there, set_set (slice_set b.cells from None) to None (Some (landed_piece promote man))) refl
 
 -- a move on the board keeps the count of each kind
 pub conserves : (b t u v w : Board) (from to : ℕ) (promote : Bool) (man : Piece) (k : Kind) → from ≢ to → piece_at b.cells from ≡ Some man
-    → ChangesCell b t from None → ChangesCell t u to None → ChangesCell u v to (Some (landed promote man))
+    → ChangesCell b t from None → ChangesCell t u to None → ChangesCell u v to (Some (landed_piece promote man))
     → count_of w k ≡ count_of v k + one_if (is_of_kind k (piece_at b.cells to)) → count_of w k ≡ count_of b k
 conserves b t u v w from to promote man k apart there first second third last =
     let one = rw there at (first.counts k) in
@@ -199,7 +189,7 @@ no_king_there side (Some taken) free = rw (not_the_king taken.kind (free taken r
 -- a move on the board keeps the kings
 pub kings_stay : (b t u v w : Board) (from to : ℕ) (promote : Bool) (man : Piece) (side : Side) → from ≢ to → piece_at b.cells from ≡ Some man
     → one_if (is_king_of side (piece_at b.cells to)) ≡ 0
-    → ChangesCell b t from None → ChangesCell t u to None → ChangesCell u v to (Some (landed promote man))
+    → ChangesCell b t from None → ChangesCell t u to None → ChangesCell u v to (Some (landed_piece promote man))
     → kings_of w side ≡ kings_of v side → kings_of w side ≡ kings_of b side
 kings_stay b t u v w from to promote man side apart there free first second third last =
     let one = rw there at (first.kings side) in

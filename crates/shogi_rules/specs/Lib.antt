@@ -1,3 +1,4 @@
+-- The rules of shogi.
 pub mod Rules
 pub mod Tsume
 pub mod Scan

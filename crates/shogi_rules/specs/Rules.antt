@@ -5,22 +5,16 @@ use Rattle.std.specs.Option.{option_map}
 use Rattle.board_core.specs.declared.piece.Kind.{Kind}
 use Rattle.board_core.specs.declared.piece.Kind.TheVariants.{Pawn, Lance, Knight, Silver, Gold, Bishop, Rook, King}
 use Rattle.board_core.specs.declared.piece.Side.{Side}
-use Rattle.board_core.specs.declared.piece.Side.TheVariants.{Black, White}
 use Rattle.board_core.specs.declared.piece.Piece.{Piece}
 use Rattle.board_core.specs.declared.moves.Move.{Move}
 use Rattle.board_core.specs.declared.moves.Move.TheVariants as moves
-use Rattle.board_core.specs.Square.{ranks_ahead}
+use Rattle.board_core.specs.Square.{height}
 use Rattle.board_core.specs.Kind.{other, can_promote}
-use Rattle.board_core.specs.Board.{Board, piece_at, held, hand_of, with_more, with_less, is_king_of, is_pawn_of, is_dead, with_cell, with_hand, passed}
+use Rattle.board_core.specs.Board.{Board, piece_at, hand_count, hand_of, with_more, with_less, is_king_of, is_pawn_of, is_dead, plain_piece, with_cell, with_hand, with_turn_passed}
 use Rattle.shogi_rules.specs.declared.illegal.Illegal.{Illegal}
 use Rattle.shogi_rules.specs.declared.illegal.Illegal.TheVariants.{NotThere, OwnPiece, NoStep, Blocked, BadPromotion, Occupied, NotInHand, DeadDrop, TwoPawns, KingLeft, PawnMate}
 
 -- 1. MOVEMENT. What a piece may do is said by how many files aside it goes, and between which heights.
-
--- How high a square lies for a side, from 0 on its own first rank to 8 on its last: forward is up, for both sides.
-abbrev pub height : Side → ℕ → ℕ
-height Black square = 8 - square % 9
-height White square = square % 9
 
 -- How far apart two numbers are.
 abbrev pub distance : ℕ → ℕ → ℕ
@@ -28,40 +22,40 @@ distance a b = (a - b) + (b - a)
 
 -- A gold steps one up, straight or aside; one aside; or one straight down.
 abbrev pub gold_steps : ℕ → ℕ → ℕ → Bool
-gold_steps aside from to =
-    (nat_le aside 1 && (to == from + 1)) || ((aside == 1) && (to == from)) || ((aside == 0) && (from == to + 1))
+gold_steps aside low high =
+    (nat_le aside 1 && (high == low + 1)) || ((aside == 1) && (high == low)) || ((aside == 0) && (low == high + 1))
 
 -- The single steps of a piece, promoted or not. A knight jumps two up and one aside. A silver steps one up, straight or
 -- aside, or one down aside. A king steps to any neighbour. A promoted pawn, lance, knight or silver steps as a gold does.
--- A promoted bishop steps one along a file or a rank besides its slides, a promoted rook one diagonally.
+-- A promoted bishop steps one along a file or a row besides its slides, a promoted rook one diagonally.
 abbrev pub steps : Kind → Bool → ℕ → ℕ → ℕ → Bool
-steps Pawn false aside from to = (aside == 0) && (to == from + 1)
-steps Pawn true aside from to = gold_steps aside from to
-steps Lance false aside from to = false
-steps Lance true aside from to = gold_steps aside from to
-steps Knight false aside from to = (aside == 1) && (to == from + 2)
-steps Knight true aside from to = gold_steps aside from to
-steps Silver false aside from to = (nat_le aside 1 && (to == from + 1)) || ((aside == 1) && (from == to + 1))
-steps Silver true aside from to = gold_steps aside from to
-steps Gold promoted aside from to = gold_steps aside from to
-steps Bishop false aside from to = false
-steps Bishop true aside from to = (aside + distance from to) == 1
-steps Rook false aside from to = false
-steps Rook true aside from to = (aside == 1) && (distance from to == 1)
-steps King promoted aside from to = nat_le aside 1 && nat_le (distance from to) 1 && nat_le 1 (aside + distance from to)
+steps Pawn false aside low high = (aside == 0) && (high == low + 1)
+steps Pawn true aside low high = gold_steps aside low high
+steps Lance false aside low high = false
+steps Lance true aside low high = gold_steps aside low high
+steps Knight false aside low high = (aside == 1) && (high == low + 2)
+steps Knight true aside low high = gold_steps aside low high
+steps Silver false aside low high = (nat_le aside 1 && (high == low + 1)) || ((aside == 1) && (low == high + 1))
+steps Silver true aside low high = gold_steps aside low high
+steps Gold promoted aside low high = gold_steps aside low high
+steps Bishop false aside low high = false
+steps Bishop true aside low high = (aside + distance low high) == 1
+steps Rook false aside low high = false
+steps Rook true aside low high = (aside == 1) && (distance low high == 1)
+steps King promoted aside low high = nat_le aside 1 && nat_le (distance low high) 1 && nat_le 1 (aside + distance low high)
 
 -- The slides of a piece, any distance as far as the squares between are empty: a lance straight up, a bishop along a
--- diagonal, a rook along a file or a rank. A promoted bishop and a promoted rook keep their slides; a promoted lance doesn't.
+-- diagonal, a rook along a file or a row. A promoted bishop and a promoted rook keep their slides; a promoted lance doesn't.
 abbrev pub slides : Kind → Bool → ℕ → ℕ → ℕ → Bool
-slides Pawn promoted aside from to = false
-slides Lance false aside from to = (aside == 0) && nat_lt from to
-slides Lance true aside from to = false
-slides Knight promoted aside from to = false
-slides Silver promoted aside from to = false
-slides Gold promoted aside from to = false
-slides Bishop promoted aside from to = nat_le 1 aside && (aside == distance from to)
-slides Rook promoted aside from to = ((aside == 0) && nat_le 1 (distance from to)) || (nat_le 1 aside && (from == to))
-slides King promoted aside from to = false
+slides Pawn promoted aside low high = false
+slides Lance false aside low high = (aside == 0) && nat_lt low high
+slides Lance true aside low high = false
+slides Knight promoted aside low high = false
+slides Silver promoted aside low high = false
+slides Gold promoted aside low high = false
+slides Bishop promoted aside low high = nat_le 1 aside && (aside == distance low high)
+slides Rook promoted aside low high = ((aside == 0) && nat_le 1 (distance low high)) || (nat_le 1 aside && (low == high))
+slides King promoted aside low high = false
 
 -- On an empty board the piece goes from the one square to the other, by a step or a slide.
 abbrev pub fits : Piece → ℕ → ℕ → Bool
@@ -79,8 +73,8 @@ pub record IsOnFile (a m b : ℕ) : Type 0 where
   pub there : b / 9 ≡ m / 9
   pub inside : IsInside (a % 9) (m % 9) (b % 9)
 
--- The square m lies strictly between a and b on one rank.
-pub record IsOnRank (a m b : ℕ) : Type 0 where
+-- The square m lies strictly between a and b on one row.
+pub record IsOnRow (a m b : ℕ) : Type 0 where
   pub here : a % 9 ≡ m % 9
   pub there : b % 9 ≡ m % 9
   pub inside : IsInside (a / 9) (m / 9) (b / 9)
@@ -90,11 +84,11 @@ pub record IsOnDiagonal (a m b : ℕ) : Type 0 where
   pub here : distance (a / 9) (m / 9) ≡ distance (a % 9) (m % 9)
   pub there : distance (a / 9) (b / 9) ≡ distance (a % 9) (b % 9)
   pub files : IsInside (a / 9) (m / 9) (b / 9)
-  pub ranks : IsInside (a % 9) (m % 9) (b % 9)
+  pub rows : IsInside (a % 9) (m % 9) (b % 9)
 
--- The square m lies strictly between a and b, on one file, rank or diagonal. Nothing lies between a knight and its square.
+-- The square m lies strictly between a and b, on one file, row or diagonal. Nothing lies between a knight and its square.
 abbrev pub IsBetween : ℕ → ℕ → ℕ → Type 0
-IsBetween a m b = IsOnFile a m b ⊎ IsOnRank a m b ⊎ IsOnDiagonal a m b
+IsBetween a m b = IsOnFile a m b ⊎ IsOnRow a m b ⊎ IsOnDiagonal a m b
 
 -- Every square strictly between the two is empty.
 abbrev pub IsClear : List (Option Piece) → ℕ → ℕ → Type 0
@@ -113,50 +107,42 @@ promotes_or true q c h e = h refl
 promotes_or false true c h e = e
 promotes_or false false c h e = absurd (cc)
 
--- Of a piece that isn't promoted nothing is asked.
-pub promotes_not : (c : Bool) → false ≡ true → c ≡ true
-promotes_not c e = absurd (cc)
-
 -- A piece as it stands after its move: promoted if it was, or if the move promotes it and its kind can be.
-abbrev pub landed : Bool → Piece → Piece
-landed promote piece = record {
+abbrev pub landed_piece : Bool → Piece → Piece
+landed_piece promote piece = record {
   kind = piece.kind;
   promoted = piece.promoted || (promote && can_promote piece.kind);
   side = piece.side;
   promotes = promotes_or piece.promoted promote (can_promote piece.kind) piece.promotes;
 }
 
--- A piece as it stands after a drop: unpromoted.
-abbrev pub dropped : Kind → Side → Piece
-dropped kind side = record { kind = kind; promoted = false; side = side; promotes = promotes_not (can_promote kind) }
-
 -- The mover's hand after a move to a square: a piece that was there goes into it, unpromoted.
-abbrev pub gained : Option Piece → List ℕ → List ℕ
-gained None hand = hand
-gained (Some piece) hand = with_more hand piece.kind
+abbrev pub hand_with_capture : Option Piece → List ℕ → List ℕ
+hand_with_capture None hand = hand
+hand_with_capture (Some piece) hand = with_more hand piece.kind
 
 -- After a move on the board the origin is empty, the piece stands on the destination, what stood there is in the mover's
 -- hand, and the other side is to move.
 abbrev pub after_board : Board → ℕ → ℕ → Bool → Board
 after_board b from to promote =
-    passed (with_hand
-    (with_cell (with_cell b from None) to (option_map (landed promote) (piece_at b.cells from)))
+    with_turn_passed (with_hand
+    (with_cell (with_cell b from None) to (option_map (landed_piece promote) (piece_at b.cells from)))
     b.side
-    (gained (piece_at b.cells to) (hand_of b b.side)))
+    (hand_with_capture (piece_at b.cells to) (hand_of b b.side)))
 
 -- After a drop the piece stands on the square, the mover's hand has one less of it, and the other side is to move.
 abbrev pub after_drop : Board → Kind → ℕ → Board
 after_drop b kind to =
-    passed (with_hand (with_cell b to (Some (dropped kind b.side))) b.side (with_less (hand_of b b.side) kind))
+    with_turn_passed (with_hand (with_cell b to (Some (plain_piece kind b.side))) b.side (with_less (hand_of b b.side) kind))
 
 -- One cell and one count changed: the piece stands where nothing stood, the mover has one less of its kind, and every other
 -- cell, every other count of his hand and the other hand are as they were.
 pub record IsDropped (old new : Board) (kind : Kind) (to : ℕ) : Type 0 where
   pub was_empty : piece_at old.cells to ≡ None
-  pub stands : piece_at new.cells to ≡ Some (dropped kind old.side)
+  pub stands : piece_at new.cells to ≡ Some (plain_piece kind old.side)
   pub other_cells : (square : ℕ) → square ≢ to → piece_at new.cells square ≡ piece_at old.cells square
-  pub one_less : held (hand_of new old.side) kind + 1 ≡ held (hand_of old old.side) kind
-  pub other_counts : (k : Kind) → k ≢ kind → held (hand_of new old.side) k ≡ held (hand_of old old.side) k
+  pub one_less : hand_count (hand_of new old.side) kind + 1 ≡ hand_count (hand_of old old.side) kind
+  pub other_counts : (k : Kind) → k ≢ kind → hand_count (hand_of new old.side) k ≡ hand_count (hand_of old old.side) k
   pub other_hand : hand_of new (other old.side) ≡ hand_of old (other old.side)
 
 -- The position after a move.
@@ -166,12 +152,12 @@ after b (moves.Drop kind to) = after_drop b kind to.number
 
 -- 3. PROMOTION.
 
--- Whether a square lies in the last three ranks of a side.
+-- Whether a square lies in the last three rows of a side.
 abbrev pub is_in_zone : Side → ℕ → Bool
-is_in_zone side square = nat_lt (ranks_ahead side square) 3
+is_in_zone side square = nat_le 6 (height side square)
 
--- A piece may be promoted once, where its kind can be, by a move that starts or ends in the last three ranks. It may stay
--- unpromoted where it could move again: a pawn and a lance not on the last rank, a knight not on the last two.
+-- A piece may be promoted once, where its kind can be, by a move that starts or ends in the last three rows. It may stay
+-- unpromoted where it could move again: a pawn and a lance not on the last row, a knight not on the last two.
 abbrev pub promotion_fits : Piece → ℕ → ℕ → Bool → Bool
 promotion_fits piece from to true = (not piece.promoted && can_promote piece.kind) && (is_in_zone piece.side from || is_in_zone piece.side to)
 promotion_fits piece from to false = not (is_dead to (Some piece))
@@ -264,8 +250,8 @@ RefusesDrop b k to NoStep = ⊥
 RefusesDrop b k to Blocked = ⊥
 RefusesDrop b k to BadPromotion = ⊥
 RefusesDrop b k to Occupied = IsSome (piece_at b.cells to)
-RefusesDrop b k to NotInHand = held (hand_of b b.side) k ≡ 0
-RefusesDrop b k to DeadDrop = is_dead to (Some (dropped k b.side)) ≡ true
+RefusesDrop b k to NotInHand = hand_count (hand_of b b.side) k ≡ 0
+RefusesDrop b k to DeadDrop = is_dead to (Some (plain_piece k b.side)) ≡ true
 RefusesDrop b k to TwoPawns = (k ≡ Pawn) × HasPawnOnFile b.cells b.side to
 RefusesDrop b k to KingLeft = IsInCheck (after_drop b k to).cells b.side
 RefusesDrop b k to PawnMate = IsPawnMate b k to
@@ -291,7 +277,7 @@ refusal_order TwoPawns = 8
 refusal_order KingLeft = 9
 refusal_order PawnMate = 10
 
--- Of reasons that hold or don't: the answer is that none holds, or the first that does.
+-- Of reasons that hold or don't: the outcome is that none holds, or the first that does.
 abbrev pub IsFirst : (Illegal → Type 0) → Result (Unit {0}) Illegal → Type 0
 IsFirst Holds (Ok done) = (why : Illegal) → ¬ Holds why
 IsFirst Holds (Err why) = Holds why × ((sooner : Illegal) → refusal_order sooner < refusal_order why → ¬ Holds sooner)
@@ -300,6 +286,6 @@ IsFirst Holds (Err why) = Holds why × ((sooner : Illegal) → refusal_order soo
 abbrev pub IsLegal : Board → Move → Type 0
 IsLegal b move = (why : Illegal) → ¬ Refuses b move why
 
--- The answer to a move: that it is legal, or the first reason that speaks against it.
-abbrev pub IsAnswered : Board → Move → Result (Unit {0}) Illegal → Type 0
-IsAnswered b move answer = IsFirst (Refuses b move) answer
+-- The outcome for a move: that it is legal, or the first reason that speaks against it.
+abbrev pub IsLegalOutcome : Board → Move → Result (Unit {0}) Illegal → Type 0
+IsLegalOutcome b move outcome = IsFirst (Refuses b move) outcome

@@ -1,4 +1,4 @@
--- What the loops look for, a square at a time.
+-- What the loops look for, a square at a time: it serves private functions alone.
 use Rattle.std.specs.Prelude.{◌≡◌, ◌<◌, ◌+◌, ◌*◌, ◌⊎◌, ℕ, List, Option, None, true, false}
 use Rattle.board_core.specs.declared.piece.Piece.{Piece}
 use Rattle.board_core.specs.Board.{Board, piece_at}

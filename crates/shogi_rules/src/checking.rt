@@ -6,10 +6,8 @@ ghost use Rattle.shogi_rules.specs.Rules.{AttacksFrom, Attacks, IsInCheck};
 use crate::movement::{Cells, at, reaches};
 use board_core::{Position, Side, Square};
 
-fn attacks_from(cells: &Cells, side: Side, from: u8, to: u8) -> bool
-    requires from { from < 81 }
-    requires to { to < 81 }
-    ensures { IsTrue result ↔ AttacksFrom cells.now side from to }
+fn attacks_from(cells: &Cells, side: Side, from: Square, to: Square) -> bool
+    ensures { IsTrue result ↔ AttacksFrom cells.now side from.number to.number }
 {
     match at(cells, from) {
         Some(piece) => piece.side == side && reaches(cells, piece, from, to),
@@ -17,12 +15,11 @@ fn attacks_from(cells: &Cells, side: Side, from: u8, to: u8) -> bool
     }
 }
 
-fn attacks(cells: &Cells, side: Side, to: u8) -> bool
-    requires { to < 81 }
-    ensures { IsTrue result ↔ Attacks cells.now side to }
+fn attacks(cells: &Cells, side: Side, to: Square) -> bool
+    ensures { IsTrue result ↔ Attacks cells.now side to.number }
 {
     for from in 0..81 {
-        if attacks_from(cells, side, from, to) {
+        if attacks_from(cells, side, Square { number: from }, to) {
             return true;
         }
     }
@@ -34,7 +31,7 @@ fn attacks(cells: &Cells, side: Side, to: u8) -> bool
 pub fn attacked(position: &Position, square: Square, by: Side) -> bool
     ensures { IsTrue result ↔ Attacks position.now.cells by square.number }
 {
-    attacks(position.cells(), by, square.number)
+    attacks(position.cells(), by, square)
 }
 
 /// Whether the side is in check: its king is attacked by the other side. A side without a king never is. Takes no memory.
@@ -47,7 +44,7 @@ pub fn in_check(position: &Position, side: Side) -> bool
 {
     let cells = position.cells();
     match position.king_square(side) {
-        Some(square) => attacks(cells, side.other(), square.number),
+        Some(square) => attacks(cells, side.other(), square),
         None => false,
     }
 }

@@ -1,16 +1,16 @@
 // Which moves are legal, and why the others aren't.
 ghost use Rattle.std.specs.Prelude.{◌≡◌, ◌≢◌, ◌<◌, ◌↔◌, IsTrue, OnOk};
 ghost use Rattle.board_core.specs.declared.piece.Kind.TheVariants.{King};
-ghost use Rattle.board_core.specs.Board.{piece_at, held, hand_of, is_pawn_of};
+ghost use Rattle.board_core.specs.Board.{piece_at, hand_count, hand_of, is_pawn_of};
 ghost use Rattle.board_core.specs.Text.{HasText};
-ghost use Rattle.shogi_rules.specs.Rules.{is_in_zone, promotion_fits, IsOwn, Fits, PromotionFits, HasPawnOnFile, BoardMove, IsFirst, RefusesBoard, RefusesDrop, IsAnswered, IsQuiet};
+ghost use Rattle.shogi_rules.specs.Rules.{is_in_zone, promotion_fits, IsOwn, Fits, PromotionFits, HasPawnOnFile, BoardMove, IsFirst, RefusesBoard, RefusesDrop, IsLegalOutcome, IsQuiet};
 ghost use Rattle.shogi_rules.specs.declared.illegal.Illegal.TheVariants.{TwoPawns};
 ghost use Rattle.shogi_rules.specs.Scan.{GoesTo, GoesFrom, IsStuck};
 
 use crate::checking::in_check;
 use crate::illegal::Illegal;
 use crate::movement::{Cells, at, fits, is_clear};
-use crate::moving::{drop_piece, dropped, move_piece};
+use crate::moving::{drop_piece, move_piece};
 use board_core::{Kind, Move, Piece, Position, Side, Square};
 
 pub(crate) fn owns(position: &Position, square: Square) -> bool
@@ -26,7 +26,7 @@ fn fits_there(position: &Position, from: Square, to: Square) -> bool
     ensures { IsTrue result ↔ Fits position.now from.number to.number }
 {
     match position.piece_at(from) {
-        Some(piece) => fits(piece, from.number, to.number),
+        Some(piece) => fits(piece, from, to),
         None => false,
     }
 }
@@ -34,7 +34,7 @@ fn fits_there(position: &Position, from: Square, to: Square) -> bool
 fn is_in_zone(side: Side, square: Square) -> bool
     ensures { result ≡ is_in_zone side square.number }
 {
-    square.ranks_ahead(side) < 3
+    square.height(side) >= 6
 }
 
 fn promotion_fits(piece: Piece, from: Square, to: Square, promote: bool) -> bool
@@ -72,7 +72,7 @@ fn legal_board(position: &Position, from: Square, to: Square, promote: bool) -> 
     if !fits_there(position, from, to) {
         return Err(Illegal::NoStep);
     }
-    if !is_clear(position.cells(), from.number, to.number) {
+    if !is_clear(position.cells(), from, to) {
         return Err(Illegal::Blocked);
     }
     if !may_promote(position, from, to, promote) {
@@ -121,9 +121,8 @@ fn has_board_move(position: &Position) -> bool
     false
 }
 
-fn is_pawn_of(cells: &Cells, side: Side, square: u8) -> bool
-    requires { square < 81 }
-    ensures { result ≡ is_pawn_of side (piece_at cells.now square) }
+fn is_pawn_of(cells: &Cells, side: Side, square: Square) -> bool
+    ensures { result ≡ is_pawn_of side (piece_at cells.now square.number) }
 {
     match at(cells, square) {
         Some(piece) => piece.kind == Kind::Pawn && !piece.promoted && piece.side == side,
@@ -131,13 +130,15 @@ fn is_pawn_of(cells: &Cells, side: Side, square: u8) -> bool
     }
 }
 
-fn has_pawn_on_file(cells: &Cells, side: Side, to: u8) -> bool
-    requires { to < 81 }
-    ensures { IsTrue result ↔ HasPawnOnFile cells.now side to }
+fn has_pawn_on_file(cells: &Cells, side: Side, to: Square) -> bool
+    ensures { IsTrue result ↔ HasPawnOnFile cells.now side to.number }
 {
-    let first = to / 9 * 9;
-    for rank in 0..9 {
-        if is_pawn_of(cells, side, first + rank) {
+    let first = to.number / 9 * 9;
+    for row in 0..9 {
+        let square = Square {
+            number: first + row,
+        };
+        if is_pawn_of(cells, side, square) {
             return true;
         }
     }
@@ -150,15 +151,16 @@ fn is_second_pawn(position: &Position, kind: Kind, to: Square) -> bool
     if kind != Kind::Pawn {
         return false;
     }
-    has_pawn_on_file(position.cells(), position.side(), to.number)
+    has_pawn_on_file(position.cells(), position.side(), to)
 }
 
 pub(crate) fn has_in_hand(position: &Position, kind: Kind) -> bool
-    ensures some { IsTrue result ↔ (0 < held (hand_of position.now position.now.side) kind) }
+    ensures some { IsTrue result ↔ (0 < hand_count (hand_of position.now position.now.side) kind) }
     ensures king { IsTrue result → kind ≢ King }
 {
     if kind == Kind::King {
-        let _counts = position.hand(position.side()).counts();
+        // A hand has seven counts, and none of a king.
+        position.hand(position.side()).laws();
         return false;
     }
     position.hand(position.side()).count(kind) > 0
@@ -188,7 +190,7 @@ fn legal_drop(position: &Position, kind: Kind, to: Square) -> Result<(), Illegal
     if !has_in_hand(position, kind) {
         return Err(Illegal::NotInHand);
     }
-    if dropped(kind, position.side()).is_dead_on(to) {
+    if Piece::plain(kind, position.side()).is_dead_on(to) {
         return Err(Illegal::DeadDrop);
     }
     if is_second_pawn(position, kind, to) {
@@ -210,7 +212,7 @@ fn legal_drop(position: &Position, kind: Kind, to: Square) -> Result<(), Illegal
 /// (Rules of shogi: movement, promotion, drops, two pawns, mate by a dropped pawn.)
 pub fn legal(position: &Position, by: Move) -> Result<(), Illegal>
     requires { IsQuiet position.now }
-    ensures answer { IsAnswered position.now by result }
+    ensures outcome { IsLegalOutcome position.now by result }
 
     // A legal move goes to another square, and drops no king.
     ensures has_text { OnOk result (HasText by) }

@@ -7,7 +7,7 @@ ghost use Rattle.board_core.specs.declared.piece.Kind.TheVariants.{King};
 ghost use Rattle.board_core.specs.Kind.{total_of, other};
 ghost use Rattle.board_core.specs.Text.{HasText};
 ghost use Rattle.board_core.specs.Board.{hand_of, with_hand, is_of_kind, count_of, kings_of, one_if};
-ghost use Rattle.shogi_rules.specs.Rules.{landed, dropped, gained, after_board, after_drop, IsQuiet, IsOwn, Fits, IsClear, PromotionFits, RefusesDrop, IsLegal, IsDropped, after};
+ghost use Rattle.shogi_rules.specs.Rules.{landed_piece, hand_with_capture, after_board, after_drop, IsQuiet, IsOwn, Fits, IsClear, PromotionFits, RefusesDrop, IsLegal, IsDropped, after};
 ghost use Rattle.board_core.specs.declared.square.Square.{Square};
 ghost use Rattle.board_core.specs.declared.moves.Move.TheVariants.{Drop};
 ghost use Rattle.shogi_rules.specs.declared.illegal.Illegal.TheVariants.{Occupied, NotInHand, DeadDrop, TwoPawns};
@@ -15,8 +15,8 @@ ghost use Rattle.shogi_rules.specs.declared.illegal.Illegal.TheVariants.{Occupie
 use crate::movement::at;
 use board_core::{Kind, Move, Piece, Position, Side, Square};
 
-fn landed(piece: Piece, promote: bool) -> Piece
-    ensures { result ≡ landed promote piece }
+fn landed_piece(piece: Piece, promote: bool) -> Piece
+    ensures { result ≡ landed_piece promote piece }
 {
     Piece {
         kind: piece.kind,
@@ -25,20 +25,10 @@ fn landed(piece: Piece, promote: bool) -> Piece
     }
 }
 
-pub(crate) fn dropped(kind: Kind, side: Side) -> Piece
-    ensures { result ≡ dropped kind side }
-{
-    Piece {
-        kind,
-        promoted: false,
-        side,
-    }
-}
-
 // A captured piece, where there is one, goes into the side's hand.
 fn capture(position: &mut Position, side: Side, captured: Option<Piece>)
     requires { (piece : Piece) → captured ≡ Some piece → (piece.kind ≢ King) × (count_of position.old piece.kind < total_of piece.kind) }
-    ensures position { position.new ≡ with_hand position.old side (gained captured (hand_of position.old side)) }
+    ensures position { position.new ≡ with_hand position.old side (hand_with_capture captured (hand_of position.old side)) }
     ensures counts { (kind : Kind) → count_of position.new kind ≡ count_of position.old kind + one_if (is_of_kind kind captured) }
 {
     if let Some(piece) = captured {
@@ -59,13 +49,13 @@ pub(crate) fn move_piece(position: &Position, from: Square, to: Square, promote:
     ensures kings { (side : Side) → kings_of result side ≡ kings_of position.now side }
     ensures moves { from.number ≢ to.number }
 {
-    match at(position.cells(), from.number) {
+    match at(position.cells(), from) {
         Some(piece) => {
             let side = position.side();
             let mut next = *position;
             next.take(from);
             next.take(to);
-            next.put(to, landed(piece, promote));
+            next.put(to, landed_piece(piece, promote));
             capture(&mut next, side, position.piece_at(to));
             next.pass();
             next
@@ -77,7 +67,7 @@ pub(crate) fn move_piece(position: &Position, from: Square, to: Square, promote:
 /// The position after a drop against which nothing speaks but perhaps the kings.
 pub(crate) fn drop_piece(position: &Position, kind: Kind, to: Square) -> Position
     requires empty { ¬ RefusesDrop position.now kind to.number Occupied }
-    requires held { ¬ RefusesDrop position.now kind to.number NotInHand }
+    requires in_hand { ¬ RefusesDrop position.now kind to.number NotInHand }
     requires alive { ¬ RefusesDrop position.now kind to.number DeadDrop }
     requires pawn { ¬ RefusesDrop position.now kind to.number TwoPawns }
     ensures position { result ≡ after_drop position.now kind to.number }
@@ -89,7 +79,7 @@ pub(crate) fn drop_piece(position: &Position, kind: Kind, to: Square) -> Positio
     let side = position.side();
     let mut next = *position;
     next.spend(side, kind);
-    next.put(to, dropped(kind, side));
+    next.put(to, Piece::plain(kind, side));
     next.pass();
     next
 }

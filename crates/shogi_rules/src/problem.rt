@@ -1,7 +1,7 @@
 // Problems of tsume-shogi.
-ghost use Rattle.std.specs.Prelude.{◌≡◌, ◌<◌, ◌↔◌, IfOk, IsErr};
+ghost use Rattle.std.specs.Prelude.{◌≡◌, ◌↔◌, IfOk, IsErr};
 ghost use Rattle.board_core.specs.Kind.{other};
-ghost use Rattle.board_core.specs.Board.{kings_of};
+ghost use Rattle.board_core.specs.Board.{HasDefender};
 ghost use Rattle.shogi_rules.specs.Rules.{IsInCheck};
 ghost use Rattle.shogi_rules.specs.Tsume.{IsProblem};
 
@@ -33,7 +33,7 @@ impl Problem {
 /// Takes a position whose side not to move has a king, as it has after [`Position::build`], for a problem; refuses it
 /// exactly where that side is in check. Takes no memory.
 pub fn accept_problem(position: Position) -> Result<Problem, DefenderInCheck>
-    requires { 0 < kings_of position (other position.side) }
+    requires { HasDefender position }
     ensures ok { IfOk result (λ problem. problem.position ≡ position) }
     ensures err { IsErr result ↔ IsInCheck position.cells (other position.side) }
 {

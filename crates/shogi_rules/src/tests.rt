@@ -3,7 +3,7 @@
 mod letters;
 
 use super::*;
-use crate::trial::{trial_answers, trial_checks};
+use crate::trial::{trial_checks, trial_evasions};
 use Illegal::{
     BadPromotion, Blocked, DeadDrop, KingLeft, NoStep, NotInHand, NotThere, Occupied, OwnPiece,
     PawnMate, TwoPawns,
@@ -103,7 +103,7 @@ fn promotion_is_by_the_zone_and_forced_at_the_end(rt: HostRuntime) {
     judge(
         &rt,
         &[
-            // A knight on the last two ranks, a lance and a pawn on the last: of either side.
+            // A knight on the last two rows, a lance and a pawn on the last: of either side.
             ("8k/9/6NG1/9/9/9/9/9/9 b P", "3c2a", Err(BadPromotion)),
             ("8k/9/9/6N2/9/9/9/9/9 b -", "3d2b", Err(BadPromotion)),
             (
@@ -263,11 +263,11 @@ fn a_dropped_pawn_may_check_and_not_mate(rt: HostRuntime) {
     );
 }
 
-// A problem; its checks if no move is given, else the answers to that move; in order.
+// A problem; its checks if no move is given, else the evasions to that move; in order.
 type Listed<'a> = (&'a str, &'a str, &'a str);
 
 #[test]
-fn checks_and_answers_are_listed_whole_and_in_order(rt: HostRuntime) -> Result<(), Fail> {
+fn checks_and_evasions_are_listed_whole_and_in_order(rt: HostRuntime) -> Result<(), Fail> {
     let rows: &[Listed] = &[
         ("8k/9/6NG1/9/9/9/9/9/9 b P", "", "2c1b 2c2b 3c2a+"),
         ("4k4/9/4P4/9/9/9/9/9/9 b P", "", "5c5b 5c5b+"),
@@ -327,7 +327,7 @@ fn checks_and_answers_are_listed_whole_and_in_order(rt: HostRuntime) -> Result<(
         } else {
             let check = by(&rt, word);
             assert!(rt; legal(&problem.position, check).is_ok(), "{word} of {text}");
-            trial_answers(rt.alloc(), &problem, &apply(&problem.position, check))?
+            trial_evasions(rt.alloc(), &problem, &apply(&problem.position, check))?
         };
         for (place, word) in want.split_whitespace().enumerate() {
             assert_eq!(rt; moves.get(place), Some(&by(&rt, word)), "{word} of {text}");

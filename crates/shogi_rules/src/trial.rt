@@ -4,53 +4,29 @@ ghost use Rattle.std.specs.Prelude.{◌≡◌, ◌<◌, ◌+◌, ◌*◌, ◌↔
 ghost use Rattle.board_core.specs.Kind.{place_of};
 ghost use Rattle.board_core.specs.Order.{order_of, Lists};
 ghost use Rattle.shogi_rules.specs.Rules.{IsQuiet};
-ghost use Rattle.shogi_rules.specs.Tsume.{IsCheck, IsAnswer};
-ghost use Rattle.shogi_rules.specs.Trial.{IsWanted, ListsBelow};
+ghost use Rattle.shogi_rules.specs.Tsume.{IsCheck, IsEvasion};
+ghost use Rattle.shogi_rules.specs.Trial.{IsWanted, IsWantedBefore};
 
-use crate::checking::in_check;
-use crate::legality::{has_in_hand, legal, owns};
-use crate::moving::apply;
+use crate::legality::{has_in_hand, owns};
 use crate::problem::Problem;
-use board_core::{Kind, Move, NoMemory, Position, Side, Square, order_laws};
-use std::alloc::Global;
+use crate::tsume::{is_check, is_evasion};
+use board_core::{Kind, Move, Position, Square, order_laws, value_laws};
+use std::alloc::{AllocError, Global};
 
 /// What a list is to hold.
 #[derive(Clone, Copy)]
 enum Wanted {
     Checks,
-    Answers,
+    Evasions,
 }
 
-fn is_check(position: &Position, attacker: Side, by: Move) -> bool
+fn is_wanted(wanted: Wanted, problem: &Problem, position: &Position, by: Move) -> bool
     requires { IsQuiet position.now }
-    ensures { IsTrue result ↔ IsCheck attacker position.now by }
-{
-    if position.side() != attacker {
-        return false;
-    }
-    if legal(position, by).is_err() {
-        return false;
-    }
-    in_check(&apply(position, by), attacker.other())
-}
-
-fn is_answer(position: &Position, attacker: Side, by: Move) -> bool
-    requires { IsQuiet position.now }
-    ensures { IsTrue result ↔ IsAnswer attacker position.now by }
-{
-    if position.side() != attacker.other() {
-        return false;
-    }
-    legal(position, by).is_ok()
-}
-
-fn is_wanted(wanted: Wanted, position: &Position, attacker: Side, by: Move) -> bool
-    requires { IsQuiet position.now }
-    ensures { IsTrue result ↔ IsWanted wanted attacker position.now by }
+    ensures { IsTrue result ↔ IsWanted wanted problem.now.position.side position.now by }
 {
     match wanted {
-        Wanted::Checks => is_check(position, attacker, by),
-        Wanted::Answers => is_answer(position, attacker, by),
+        Wanted::Checks => is_check(problem, position, by),
+        Wanted::Evasions => is_evasion(problem, position, by),
     }
 }
 
@@ -65,33 +41,17 @@ fn board_move(from: Square, code: u8) -> Move
     }
 }
 
-fn kind_numbered(place: u8) -> Kind
-    requires { place < 8 }
-    ensures { place_of result ≡ place }
-{
-    match place {
-        0 => Kind::Pawn,
-        1 => Kind::Lance,
-        2 => Kind::Knight,
-        3 => Kind::Silver,
-        4 => Kind::Gold,
-        5 => Kind::Bishop,
-        6 => Kind::Rook,
-        _ => Kind::King,
-    }
-}
-
 // Adds the wanted moves from a square.
 fn add_from(
     moves: &mut Vec<Move>,
     wanted: Wanted,
+    problem: &Problem,
     position: &Position,
-    attacker: Side,
     from: Square,
-) -> Result<(), NoMemory>
+) -> Result<(), AllocError>
     requires quiet { IsQuiet position.now }
-    requires before { ListsBelow (IsWanted wanted attacker position.now) (162 * from.number) moves.old.items }
-    ensures { OnOk result (ListsBelow (IsWanted wanted attacker position.now) (162 * from.number + 162) moves.new.items) }
+    requires before { Lists (IsWantedBefore wanted problem.now.position.side position.now (162 * from.number)) moves.old.items }
+    ensures { OnOk result (Lists (IsWantedBefore wanted problem.now.position.side position.now (162 * from.number + 162)) moves.new.items) }
 {
     // No two moves have one place in the order.
     order_laws();
@@ -100,7 +60,7 @@ fn add_from(
     }
     for code in 0..162u8 {
         let by = board_move(from, code);
-        if is_wanted(wanted, position, attacker, by) {
+        if is_wanted(wanted, problem, position, by) {
             moves.push(by)?;
         }
     }
@@ -111,16 +71,17 @@ fn add_from(
 fn add_drops(
     moves: &mut Vec<Move>,
     wanted: Wanted,
+    problem: &Problem,
     position: &Position,
-    attacker: Side,
     kind: Kind,
-) -> Result<(), NoMemory>
+) -> Result<(), AllocError>
     requires quiet { IsQuiet position.now }
-    requires before { ListsBelow (IsWanted wanted attacker position.now) (13122 + 81 * place_of kind) moves.old.items }
-    ensures { OnOk result (ListsBelow (IsWanted wanted attacker position.now) (13122 + 81 * place_of kind + 81) moves.new.items) }
+    requires before { Lists (IsWantedBefore wanted problem.now.position.side position.now (13122 + 81 * place_of kind)) moves.old.items }
+    ensures { OnOk result (Lists (IsWantedBefore wanted problem.now.position.side position.now (13122 + 81 * place_of kind + 81)) moves.new.items) }
 {
-    // No two moves have one place in the order.
+    // No two moves have one place in the order, and no two kinds one place in theirs.
     order_laws();
+    value_laws();
     if !has_in_hand(position, kind) {
         return Ok(());
     }
@@ -129,7 +90,7 @@ fn add_drops(
             kind,
             to: Square { number },
         };
-        if is_wanted(wanted, position, attacker, by) {
+        if is_wanted(wanted, problem, position, by) {
             moves.push(by)?;
         }
     }
@@ -140,18 +101,20 @@ fn add_drops(
 fn wanted_moves(
     alloc: Global,
     wanted: Wanted,
+    problem: &Problem,
     position: &Position,
-    attacker: Side,
-) -> Result<Vec<Move>, NoMemory>
+) -> Result<Vec<Move>, AllocError>
     requires { IsQuiet position.now }
-    ensures { IfOk result (λ moves. Lists (IsWanted wanted attacker position.now) moves.items) }
+    ensures { IfOk result (λ moves. Lists (IsWanted wanted problem.now.position.side position.now) moves.items) }
 {
+    // There are 13,770 places in the order.
+    order_laws();
     let mut moves = Vec::new(alloc);
     for number in 0..81u8 {
-        add_from(&mut moves, wanted, position, attacker, Square { number })?;
+        add_from(&mut moves, wanted, problem, position, Square { number })?;
     }
-    for place in 0..8u8 {
-        add_drops(&mut moves, wanted, position, attacker, kind_numbered(place))?;
+    for kind in Kind::ALL {
+        add_drops(&mut moves, wanted, problem, position, kind)?;
     }
     Ok(moves)
 }
@@ -164,24 +127,24 @@ pub fn trial_checks(
     alloc: Global,
     problem: &Problem,
     position: &Position,
-) -> Result<Vec<Move>, NoMemory>
+) -> Result<Vec<Move>, AllocError>
     requires { IsQuiet position.now }
     ensures { IfOk result (λ moves. Lists (IsCheck problem.now.position.side position.now) moves.items) }
 {
-    wanted_moves(alloc, Wanted::Checks, position, problem.attacker())
+    wanted_moves(alloc, Wanted::Checks, problem, position)
 }
 
-/// The answers at a position: exactly the legal moves of the problem's defender, each once, in the order of moves; none
+/// The evasions at a position: exactly the legal moves of the problem's defender, each once, in the order of moves; none
 /// where the defender isn't to move. Errors: want of memory alone.
 ///
 /// The side not to move must not be in check. (The tsume rule: the defender may make any legal move.)
-pub fn trial_answers(
+pub fn trial_evasions(
     alloc: Global,
     problem: &Problem,
     position: &Position,
-) -> Result<Vec<Move>, NoMemory>
+) -> Result<Vec<Move>, AllocError>
     requires { IsQuiet position.now }
-    ensures { IfOk result (λ moves. Lists (IsAnswer problem.now.position.side position.now) moves.items) }
+    ensures { IfOk result (λ moves. Lists (IsEvasion problem.now.position.side position.now) moves.items) }
 {
-    wanted_moves(alloc, Wanted::Answers, position, problem.attacker())
+    wanted_moves(alloc, Wanted::Evasions, problem, position)
 }

@@ -1,3 +1,3 @@
 pub mod Running
 pub mod Complete
-pub mod Counted
+pub mod Promises

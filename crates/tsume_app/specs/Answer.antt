@@ -1,18 +1,21 @@
 -- What an answer prints, and what it means.
-use Rattle.std.specs.Prelude.{◌≡◌, ℕ, List, ◌∷◌, ◌++◌, Bool, true, false, codes, length}
+use Rattle.std.specs.Prelude.{◌≡◌, ℕ, List, ◌∷◌, ◌++◌, codes, length}
 use Rattle.std.specs.Fmt.{decimal}
 use Rattle.board_core.specs.declared.moves.Move.{Move}
 use Rattle.board_core.specs.Board.{Board}
 use Rattle.usi_text.specs.MoveText.{move_text}
-use Rattle.usi_text.specs.Lines.{mate_text, nomate_text, timeout_text, AllHaveText}
+use Rattle.usi_text.specs.Lines.{mate_text, nomate_text, timeout_text}
 use Rattle.mate_def.specs.Mate.{IsMate}
 use Rattle.cert_text.specs.declared.certificate.Certificate.{Certificate}
 use Rattle.cert_text.specs.declared.certificate.Certificate.TheVariants as certificates
 use Rattle.cert_text.specs.Certificate.{Mating, Escaping}
-use Rattle.cert_text.specs.Text.{line, certificate_text}
+use Rattle.cert_text.specs.declared.head.Claim.{Claim}
+use Rattle.cert_text.specs.Entries.{line}
+use Rattle.cert_text.specs.Kinds.{claim_of, problem_of, positions_in}
+use Rattle.cert_text.specs.Text.{claim_word, certificate_text}
 use Rattle.cert_check.specs.declared.verdict.Why.{Why}
-use Rattle.cert_check.specs.declared.verdict.Why.TheVariants.{RootMissing, NotACheck, AnswerOutside, RankNotLower, CheckUnanswered}
-use Rattle.cert_check.specs.Valid.{IsValid, Shows, problem_of, positions_in}
+use Rattle.cert_check.specs.declared.verdict.Why.TheVariants.{RootMissing, NotACheck, EvasionOutside, RankNotLower, CheckUnanswered}
+use Rattle.cert_check.specs.Valid.{IsValid, Shows}
 use Rattle.cert_check.specs.declared.verdict.Verdict.{Verdict}
 use Rattle.cert_check.specs.declared.verdict.Verdict.TheVariants.{Accepted as CheckAccepted}
 use Rattle.cert_check.specs.Reasons.{IsFirstAgainst, IsVerdict}
@@ -20,98 +23,86 @@ use Rattle.plain_search.specs.Within.{IsUndecided}
 use Rattle.plain_search.specs.Outcome.{IsMateFound, IsEscapeFound}
 use Rattle.play_line.specs.Line.{IsMainLine}
 use Rattle.tsume_app.specs.declared.answer.Cause.{Cause}
-use Rattle.tsume_app.specs.declared.answer.Cause.TheVariants.{Expansions, Room, Height}
+use Rattle.tsume_app.specs.declared.answer.Cause.TheVariants.{Expansions}
+use Rattle.tsume_app.specs.declared.answer.Solution.{Solution}
+use Rattle.tsume_app.specs.declared.answer.Solution.TheVariants.{Mate, NoMate, Unknown}
+use Rattle.tsume_app.specs.declared.answer.Judgement.{Judgement}
+use Rattle.tsume_app.specs.declared.answer.Judgement.TheVariants.{Accepted, Refused}
 use Rattle.tsume_app.specs.declared.answer.Answer.{Answer}
-use Rattle.tsume_app.specs.declared.answer.Answer.TheVariants.{Mate, NoMate, Unknown, Accepted, Refused}
+use Rattle.tsume_app.specs.declared.answer.Answer.TheVariants.{Solved, Judged}
 
 -- A reason against a certificate: a word, and the move that it names.
 abbrev pub why_text : Why → List ℕ
 why_text RootMissing = codes "root"
 why_text (NotACheck move) = codes "move " ++ move_text move
-why_text (AnswerOutside answer) = codes "outside " ++ move_text answer
-why_text (RankNotLower answer) = codes "rank " ++ move_text answer
+why_text (EvasionOutside evasion) = codes "outside " ++ move_text evasion
+why_text (RankNotLower evasion) = codes "rank " ++ move_text evasion
 why_text (CheckUnanswered check) = codes "unanswered " ++ move_text check
-
--- The kind of an accepted certificate.
-abbrev pub kind_text : Bool → List ℕ
-kind_text true = codes "mate"
-kind_text false = codes "escape"
 
 -- What was used up.
 abbrev pub cause_text : Cause → List ℕ
-cause_text (Expansions units) = codes "expansions " ++ decimal units
-cause_text (Room facts) = codes "room " ++ decimal facts
-cause_text (Height height) = codes "height " ++ decimal height
+cause_text (Expansions expansions) = codes "expansions " ++ decimal expansions
 
--- The text of an answer. For a mate and for none the line of the USI protocol, for a mate with its moves, and the certificate;
--- for neither the line of the USI protocol, and what was used up; for an accepted certificate its kind and the number of its
--- entries; for a refused one the entry and the reason.
+-- The text of an answer to `solve`. For a mate and for none the line of the USI protocol, for a mate with its moves, and the
+-- certificate; for neither the line of the USI protocol, and what was used up.
+abbrev pub solution_text : Solution → List ℕ
+solution_text (Mate c moves) = line (mate_text moves) ++ certificate_text (certificates.Mate c)
+solution_text (NoMate c) = line nomate_text ++ certificate_text (certificates.Escape c)
+solution_text (Unknown cause) = line timeout_text ++ line (codes "unknown " ++ cause_text cause)
+
+-- The text of an answer to `check`. For an accepted certificate what it claims and the number of its entries, for a refused one the
+-- entry and the reason.
+abbrev pub judgement_text : Judgement → List ℕ
+judgement_text (Accepted claim entries) = line (codes "accepted " ++ claim_word claim ++ 32 ∷ decimal entries)
+judgement_text (Refused entry why) = line (codes "refused " ++ decimal entry ++ 32 ∷ why_text why)
+
+-- The text of an answer.
 abbrev pub answer_text : Answer → List ℕ
-answer_text (Mate certificate moves) = line (mate_text moves) ++ certificate_text certificate
-answer_text (NoMate certificate) = line nomate_text ++ certificate_text certificate
-answer_text (Unknown cause) = line timeout_text ++ line (codes "unknown " ++ cause_text cause)
-answer_text (Accepted mate entries) = line (codes "accepted " ++ kind_text mate ++ 32 ∷ decimal entries)
-answer_text (Refused entry why) = line (codes "refused " ++ decimal entry ++ 32 ∷ why_text why)
+answer_text (Solved solution) = solution_text solution
+answer_text (Judged judgement) = judgement_text judgement
 
 -- The checker accepts the certificate for the position: every verdict that it may come to is that one.
 abbrev pub IsAcceptedFor : Board → Certificate → Type 0
 IsAcceptedFor p certificate = (verdict : Verdict) → IsVerdict certificate p verdict → verdict ≡ CheckAccepted
 
--- A mate is shown: the position is one, a search with so many units at most found the certificate, which is valid for it and
+-- A mate is shown: the position is one, a search with so many expansions at most found the certificate, which is valid for it and
 -- accepted, and the moves are its main line.
-pub record IsMateShown (p : Board) (units : ℕ) (c : Mating) (moves : List Move) : Type 0 where
+pub record IsMateShown (p : Board) (expansions : ℕ) (c : Mating) (moves : List Move) : Type 0 where
   pub mate : IsMate p.side p
-  pub found : IsMateFound p units c
+  pub found : IsMateFound p expansions c
   pub accepted : IsAcceptedFor p (certificates.Mate c)
   pub line : IsMainLine c p.side p moves
 
--- That there is no mate is shown: the position is none, and a search with so many units at most found the certificate, which is
+-- That there is no mate is shown: the position is none, and a search with so many expansions at most found the certificate, which is
 -- valid for it and accepted.
-pub record IsNoMateShown (p : Board) (units : ℕ) (c : Escaping) : Type 0 where
+pub record IsNoMateShown (p : Board) (expansions : ℕ) (c : Escaping) : Type 0 where
   pub no_mate : ¬ IsMate p.side p
-  pub found : IsEscapeFound p units c
+  pub found : IsEscapeFound p expansions c
   pub accepted : IsAcceptedFor p (certificates.Escape c)
 
--- A search gave up for its cause: all its units were used up, and what they list tells neither a mate nor that there is none.
+-- A search gave up for its cause: all its expansions were used up, and what they list tells neither a mate nor that there is none.
 abbrev pub IsGivenUp : Board → ℕ → Cause → Type 0
-IsGivenUp p units (Expansions used) = (used ≡ units) × IsUndecided p units
-IsGivenUp p units (Room facts) = ⊥
-IsGivenUp p units (Height height) = ⊥
+IsGivenUp p expansions (Expansions used) = (used ≡ expansions) × IsUndecided p expansions
 
--- An answer is true of a problem that was searched with at most this many units.
-abbrev pub IsTrueOf : Board → ℕ → Answer → Type 0
-IsTrueOf p units (Mate (certificates.Mate c) moves) = IsMateShown p units c moves
-IsTrueOf p units (Mate (certificates.Escape c) moves) = ⊥
-IsTrueOf p units (NoMate (certificates.Escape c)) = IsNoMateShown p units c
-IsTrueOf p units (NoMate (certificates.Mate c)) = ⊥
-IsTrueOf p units (Unknown cause) = IsGivenUp p units cause
-IsTrueOf p units (Accepted mate entries) = ⊥
-IsTrueOf p units (Refused entry why) = ⊥
+-- A solution is true of a problem that was searched with at most this many expansions.
+abbrev pub IsTrueOf : Board → ℕ → Solution → Type 0
+IsTrueOf p expansions (Mate c moves) = IsMateShown p expansions c moves
+IsTrueOf p expansions (NoMate c) = IsNoMateShown p expansions c
+IsTrueOf p expansions (Unknown cause) = IsGivenUp p expansions cause
 
--- Whether a certificate is a mate's.
-abbrev pub is_mate : Certificate → Bool
-is_mate (certificates.Mate c) = true
-is_mate (certificates.Escape c) = false
-
--- A certificate was accepted: it is valid for its own problem, and shows what it says.
-pub record IsAcceptance (c : Certificate) (mate : Bool) (entries : ℕ) : Type 0 where
+-- A certificate was accepted: it is valid for its own problem, and shows what it claims.
+pub record IsAcceptance (c : Certificate) (claim : Claim) (entries : ℕ) : Type 0 where
   pub valid : IsValid c (problem_of c)
   pub shows : Shows c (problem_of c)
-  pub kind : mate ≡ is_mate c
+  pub is_claim : claim ≡ claim_of c
   pub count : entries ≡ length (positions_in c)
 
--- An answer is true of a certificate: it was accepted so, or this is the first reason against it for its own problem.
-abbrev pub IsTrueOfCertificate : Certificate → Answer → Type 0
-IsTrueOfCertificate c (Mate certificate moves) = ⊥
-IsTrueOfCertificate c (NoMate certificate) = ⊥
-IsTrueOfCertificate c (Unknown cause) = ⊥
-IsTrueOfCertificate c (Accepted mate entries) = IsAcceptance c mate entries
-IsTrueOfCertificate c (Refused entry why) = IsFirstAgainst c (problem_of c) entry why
+-- A certificate was refused: it isn't valid for its own problem, and this is the first reason.
+pub record IsRefusal (c : Certificate) (entry : ℕ) (why : Why) : Type 0 where
+  pub invalid : ¬ IsValid c (problem_of c)
+  pub first : IsFirstAgainst c (problem_of c) entry why
 
--- Every move of an answer's line has a text.
-abbrev pub HasLine : Answer → Type 0
-HasLine (Mate certificate moves) = AllHaveText moves
-HasLine (NoMate certificate) = Unit {0}
-HasLine (Unknown cause) = Unit {0}
-HasLine (Accepted mate entries) = Unit {0}
-HasLine (Refused entry why) = Unit {0}
+-- A judgement is true of a certificate: it was accepted so, or refused so.
+abbrev pub IsTrueOfCertificate : Certificate → Judgement → Type 0
+IsTrueOfCertificate c (Accepted claim entries) = IsAcceptance c claim entries
+IsTrueOfCertificate c (Refused entry why) = IsRefusal c entry why

@@ -2,30 +2,42 @@
 use Rattle.std.specs.Prelude.{◌≡◌, ℕ, List, Bool, true, false, Result, Ok, Err}
 use Rattle.board_core.specs.Kind.{other}
 use Rattle.board_core.specs.Board.{Board}
-use Rattle.board_core.specs.Rest.{rest_of}
+use Rattle.board_core.specs.Rest.{board_with_rest}
 use Rattle.shogi_rules.specs.Rules.{IsInCheck}
 use Rattle.shogi_rules.specs.Tsume.{IsProblem}
-use Rattle.sfen_text.specs.declared.fault.TextFault.{TextFault}
-use Rattle.sfen_text.specs.declared.fault.TextFault.TheVariants.{DefenderInCheck}
-use Rattle.sfen_text.specs.Reading.{reading, IsReadingAnswer}
+use Rattle.sfen_text.specs.Faults.{IsReadingOutcome}
+use Rattle.tsume_words.specs.Given.{Wish}
+use Rattle.tsume_words.specs.Given.Wish.{to_solve, to_check}
+use Rattle.tsume_app.specs.declared.fault.ProblemFault.{ProblemFault}
+use Rattle.tsume_app.specs.declared.fault.ProblemFault.TheVariants.{Text, DefenderInCheck}
+use Rattle.tsume_app.specs.declared.input.TheConstants.{MOST_PROBLEM_BYTES, MOST_CERTIFICATE_BYTES}
 
--- A position that was read, with the rest of the pieces in the defender's hand where that is asked for.
-abbrev pub given : Bool → Board → Board
-given true b = rest_of b
-given false b = b
+-- The most bytes that the input of a command may have.
+abbrev pub limit_of : Wish → ℕ
+limit_of (to_solve settings rest) = MOST_PROBLEM_BYTES
+limit_of (to_check workers) = MOST_CERTIFICATE_BYTES
 
--- A position is a problem unless its defender, the side not to move, is in check.
-abbrev pub IsAccepted : Board → Result Board TextFault → Type 0
-IsAccepted b (Ok problem) = (problem ≡ b) × IsProblem b
-IsAccepted b (Err fault) = (fault ≡ DefenderInCheck) × IsInCheck b.cells (other b.side)
+-- The position that is searched: the one that was read, with the rest of the pieces in the defender's hand where that is
+-- asked for.
+abbrev pub searched_board : Bool → Board → Board
+searched_board true b = board_with_rest b
+searched_board false b = b
 
--- What a text that was read stands for: its own fault, or what its position, with the rest or without, is accepted as.
-abbrev pub Continues : Bool → Result Board TextFault → Result Board TextFault → Type 0
-Continues rest (Ok b) answer = IsAccepted (given rest b) answer
-Continues rest (Err fault) answer = answer ≡ Err fault
+-- The text is a position's, and the one to be searched is this problem.
+pub record IsProblemRead (rest : Bool) (input : List ℕ) (problem : Board) : Type 0 where
+  pub position : Board
+  pub read : IsReadingOutcome input (Ok position)
+  pub searched : problem ≡ searched_board rest position
+  pub is_problem : IsProblem problem
+
+-- The text is a position's, and in the one to be searched the side that isn't to move is in check.
+pub record IsInCheckRead (rest : Bool) (input : List ℕ) : Type 0 where
+  pub position : Board
+  pub read : IsReadingOutcome input (Ok position)
+  pub in_check : IsInCheck (searched_board rest position).cells (other (searched_board rest position).side)
 
 -- What an SFEN input stands for: a problem, or its first fault, one of the text before one of the problem.
-pub record StandsFor (rest : Bool) (input : List ℕ) (answer : Result Board TextFault) : Type 0 where
-  pub read : Result Board TextFault
-  pub is_read : IsReadingAnswer (reading input) read
-  pub continues : Continues rest read answer
+abbrev pub StandsFor : Bool → List ℕ → Result Board ProblemFault → Type 0
+StandsFor rest input (Ok problem) = IsProblemRead rest input problem
+StandsFor rest input (Err (Text fault)) = IsReadingOutcome input (Err fault)
+StandsFor rest input (Err DefenderInCheck) = IsInCheckRead rest input

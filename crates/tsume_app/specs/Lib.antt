@@ -1,3 +1,8 @@
-pub mod Input
+-- This project's; the USI protocol for the answer.
 pub mod Answer
+pub mod Headline
+pub mod Input
+pub mod Inside
+pub mod Outside
 pub mod Run
+pub mod Status

@@ -1,7 +1,7 @@
-// What the program finds.
+// What the program answers.
 use board_core::Move;
 use cert_check::Why;
-use cert_text::Certificate;
+use cert_text::{Claim, EscapeCertificate, MateCertificate};
 use std::marker::Model;
 
 /// The moves of a mate: the attacker's and the defender's in turn, from the attacker's first. Contracts see the list.
@@ -37,39 +37,48 @@ impl MainLine {
     }
 }
 
-/// Why a search gave up: which of its limits was used up. The plain search has the first limit alone, and the contract of
-/// `run` says that no other cause comes from it; the others are those of the search by proof numbers.
+/// Why a search gave up: which of its limits was used up.
 #[derive(Clone, Copy, PartialEq, Eq, Debug)]
 pub enum Cause {
     /// The expansions: so many positions had their moves listed, as many as the setting allows.
     Expansions(u64),
-    /// The room for the facts that a certificate is made of.
-    Room(u32),
-    /// The height of such a fact.
-    Height(u32),
 }
 
-/// What was found out about a problem or a certificate.
+/// What was found out about a problem.
 #[derive(Drop)]
-pub enum Answer {
-    /// The problem is a mate: its certificate, of a mate, and the main line.
-    Mate(Certificate, MainLine),
-    /// The problem is no mate: its certificate, of an escape.
-    NoMate(Certificate),
+pub enum Solution {
+    /// It is a mate: the certificate, and the main line.
+    Mate(MateCertificate, MainLine),
+    /// It is no mate: the certificate.
+    NoMate(EscapeCertificate),
     /// Neither was found before a limit was used up.
     Unknown(Cause),
-    /// The certificate is valid for its own problem.
+}
+
+/// What was found out about a certificate.
+#[derive(Drop)]
+pub enum Judgement {
+    /// It is valid for its own problem.
     Accepted {
-        /// Whether it is a mate's; else it is an escape's.
-        mate: bool,
+        /// What it claims of its problem, and so what holds of it.
+        claim: Claim,
         /// The number of its entries.
         entries: u64,
     },
-    /// The certificate isn't valid for its own problem.
+    /// It isn't valid for its own problem.
     Refused {
         /// The first entry that something speaks against, counted from 1; 0 for the certificate as a whole.
         entry: u64,
         /// The first reason against it.
         why: Why,
     },
+}
+
+/// What the program answers.
+#[derive(Drop)]
+pub enum Answer {
+    /// To `solve`.
+    Solved(Solution),
+    /// To `check`.
+    Judged(Judgement),
 }

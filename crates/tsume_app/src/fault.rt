@@ -1,37 +1,89 @@
-// Why a run ends without an answer, or without its text.
+// Why a run ends without an answer.
+ghost use Rattle.std.specs.Prelude.{◌≡◌};
+
 use cert_text::CertFault;
 use sfen_text::TextFault;
+use std::alloc::AllocError;
 use std::fmt::{self, Write};
 use tsume_words::WordFault;
 
-/// Why a run ended without an answer, or without its text.
+/// Why an input is no problem.
+#[derive(Clone, Copy, PartialEq, Eq, Debug)]
+pub enum ProblemFault {
+    /// It is no position: the first fault of its text.
+    Text(TextFault),
+    /// The side that isn't to move is in check.
+    DefenderInCheck,
+}
+
+impl From<TextFault> for ProblemFault {
+    ghost use Rattle.tsume_app.specs.declared.fault.ProblemFault.TheVariants.{Text};
+
+    ghost from_gives = { λ text fault. fault ≡ Text text };
+
+    fn from(fault: TextFault) -> ProblemFault {
+        ProblemFault::Text(fault)
+    }
+}
+
+impl fmt::Display for ProblemFault {
+    fn fmt<W: Write>(&self, f: &mut fmt::Formatter<W>) -> fmt::Result {
+        match self {
+            ProblemFault::Text(fault) => write!(f, "{fault}"),
+            ProblemFault::DefenderInCheck => write!(f, "defender in check"),
+        }
+    }
+}
+
+/// Why a run ends without an answer. It prints as the text for the user, with no line feed at the end.
 #[derive(Debug, Drop)]
 pub enum Fault {
+    /// A word of the command line is no UTF-8. [`run`](crate::run) takes text alone: whoever makes the words tells this.
+    NotUtf8,
     /// The words of the command line are refused; nothing was read.
     Words(WordFault),
-    /// The input has more bytes than a problem may have, 65,536, or a certificate, 268,435,456.
+    /// The input has more bytes than a problem may have ([`MOST_PROBLEM_BYTES`](crate::MOST_PROBLEM_BYTES)), or a certificate
+    /// ([`MOST_CERTIFICATE_BYTES`](crate::MOST_CERTIFICATE_BYTES)).
     TooLong,
     /// The input is no problem: its first fault.
-    Text(TextFault),
+    Problem(ProblemFault),
     /// The input is no certificate: its first fault.
     Cert(CertFault),
     /// The source failed.
     Read,
-    /// The sink failed; what was found stands.
-    Write,
     /// Memory was wanted and not there.
     NoMemory,
+}
+
+impl From<ProblemFault> for Fault {
+    ghost use Rattle.tsume_app.specs.declared.fault.Fault.TheVariants.{Problem};
+
+    ghost from_gives = { λ problem fault. fault ≡ Problem problem };
+
+    fn from(fault: ProblemFault) -> Fault {
+        Fault::Problem(fault)
+    }
+}
+
+impl From<AllocError> for Fault {
+    ghost use Rattle.tsume_app.specs.declared.fault.Fault.TheVariants.{NoMemory};
+
+    ghost from_gives = { λ _ fault. fault ≡ NoMemory };
+
+    fn from(_error: AllocError) -> Fault {
+        Fault::NoMemory
+    }
 }
 
 impl fmt::Display for Fault {
     fn fmt<W: Write>(&self, f: &mut fmt::Formatter<W>) -> fmt::Result {
         match self {
+            Fault::NotUtf8 => write!(f, "a word is not UTF-8"),
             Fault::Words(fault) => write!(f, "{fault}"),
             Fault::TooLong => write!(f, "too long"),
-            Fault::Text(fault) => write!(f, "{fault}"),
+            Fault::Problem(fault) => write!(f, "{fault}"),
             Fault::Cert(fault) => write!(f, "{fault}"),
             Fault::Read => write!(f, "read fault"),
-            Fault::Write => write!(f, "write fault"),
             Fault::NoMemory => write!(f, "out of memory"),
         }
     }

@@ -1,62 +1,39 @@
-// The answer to a certificate.
-ghost use Rattle.std.specs.Prelude.{◌≡◌, length};
-ghost use Rattle.cert_check.specs.Valid.{problem_of, positions_in};
-ghost use Rattle.tsume_app.specs.Answer.{is_mate};
-ghost use Rattle.tsume_app.specs.Run.{IsCertificateAnswered, IsCheckAnswered};
+// What `check` finds.
+ghost use Rattle.std.specs.Prelude.{ℕ, IfOk, IfErr};
+ghost use Rattle.tsume_words.specs.Given.Wish.{to_check};
+ghost use Rattle.tsume_app.specs.Answer.{IsTrueOfCertificate};
+ghost use Rattle.tsume_app.specs.Inside.{HasTexts};
+ghost use Rattle.tsume_app.specs.Outside.{Shown};
+ghost use Rattle.tsume_app.specs.Run.{IsReadWhole, IsTrueOfInput, HasCause};
 
-use crate::answer::Answer;
+use crate::answer::{Answer, Judgement};
 use crate::fault::Fault;
 use cert_check::{Verdict, check};
 use cert_text::{CertEnd, Certificate, read_cert};
-use shogi_rules::Problem;
-use std::alloc::Global;
+use std::alloc::{AllocError, Global};
 
-fn problem_of(certificate: &Certificate) -> &Problem
-    ensures { result.now.position ≡ problem_of certificate.now }
+fn judgement_of(alloc: Global, certificate: &Certificate) -> Result<Judgement, AllocError>
+    ensures { IfOk result (IsTrueOfCertificate certificate.now) }
 {
-    match certificate {
-        Certificate::Mate(mate) => mate.problem(),
-        Certificate::Escape(escape) => escape.problem(),
-    }
-}
-
-fn is_mate(certificate: &Certificate) -> bool
-    ensures { result ≡ is_mate certificate.now }
-{
-    match certificate {
-        Certificate::Mate(_) => true,
-        Certificate::Escape(_) => false,
-    }
-}
-
-fn count_of(certificate: &Certificate) -> u64
-    ensures { result ≡ length (positions_in certificate.now) }
-{
-    match certificate {
-        Certificate::Mate(mate) => mate.entries().len() as u64,
-        Certificate::Escape(escape) => escape.entries().len() as u64,
-    }
-}
-
-fn judged(alloc: Global, certificate: &Certificate) -> Result<Answer, Fault>
-    ensures { IsCertificateAnswered certificate.now result }
-{
-    match check(alloc, problem_of(certificate), certificate) {
-        Ok(Verdict::Accepted) => Ok(Answer::Accepted {
-            mate: is_mate(certificate),
-            entries: count_of(certificate),
+    match check(alloc, certificate.problem(), certificate)? {
+        Verdict::Accepted => Ok(Judgement::Accepted {
+            claim: certificate.claim(),
+            entries: certificate.count() as u64,
         }),
-        Ok(Verdict::Refused { entry, why }) => Ok(Answer::Refused { entry, why }),
-        Err(_) => Err(Fault::NoMemory),
+        Verdict::Refused { entry, why } => Ok(Judgement::Refused { entry, why }),
     }
 }
 
-/// What the bytes of a certificate's text are answered with: the checker's verdict for its own problem, or their first fault.
+/// What is answered to the bytes of a certificate's text: the checker's judgement for its own problem, or their first fault.
 pub(crate) fn judge_input(alloc: Global, input: &[u8]) -> Result<Answer, Fault>
-    ensures { IsCheckAnswered input.now result }
+    ensures true_of { (workers : ℕ) → IfOk result (IsTrueOfInput (to_check workers) input.now) }
+    ensures texts { IfOk result HasTexts }
+    // Wherever these bytes were read whole.
+    ensures cause { (workers : ℕ) (source : Shown) → IsReadWhole (to_check workers) source input.now
+        → IfErr result (λ fault. HasCause (to_check workers) source fault input.now) }
 {
     match read_cert(alloc, input) {
-        Ok(certificate) => judged(alloc, &certificate),
+        Ok(certificate) => Ok(Answer::Judged(judgement_of(alloc, &certificate)?)),
         Err(CertEnd::Fault(fault)) => Err(Fault::Cert(fault)),
         Err(CertEnd::NoMemory) => Err(Fault::NoMemory),
     }

@@ -5,15 +5,19 @@
 #![tactic(auto)]
 
 mod answer;
+mod ended;
 mod fault;
+mod input;
 mod judgement;
 mod program;
 mod solution;
 mod text;
 
-pub use answer::{Answer, Cause, MainLine};
-pub use fault::Fault;
-pub use program::{Ended, run};
+pub use answer::{Answer, Cause, Judgement, MainLine, Solution};
+pub use ended::Ended;
+pub use fault::{Fault, ProblemFault};
+pub use input::{Input, MOST_CERTIFICATE_BYTES, MOST_PROBLEM_BYTES};
+pub use program::run;
 
 #[cfg(test)]
 mod tests;

@@ -1,25 +1,30 @@
-// The answer to a problem.
-ghost use Rattle.std.specs.Prelude.{◌≡◌, ◌≤◌, Ok, Err, IfOk, MatchResult};
+// What `solve` finds.
+ghost use Rattle.std.specs.Prelude.{◌≡◌, Ok, Err, IfOk, IfErr, MatchResult};
 ghost use Rattle.plain_search.specs.Outcome.{IsMateFound, IsEscapeFound};
-ghost use Rattle.tsume_app.specs.Input.{StandsFor, given};
-ghost use Rattle.tsume_app.specs.Answer.{HasLine, IsTrueOf};
-ghost use Rattle.tsume_app.specs.Run.{IsSolveAnswered};
+ghost use Rattle.tsume_words.specs.Given.Wish.{to_solve};
+ghost use Rattle.tsume_words.specs.Meaning.{settings_in};
+ghost use Rattle.tsume_app.specs.Answer.{IsTrueOf};
+ghost use Rattle.tsume_app.specs.Inside.{HasLine, HasTexts};
+ghost use Rattle.tsume_app.specs.Input.{StandsFor, searched_board};
+ghost use Rattle.tsume_app.specs.Outside.{Shown};
+ghost use Rattle.tsume_app.specs.Run.{IsReadWhole, IsTrueOfInput, HasCause};
 
-use crate::answer::{Answer, Cause, MainLine};
-use crate::fault::Fault;
-use board_core::{NoMemory, Position};
+use crate::answer::{Answer, Cause, MainLine, Solution};
+use crate::fault::{Fault, ProblemFault};
+use board_core::Position;
 use cert_check::valid_is_accepted;
-use cert_text::{Certificate, EscapeCertificate, MateCertificate};
+use cert_text::{EscapeCertificate, MateCertificate};
 use plain_search::{Outcome, search};
 use play_line::main_line;
-use sfen_text::{TextFault, read_sfen};
+use search_gate::{Expansions, Gate};
+use sfen_text::read_sfen;
 use shogi_rules::{Problem, accept_problem};
-use std::alloc::Global;
-use tsume_io::Gate;
+use std::alloc::{AllocError, Global};
+use tsume_words::Settings;
 
-// A position, with the rest of the pieces in the defender's hand where that is asked for.
-fn given(position: Position, rest: bool) -> Position
-    ensures { result ≡ given rest position }
+// The position that is searched: the one that was read, with the rest of the pieces in the defender's hand where that is asked for.
+fn searched_position(position: Position, rest: bool) -> Position
+    ensures { result ≡ searched_board rest position }
 {
     if rest {
         board_core::rest(&position)
@@ -28,80 +33,77 @@ fn given(position: Position, rest: bool) -> Position
     }
 }
 
-fn problem_of(input: &[u8], rest: bool) -> Result<Problem, TextFault>
+fn read_problem(input: &[u8], rest: bool) -> Result<Problem, ProblemFault>
     ensures { MatchResult result (λ problem. StandsFor rest input.now (Ok problem.position)) (λ fault. StandsFor rest input.now (Err fault)) }
 {
     let position = read_sfen(input)?;
-    match accept_problem(given(position, rest)) {
+    match accept_problem(searched_position(position, rest)) {
         Ok(problem) => Ok(problem),
-        Err(_) => Err(TextFault::DefenderInCheck),
+        Err(_) => Err(ProblemFault::DefenderInCheck),
     }
 }
 
 fn mate(
     alloc: Global,
     problem: &Problem,
-    units: u64,
+    expansions: u64,
     certificate: MateCertificate,
-) -> Result<Answer, NoMemory>
-    requires { IsMateFound problem.now.position units certificate }
-    ensures answer { IfOk result (IsTrueOf problem.now.position units) }
+) -> Result<Solution, AllocError>
+    requires { IsMateFound problem.now.position expansions certificate }
+    ensures true_of { IfOk result (IsTrueOf problem.now.position expansions) }
     ensures line { IfOk result HasLine }
 {
     valid_is_accepted();
-    certificate.problem();
+    // What a certificate keeps.
+    certificate.laws();
     let moves = main_line(alloc, problem, &certificate)?;
-    Ok(Answer::Mate(Certificate::Mate(certificate), MainLine::new(moves)))
+    Ok(Solution::Mate(certificate, MainLine::new(moves)))
 }
 
-fn no_mate(problem: &Problem, units: u64, certificate: EscapeCertificate) -> Answer
-    requires { IsEscapeFound problem.now.position units certificate }
-    ensures answer { IsTrueOf problem.now.position units result }
+fn no_mate(problem: &Problem, expansions: u64, certificate: EscapeCertificate) -> Solution
+    requires { IsEscapeFound problem.now.position expansions certificate }
+    ensures true_of { IsTrueOf problem.now.position expansions result }
     ensures line { HasLine result }
 {
     valid_is_accepted();
-    certificate.problem();
-    Answer::NoMate(Certificate::Escape(certificate))
+    // What a certificate keeps.
+    certificate.laws();
+    Solution::NoMate(certificate)
 }
 
-fn answer_problem<G: Gate>(
+fn solution_of<G: Gate>(
     alloc: Global,
     problem: &Problem,
-    units: u64,
+    expansions: Expansions,
     gate: &G,
-) -> Result<Answer, NoMemory>
-    requires from { 1 ≤ units }
-    requires to { units ≤ 1000000000 }
-    ensures answer { IfOk result (IsTrueOf problem.now.position units) }
+) -> Result<Solution, AllocError>
+    ensures true_of { IfOk result (IsTrueOf problem.now.position expansions.count) }
     ensures line { IfOk result HasLine }
 {
-    match search(alloc, problem, units, gate)? {
-        Outcome::Mate(certificate) => mate(alloc, problem, units, certificate),
-        Outcome::NoMate(certificate) => Ok(no_mate(problem, units, certificate)),
-        Outcome::Spent => Ok(Answer::Unknown(Cause::Expansions(units))),
+    let count = expansions.count;
+    match search(alloc, problem, expansions, gate)? {
+        Outcome::Mate(certificate) => mate(alloc, problem, count, certificate),
+        Outcome::NoMate(certificate) => Ok(no_mate(problem, count, certificate)),
+        Outcome::Spent => Ok(Solution::Unknown(Cause::Expansions(count))),
     }
 }
 
-/// What the bytes of an SFEN text are answered with: a verdict on the problem that they stand for, or that it was given up,
-/// or their first fault.
+/// What is answered to the bytes of an SFEN text: a verdict on the problem that they stand for, or that it was given up; or
+/// their first fault.
 pub(crate) fn solve_input<G: Gate>(
     alloc: Global,
     input: &[u8],
+    settings: &Settings,
     rest: bool,
-    units: u64,
     gate: &G,
 ) -> Result<Answer, Fault>
-    requires from { 1 ≤ units }
-    requires to { units ≤ 1000000000 }
-    ensures answer { IsSolveAnswered rest units input.now result }
-    ensures line { IfOk result HasLine }
+    ensures true_of { IfOk result (IsTrueOfInput (to_solve (settings_in settings.now) rest) input.now) }
+    ensures texts { IfOk result HasTexts }
+    // Wherever these bytes were read whole.
+    ensures cause { (source : Shown) → IsReadWhole (to_solve (settings_in settings.now) rest) source input.now
+        → IfErr result (λ fault. HasCause (to_solve (settings_in settings.now) rest) source fault input.now) }
 {
-    let problem = match problem_of(input, rest) {
-        Ok(problem) => problem,
-        Err(fault) => return Err(Fault::Text(fault)),
-    };
-    match answer_problem(alloc, &problem, units, gate) {
-        Ok(answer) => Ok(answer),
-        Err(_) => Err(Fault::NoMemory),
-    }
+    let problem = read_problem(input, rest)?;
+    let solution = solution_of(alloc, &problem, settings.expansions, gate)?;
+    Ok(Answer::Solved(solution))
 }

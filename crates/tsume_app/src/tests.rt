@@ -1,21 +1,34 @@
 // Whole runs over a source and a sink in memory.
-use crate::{Answer, Ended, run};
+use crate::{Ended, run};
+use search_gate::{Gate, OpenGate};
 use std::alloc::Global;
 use std::sync::atomic::{AtomicU64, Ordering};
 use std::test::Fail;
-use tsume_io::{Gate, MemSink, MemSource, OpenGate};
+use tsume_io::{MemSink, MemSource};
 
-// What a run did: how it ended, and what the sink kept.
+// What a run did: its status, whether it has an answer, what the user is told beside it, how many bytes of its input it kept where
+// it failed, and what the sink kept.
 #[derive(Drop)]
 struct Seen {
     status: u8,
     answered: bool,
     fault: String,
+    read: usize,
     kept: Vec<u8>,
 }
 
-fn answered(answer: &Option<Answer>) -> bool {
-    answer.is_some()
+fn has_answer(ended: &Ended) -> bool {
+    match ended {
+        Ended::Answered(_) | Ended::CutShort(_) => true,
+        Ended::Failed(..) => false,
+    }
+}
+
+fn bytes_kept(ended: &Ended) -> usize {
+    match ended {
+        Ended::Answered(_) | Ended::CutShort(_) => 0,
+        Ended::Failed(_, input) => input.bytes().len(),
+    }
 }
 
 // A run on words with a space between each, with a source and a sink of these pieces that fail at the calls of these numbers, 0 for none.
@@ -36,15 +49,12 @@ fn seen_of(
     let bytes = Vec::from_slice(alloc, input.as_bytes())?;
     let mut from = MemSource::make(bytes, source.0, Vec::from_slice(alloc, &[source.1])?);
     let mut to = MemSink::make(alloc, 65_536, sink.0, Vec::from_slice(alloc, &[sink.1])?)?;
-    let ended: Ended = run(alloc, words, &mut from, &mut to, &OpenGate);
-    let fault = match &ended.fault {
-        Some(fault) => format!(in alloc; "{fault}")?,
-        None => String::new(alloc),
-    };
+    let ended = run(alloc, words, &mut from, &mut to, &OpenGate);
     Ok(Seen {
-        status: ended.status,
-        answered: answered(&ended.answer),
-        fault,
+        status: ended.status(),
+        answered: has_answer(&ended),
+        fault: format!(in alloc; "{ended}")?,
+        read: bytes_kept(&ended),
         kept: Vec::from_slice(alloc, to.kept())?,
     })
 }
@@ -81,34 +91,26 @@ const REST_TEXT: &str =
     "checkmate G*5b\ncertificate 1 mate 1\nproblem 4k4/9/4P4/9/9/9/9/9/9 b G2r2b3g4s4n4l17p\n1 G*5b 4k4/9/4P4/9/9/9/9/9/9 b G2r2b3g4s4n4l17p\nend\n";
 
 #[test]
-fn a_run_ends_as_it_should(rt: HostRuntime) -> Result<(), Fail> {
-    // Words, an input, and the status, the fault's text and what is kept.
+fn a_problem_is_answered_as_it_should(rt: HostRuntime) -> Result<(), Fail> {
+    // Words, a problem, and the status and what is kept.
     let table = [
-        ("solve --workers 4", GOLD, 0, "", GOLD_TEXT),
-        ("solve", "9/9/9/9/9/9/4p4/9/4K4 w g 1\n", 0, "", WHITE_TEXT),
+        ("solve --workers 4", GOLD, 0, GOLD_TEXT),
+        ("solve", "9/9/9/9/9/9/4p4/9/4K4 w g 1\n", 0, WHITE_TEXT),
         // 5c5b+ and G*5b both mate: the move on the board comes first in the order of moves.
-        (
-            "solve",
-            "4k4/9/4P4/4L4/9/9/9/9/9 b G 1\n",
-            0,
-            "",
-            FIRST_TEXT,
-        ),
-        ("solve", TWO_ROOKS, 0, "", TWO_ROOKS_TEXT),
-        ("solve --rest", GOLD, 0, "", REST_TEXT),
-        // No check, told by the last unit; and units used up before anything is told.
+        ("solve", "4k4/9/4P4/4L4/9/9/9/9/9 b G 1\n", 0, FIRST_TEXT),
+        ("solve", TWO_ROOKS, 0, TWO_ROOKS_TEXT),
+        ("solve --rest", GOLD, 0, REST_TEXT),
+        // No check, told by the last expansion; and expansions used up before anything is told.
         (
             "solve --expansions 1",
             "4k4/9/9/9/9/9/9/9/9 b - 1\n",
             0,
-            "",
             NO_CHECK_TEXT,
         ),
         (
             "solve --expansions 1",
             TWO_ROOKS,
             1,
-            "",
             "checkmate timeout\nunknown expansions 1\n",
         ),
         // The attacker is in check himself, and no check parries.
@@ -116,28 +118,54 @@ fn a_run_ends_as_it_should(rt: HostRuntime) -> Result<(), Fail> {
             "solve",
             "4k4/9/4P4/9/9/9/9/9/4K3r b G 1\n",
             0,
-            "",
             IN_CHECK_TEXT,
         ),
-        ("solve", "", 3, "bad row at 0", ""),
+    ];
+    for (words, input, status, kept) in table {
+        let seen = seen_of(rt.alloc(), words, input, (7, 0), (11, 0))?;
+        assert_eq!(rt; seen.status, status, "{words} {input}");
+        assert!(rt; seen.fault.is_empty(), "{words} {input}");
+        assert!(rt; seen.kept.as_slice() == kept.as_bytes(), "{words} {input}");
+    }
+    Ok(())
+}
+
+#[test]
+fn a_certificate_is_judged_as_it_should(rt: HostRuntime) -> Result<(), Fail> {
+    // Words, a certificate, and the status and what is kept.
+    let table = [
+        ("check", GOLD_TEXT, 0, "accepted mate 1\n"),
+        ("check --workers 2", ESCAPE, 0, "accepted escape 3\n"),
+        ("check", OPEN_ESCAPE, 7, "refused 2 unanswered P*5c\n"),
+    ];
+    for (words, input, status, kept) in table {
+        let seen = seen_of(rt.alloc(), words, input, (7, 0), (11, 0))?;
+        assert_eq!(rt; seen.status, status, "{words} {input}");
+        assert!(rt; seen.fault.is_empty(), "{words} {input}");
+        assert!(rt; seen.kept.as_slice() == kept.as_bytes(), "{words} {input}");
+    }
+    Ok(())
+}
+
+#[test]
+fn a_faulty_input_is_told_and_kept(rt: HostRuntime) -> Result<(), Fail> {
+    // Words, an input, and the fault's text.
+    let table = [
+        ("solve", "", "bad row at 0"),
         (
             "solve",
             "4k4/9/9/9/9/9/9/9/4R4 b - 1\n",
-            3,
             "defender in check",
-            "",
         ),
-        ("solve", "9/9/9/9/9/9/9/9/p8 b 18P 1\n", 3, "too many P", ""),
-        ("check", GOLD_TEXT, 0, "", "accepted mate 1\n"),
-        ("check --workers 2", ESCAPE, 0, "", "accepted escape 3\n"),
-        ("check", OPEN_ESCAPE, 7, "", "refused 2 unanswered P*5c\n"),
-        ("check", GOLD, 3, "bad head", ""),
+        ("solve", "9/9/9/9/9/9/9/9/p8 b 18P 1\n", "too many P"),
+        ("check", GOLD, "bad head"),
     ];
-    for (words, input, status, fault, kept) in table {
+    for (words, input, fault) in table {
         let seen = seen_of(rt.alloc(), words, input, (7, 0), (11, 0))?;
-        assert_eq!(rt; seen.status, status, "{words} {input}");
+        assert_eq!(rt; seen.status, 3, "{words} {input}");
         assert!(rt; seen.fault.as_str() == fault, "{words} {input}");
-        assert!(rt; seen.kept.as_slice() == kept.as_bytes(), "{words} {input}");
+        assert_eq!(rt; seen.read, input.len(), "{words} {input}");
+        assert!(rt; seen.kept.is_empty(), "{words} {input}");
     }
     Ok(())
 }
@@ -253,9 +281,9 @@ struct Counting {
 }
 
 impl Gate for Counting {
-    fn pass(&self, worker: u32, unit: u64) {
+    fn pass(&self, worker: u32, expansion: u64) {
         let before = self.passed.fetch_add(1, Ordering::SeqCst);
-        if worker != 1 || unit != before.wrapping_add(1) {
+        if worker != 1 || expansion != before.wrapping_add(1) {
             self.wrong.fetch_add(1, Ordering::SeqCst);
         }
     }
@@ -273,7 +301,7 @@ fn the_gate_is_passed_for_each_position(rt: HostRuntime) -> Result<(), Fail> {
         wrong: AtomicU64::new(0),
     };
     let ended = run(rt.alloc(), words, &mut from, &mut to, &gate);
-    assert_eq!(rt; ended.status, 0);
+    assert_eq!(rt; ended.status(), 0);
     // The problem, and what its seven checks lead to.
     assert_eq!(rt; gate.passed.load(Ordering::SeqCst), 8);
     assert_eq!(rt; gate.wrong.load(Ordering::SeqCst), 0);

@@ -1,29 +1,23 @@
-// The text of an answer.
-ghost use Rattle.std.specs.Prelude.{◌≡◌, ◌++◌, ◌∷◌, [], IfOk, OnOk, codes};
+// The text of an answer. Each part is appended to the one text that is written.
+ghost use Rattle.std.specs.Prelude.{◌≡◌, ◌++◌, ◌∷◌, OnOk, codes};
 ghost use Rattle.std.specs.Fmt.{decimal};
 ghost use Rattle.usi_text.specs.MoveText.{move_text};
 ghost use Rattle.usi_text.specs.Lines.{AllHaveText};
-ghost use Rattle.cert_text.specs.Text.{line, certificate_text};
-ghost use Rattle.usi_text.specs.Lines.{mate_text, nomate_text, timeout_text};
-ghost use Rattle.tsume_app.specs.Answer.{answer_text, cause_text, why_text, kind_text, HasLine};
+ghost use Rattle.cert_text.specs.Entries.{line};
+ghost use Rattle.cert_text.specs.Text.{claim_word};
+ghost use Rattle.tsume_app.specs.Answer.{answer_text, solution_text, judgement_text, why_text};
+ghost use Rattle.tsume_app.specs.Inside.{HasLine, HasTexts};
 
-use crate::answer::{Answer, Cause, MainLine};
-use board_core::{Move, NoMemory};
+use crate::answer::{Answer, Cause, Judgement, Solution};
+use board_core::Move;
 use cert_check::Why;
-use cert_text::{Certificate, write_cert};
-use itoa::Buffer;
-use std::alloc::Global;
-use usi_text::{mate_line, nomate_line, timeout_line, write_move};
+use cert_text::{
+    Claim, EscapeCertificate, MateCertificate, append_escape_cert, append_mate_cert, append_number,
+};
+use std::alloc::AllocError;
+use usi_text::{append_mate_line, append_nomate_line, append_timeout_line, write_move};
 
-fn put_number(out: &mut Vec<u8>, number: u64) -> Result<(), NoMemory>
-    ensures { OnOk result (out.new.items ≡ out.old.items ++ decimal number) }
-{
-    let mut buffer = Buffer::new();
-    out.extend_from_slice(buffer.format(number).as_bytes())?;
-    Ok(())
-}
-
-fn put_move(out: &mut Vec<u8>, word: &[u8], named: Move) -> Result<(), NoMemory>
+fn append_move(out: &mut Vec<u8>, word: &[u8], named: Move) -> Result<(), AllocError>
     ensures { OnOk result (out.new.items ≡ out.old.items ++ (word.now ++ move_text named)) }
 {
     out.extend_from_slice(word)?;
@@ -31,7 +25,7 @@ fn put_move(out: &mut Vec<u8>, word: &[u8], named: Move) -> Result<(), NoMemory>
     Ok(())
 }
 
-fn put_why(out: &mut Vec<u8>, why: Why) -> Result<(), NoMemory>
+fn append_why(out: &mut Vec<u8>, why: Why) -> Result<(), AllocError>
     ensures { OnOk result (out.new.items ≡ out.old.items ++ why_text why) }
 {
     match why {
@@ -39,99 +33,99 @@ fn put_why(out: &mut Vec<u8>, why: Why) -> Result<(), NoMemory>
             out.extend_from_slice(b"root")?;
             Ok(())
         }
-        Why::NotACheck(named) => put_move(out, b"move ", named),
-        Why::AnswerOutside(named) => put_move(out, b"outside ", named),
-        Why::RankNotLower(named) => put_move(out, b"rank ", named),
-        Why::CheckUnanswered(named) => put_move(out, b"unanswered ", named),
+        Why::NotACheck(named) => append_move(out, b"move ", named),
+        Why::EvasionOutside(named) => append_move(out, b"outside ", named),
+        Why::RankNotLower(named) => append_move(out, b"rank ", named),
+        Why::CheckUnanswered(named) => append_move(out, b"unanswered ", named),
     }
 }
 
-fn mate_answer(
-    alloc: Global,
-    certificate: &Certificate,
-    moves: &MainLine,
-) -> Result<Vec<u8>, NoMemory>
-    requires { AllHaveText moves.now }
-    ensures { IfOk result (λ text. text.items ≡ line (mate_text moves.now) ++ certificate_text certificate.now) }
+fn append_accepted(out: &mut Vec<u8>, claim: Claim, entries: u64) -> Result<(), AllocError>
+    ensures { OnOk result (out.new.items ≡ out.old.items ++ line (codes "accepted " ++ claim_word claim ++ 32 ∷ decimal entries)) }
 {
-    let mut text = mate_line(alloc, moves.moves())?;
-    text.push(b'\n')?;
-    let rest = write_cert(alloc, certificate)?;
-    text.extend_from_slice(&rest)?;
-    Ok(text)
-}
-
-fn no_mate_answer(alloc: Global, certificate: &Certificate) -> Result<Vec<u8>, NoMemory>
-    ensures { IfOk result (λ text. text.items ≡ line nomate_text ++ certificate_text certificate.now) }
-{
-    let mut text = nomate_line(alloc)?;
-    text.push(b'\n')?;
-    let written = write_cert(alloc, certificate)?;
-    text.extend_from_slice(&written)?;
-    Ok(text)
-}
-
-fn put_limit(out: &mut Vec<u8>, word: &[u8], limit: u64) -> Result<(), NoMemory>
-    ensures { OnOk result (out.new.items ≡ out.old.items ++ (word.now ++ decimal limit)) }
-{
-    out.extend_from_slice(word)?;
-    put_number(out, limit)?;
+    out.extend_from_slice(b"accepted ")?;
+    out.extend_from_slice(claim.word())?;
+    out.push(b' ')?;
+    append_number(out, entries)?;
+    out.push(b'\n')?;
     Ok(())
 }
 
-fn put_cause(out: &mut Vec<u8>, cause: Cause) -> Result<(), NoMemory>
-    ensures { OnOk result (out.new.items ≡ out.old.items ++ cause_text cause) }
+fn append_refused(out: &mut Vec<u8>, entry: u64, why: Why) -> Result<(), AllocError>
+    ensures { OnOk result (out.new.items ≡ out.old.items ++ line (codes "refused " ++ decimal entry ++ 32 ∷ why_text why)) }
 {
-    match cause {
-        Cause::Expansions(units) => put_limit(out, b"expansions ", units),
-        Cause::Room(facts) => put_limit(out, b"room ", u64::from(facts)),
-        Cause::Height(height) => put_limit(out, b"height ", u64::from(height)),
+    out.extend_from_slice(b"refused ")?;
+    append_number(out, entry)?;
+    out.push(b' ')?;
+    append_why(out, why)?;
+    out.push(b'\n')?;
+    Ok(())
+}
+
+fn append_judgement(out: &mut Vec<u8>, judgement: &Judgement) -> Result<(), AllocError>
+    ensures { OnOk result (out.new.items ≡ out.old.items ++ judgement_text judgement.now) }
+{
+    match judgement {
+        Judgement::Accepted { claim, entries } => append_accepted(out, *claim, *entries),
+        Judgement::Refused { entry, why } => append_refused(out, *entry, *why),
     }
 }
 
-fn unknown(alloc: Global, cause: Cause) -> Result<Vec<u8>, NoMemory>
-    ensures { IfOk result (λ text. text.items ≡ line timeout_text ++ line (codes "unknown " ++ cause_text cause)) }
+fn append_mate(
+    out: &mut Vec<u8>,
+    certificate: &MateCertificate,
+    moves: &[Move],
+) -> Result<(), AllocError>
+    requires { AllHaveText moves.now }
+    ensures { OnOk result (out.new.items ≡ out.old.items ++ solution_text (Solution.Mate certificate.now moves.now)) }
 {
-    let mut text = timeout_line(alloc)?;
-    text.extend_from_slice(b"\nunknown ")?;
-    put_cause(&mut text, cause)?;
-    text.push(b'\n')?;
-    Ok(text)
+    append_mate_line(out, moves)?;
+    out.push(b'\n')?;
+    append_mate_cert(out, certificate)
 }
 
-fn accepted(alloc: Global, mate: bool, entries: u64) -> Result<Vec<u8>, NoMemory>
-    ensures { IfOk result (λ text. text.items ≡ line (codes "accepted " ++ kind_text mate ++ 32 ∷ decimal entries)) }
+fn append_no_mate(out: &mut Vec<u8>, certificate: &EscapeCertificate) -> Result<(), AllocError>
+    ensures { OnOk result (out.new.items ≡ out.old.items ++ solution_text (Solution.NoMate certificate.now)) }
 {
-    let mut text = Vec::from_slice(alloc, b"accepted ")?;
-    let kind: &[u8] = if mate { b"mate" } else { b"escape" };
-    text.extend_from_slice(kind)?;
-    text.push(b' ')?;
-    put_number(&mut text, entries)?;
-    text.push(b'\n')?;
-    Ok(text)
+    append_nomate_line(out)?;
+    out.push(b'\n')?;
+    append_escape_cert(out, certificate)
 }
 
-fn refused(alloc: Global, entry: u64, why: Why) -> Result<Vec<u8>, NoMemory>
-    ensures { IfOk result (λ text. text.items ≡ line (codes "refused " ++ decimal entry ++ 32 ∷ why_text why)) }
+fn append_unknown(out: &mut Vec<u8>, cause: Cause) -> Result<(), AllocError>
+    ensures { OnOk result (out.new.items ≡ out.old.items ++ solution_text (Solution.Unknown cause)) }
 {
-    let mut text = Vec::from_slice(alloc, b"refused ")?;
-    put_number(&mut text, entry)?;
-    text.push(b' ')?;
-    put_why(&mut text, why)?;
-    text.push(b'\n')?;
-    Ok(text)
+    append_timeout_line(out)?;
+    out.extend_from_slice(b"\nunknown ")?;
+    match cause {
+        Cause::Expansions(expansions) => {
+            out.extend_from_slice(b"expansions ")?;
+            append_number(out, expansions)?;
+        }
+    }
+    out.push(b'\n')?;
+    Ok(())
 }
 
-/// The whole text of an answer, whose moves have texts.
-pub(crate) fn text_of(alloc: Global, answer: &Answer) -> Result<Vec<u8>, NoMemory>
-    requires { HasLine answer.now }
-    ensures { IfOk result (λ text. text.items ≡ answer_text answer.now) }
+fn append_solution(out: &mut Vec<u8>, solution: &Solution) -> Result<(), AllocError>
+    requires { HasLine solution.now }
+    ensures { OnOk result (out.new.items ≡ out.old.items ++ solution_text solution.now) }
+{
+    match solution {
+        Solution::Mate(certificate, moves) => append_mate(out, certificate, moves.moves()),
+        Solution::NoMate(certificate) => append_no_mate(out, certificate),
+        Solution::Unknown(cause) => append_unknown(out, *cause),
+    }
+}
+
+/// Writes the whole text of an answer, whose moves have texts, behind what stands there already. Where memory is wanted, a part of
+/// it may stand there. Errors: want of memory alone.
+pub(crate) fn append_answer(out: &mut Vec<u8>, answer: &Answer) -> Result<(), AllocError>
+    requires { HasTexts answer.now }
+    ensures { OnOk result (out.new.items ≡ out.old.items ++ answer_text answer.now) }
 {
     match answer {
-        Answer::Mate(certificate, moves) => mate_answer(alloc, certificate, moves),
-        Answer::NoMate(certificate) => no_mate_answer(alloc, certificate),
-        Answer::Unknown(cause) => unknown(alloc, *cause),
-        Answer::Accepted { mate, entries } => accepted(alloc, *mate, *entries),
-        Answer::Refused { entry, why } => refused(alloc, *entry, *why),
+        Answer::Solved(solution) => append_solution(out, solution),
+        Answer::Judged(judgement) => append_judgement(out, judgement),
     }
 }

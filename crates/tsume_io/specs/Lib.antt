@@ -1,3 +1,4 @@
+-- This project's.
 pub mod Faults
 pub mod Memory
 pub mod Sink

@@ -65,5 +65,5 @@ abbrev pub IsFull : MemSink → ℕ → Type 0
 IsFull sink size = room_of sink < length (bytes_kept sink) + bytes_taken sink size
 
 -- the bytes that a source without faults still has to give
-abbrev pub rest_of : NeverFails → List ℕ
-rest_of source = drop source.at source.bytes.items
+abbrev pub bytes_ahead : NeverFails → List ℕ
+bytes_ahead source = drop source.at source.bytes.items

@@ -1,5 +1,4 @@
-//! What the program knows of the outside world: a source of bytes, a sink for bytes, and a gate that
-//! a worker passes. Code that is generic over these traits reaches nothing else, and can't raise a
+//! What the program knows of the outside world: a source of bytes and a sink for bytes. Code that is generic over these traits reaches nothing else, and can't raise a
 //! count of faults itself, so "a fault only where the count rose" rules out a body that gives up (but
 //! where the count stands at its last value).
 //!
@@ -9,7 +8,6 @@
 
 mod copy;
 mod fault;
-mod gate;
 mod memory;
 mod never_fails;
 mod script;
@@ -17,8 +15,7 @@ mod sink;
 mod source;
 mod standard;
 
-pub use fault::{Failed, NoMemory};
-pub use gate::{Gate, OpenGate};
+pub use fault::Failed;
 pub use memory::{MemSink, MemSource};
 pub use never_fails::NeverFails;
 pub use sink::{Sink, WriteFault, write_all};

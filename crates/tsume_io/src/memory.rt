@@ -3,10 +3,10 @@ ghost use Rattle.std.specs.Prelude.{◌≡◌, ◌↔◌, ◌⊎◌, ◌<◌, �
 ghost use Rattle.tsume_io.specs.Faults.{Rose};
 
 use crate::copy::copy_front;
-use crate::fault::{Failed, NoMemory};
+use crate::fault::Failed;
 use crate::script::Script;
 use crate::{Sink, Source};
-use std::alloc::Global;
+use std::alloc::{AllocError, Global};
 
 /// A source in memory. It gives at most `piece` bytes a call, which is at least one, and fails at the
 /// calls whose numbers, from 1 on, are listed.
@@ -108,7 +108,7 @@ impl MemSink {
         room: usize,
         piece: usize,
         failing: Vec<u64>,
-    ) -> Result<MemSink, NoMemory>
+    ) -> Result<MemSink, AllocError>
         requires { 1 ≤ piece }
         ensures kept { IfOk result (λ sink. bytes_kept sink ≡ []) }
         ensures room { IfOk result (λ sink. room_of sink ≡ room) }

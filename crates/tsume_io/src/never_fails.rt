@@ -14,27 +14,27 @@ pub struct NeverFails {
 }
 
 impl NeverFails {
-    ghost use Rattle.tsume_io.specs.Memory.{rest_of};
+    ghost use Rattle.tsume_io.specs.Memory.{bytes_ahead};
 
     /// A source of these bytes.
     pub fn new(bytes: Vec<u8>) -> NeverFails
-        ensures { rest_of result ≡ bytes.items }
+        ensures { bytes_ahead result ≡ bytes.items }
     {
         NeverFails { bytes, at: 0 }
     }
 
     /// The bytes that it still has to give.
     pub fn left(&self) -> &[u8]
-        ensures { result.now ≡ rest_of self.now }
+        ensures { result.now ≡ bytes_ahead self.now }
     {
         &self.bytes[self.at..]
     }
 }
 
 impl Source for NeverFails {
-    ghost use Rattle.tsume_io.specs.Memory.{rest_of};
+    ghost use Rattle.tsume_io.specs.Memory.{bytes_ahead};
 
-    ghost left = { λ s. Some (rest_of s) };
+    ghost left = { λ s. Some (bytes_ahead s) };
 
     ghost faults = { λ _. 0 };
 

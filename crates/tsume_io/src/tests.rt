@@ -166,5 +166,4 @@ fn a_writer_of_std_is_a_sink(rt: HostRuntime) {
     assert_eq!(rt; sink.write(&LETTERS), Err(Failed), "nothing is taken");
     assert_eq!(rt; sink.write(&LETTERS), Err(Failed));
     assert_eq!(rt; sink.faults(), 2);
-    OpenGate.pass(1, 1);
 }

@@ -7,10 +7,10 @@ use Rattle.clap.specs.Walk.{Row, Text}
 use Rattle.clap.specs.Kinds.{IsAmong, Kinds}
 use Rattle.clap.specs.declared.error.kind.ErrorKind.{ErrorKind}
 use Rattle.clap.specs.Simple.{subcommand_of}
-use Rattle.tsume_words.specs.Given.{IsForCommand, IsTaken, Numbers, Wish, all_words, clap_faults, given_of, unless_faulty, wish_named}
+use Rattle.tsume_words.specs.Given.{IsForCommand, IsTakenByClap, SettingsView, Wish, all_words, clap_faults, given_of, unless_faulty, wish_named}
 use Rattle.tsume_words.specs.Given.Wish.{to_solve, to_check}
 use Rattle.tsume_words.specs.Line.{tsume_line}
-use Rattle.tsume_words.specs.Meaning.{Answers, FailFirst, FailsFirst, IsClapsOrMemory, IsStoppedBy, Refuses, are_sound, command_of, sound_wish, wish_of}
+use Rattle.tsume_words.specs.Meaning.{IsOutcomeFor, FailFirst, FailsFirst, IsClapsOrMemory, IsStoppedBy, IsRefusalOf, are_sound, command_of, sound_wish, wish_of}
 use Rattle.tsume_words.specs.declared.command.Command.{Command}
 use Rattle.tsume_words.specs.declared.faults.Size.TheVariants.{Rows, Shards}
 use Rattle.tsume_words.specs.declared.faults.WordFault.{WordFault}
@@ -21,22 +21,22 @@ use Rattle.tsume_words.proofs.Powers.{power-ones}
 use Rattle.tsume_words.proofs.Taken.{taken_gives}
 
 -- where clap takes the words it gives what `given_of` says
-pub given_where_taken : (words : List Text) (o : Option (Text × List Row)) (r : Result Command WordsEnd) → IsTaken words
-    → o ≡ subcommand_of tsume_line (all_words words) → IsSomeAnd (option_and_then wish_named o) (λ wish. Answers wish r)
-    → IsSomeAnd (given_of words) (λ wish. Answers wish r)
+pub given_where_taken : (words : List Text) (o : Option (Text × List Row)) (r : Result Command WordsEnd) → IsTakenByClap words
+    → o ≡ subcommand_of tsume_line (all_words words) → IsSomeAnd (option_and_then wish_named o) (λ wish. IsOutcomeFor wish r)
+    → IsSomeAnd (given_of words) (λ wish. IsOutcomeFor wish r)
 given_where_taken words o r taken is h =
     let all : given_of words ≡ option_and_then wish_named o = ap (λ k. unless_faulty k (option_and_then wish_named (subcommand_of tsume_line (all_words words)))) taken
     ∙ ap (option_and_then wish_named) (sym is) in
-    subst (λ (w : Option Wish). IsSomeAnd w (λ wish. Answers wish r)) (sym all) h
+    subst (λ (w : Option Wish). IsSomeAnd w (λ wish. IsOutcomeFor wish r)) (sym all) h
 
-pub command_where_taken : (words : List Text) (o : Option (Text × List Row)) → IsTaken words
+pub command_where_taken : (words : List Text) (o : Option (Text × List Row)) → IsTakenByClap words
     → o ≡ subcommand_of tsume_line (all_words words) → IsSomeAnd o IsForCommand
 command_where_taken words o taken is =
     let got = taken_gives words taken in
     subst (λ (q : Option (Text × List Row)). IsSomeAnd q IsForCommand) (sym (is ∙ got.1)) got.2
 
 -- sound numbers pass each test
-sound_parts : (n : Numbers) → are_sound n ≡ true → IsPowerOfTwo n.rows × IsPowerOfTwo n.shards × (n.rows < n.shards → ⊥)
+sound_parts : (n : SettingsView) → are_sound n ≡ true → IsPowerOfTwo n.rows × IsPowerOfTwo n.shards × (n.rows < n.shards → ⊥)
 sound_parts n e = go (is_power_of_two n.rows) refl (is_power_of_two n.shards) refl (nat_le n.shards n.rows) refl e
   where
     go : (a : Bool) → is_power_of_two n.rows ≡ a → (b : Bool) → is_power_of_two n.shards ≡ b → (d : Bool) → nat_le n.shards n.rows ≡ d
@@ -46,7 +46,7 @@ sound_parts n e = go (is_power_of_two n.rows) refl (is_power_of_two n.shards) re
     go true r false s d l e = absurd cc
     go false r b s d l e = absurd cc
 
-unsound : (f : WordFault) (n : Numbers) → FailFirst f n → are_sound n ≡ true → ⊥
+unsound : (f : WordFault) (n : SettingsView) → FailFirst f n → are_sound n ≡ true → ⊥
 unsound (NotPowerOfTwo Rows) n fails sound = fails (sound_parts n sound).0
 unsound (NotPowerOfTwo Shards) n fails sound = fails.1 (sound_parts n sound).1
 unsound MoreShardsThanRows n fails sound = (sound_parts n sound).2 fails.2
@@ -62,7 +62,7 @@ stopped_none f (to_solve n rest) v stopped e = go (are_sound n) refl e
     go false is e = absurd cc
 
 -- only one test is the first to fail
-one_first : (f g : WordFault) (n : Numbers) → FailFirst f n → FailFirst g n → g ≡ f
+one_first : (f g : WordFault) (n : SettingsView) → FailFirst f n → FailFirst g n → g ≡ f
 one_first (Clap text) g n a b = absurd a
 one_first f (Clap text) n a b = absurd b
 one_first (NotPowerOfTwo Rows) (NotPowerOfTwo Rows) n a b = refl
@@ -82,7 +82,7 @@ one_stop f g (to_solve n rest) a b = one_first f g n a b
 -- all that the reading of the words promises
 pub record Promises (words : List Text) (r : Result Command WordsEnd) : Type 0 where
   pub command : IfOk r (λ command. command_of words ≡ Some (wish_of command))
-  pub refused : IfErr r (Refuses words)
+  pub refused : IfErr r (IsRefusalOf words)
   pub stopped : (fault : WordFault) → FailsFirst words fault → (r ≡ Err (Fault fault)) ⊎ (r ≡ Err NoMemory)
   pub complete : (wish : Wish) → command_of words ≡ Some wish → IsOkAnd r (λ command. wish_of command ≡ wish) ⊎ (r ≡ Err NoMemory)
 
@@ -93,11 +93,11 @@ promised_by_memory words = record { command = tt; refused = tt; stopped = λ f h
 same_wish : (a b : Wish) → Some a ≡ Some b → a ≡ b
 same_wish a b e = cc
 
--- an answer to what clap gave keeps them
-pub promised_by_answer : (words : List Text) (r : Result Command WordsEnd) → IsSomeAnd (given_of words) (λ wish. Answers wish r) → Promises words r
-promised_by_answer words r h = go (given_of words) refl h
+-- an outcome for what clap gave keeps them
+pub promised_by_outcome : (words : List Text) (r : Result Command WordsEnd) → IsSomeAnd (given_of words) (λ wish. IsOutcomeFor wish r) → Promises words r
+promised_by_outcome words r h = go (given_of words) refl h
   where
-    with : (w : Wish) (r : Result Command WordsEnd) → given_of words ≡ Some w → Answers w r → Promises words r
+    with : (w : Wish) (r : Result Command WordsEnd) → given_of words ≡ Some w → IsOutcomeFor w r → Promises words r
     with w (Ok c) is a =
         let means : command_of words ≡ Some (wish_of c) = ap (option_and_then sound_wish) is ∙ a in
         record {
@@ -114,7 +114,7 @@ promised_by_answer words r h = go (given_of words) refl h
       complete = λ v e. absurd (stopped_none g w v a (sym (ap (option_and_then sound_wish) is) ∙ e));
     }
       where
-        refuses : (g : WordFault) → FailsFirst words g → Refuses words (Fault g)
+        refuses : (g : WordFault) → FailsFirst words g → IsRefusalOf words (Fault g)
         refuses (Clap text) fails = λ taken. by_clap (given_of words) fails
           where
             by_clap : (o : Option Wish) → IsSomeAnd o (IsStoppedBy (Clap text)) → ⊥
@@ -124,12 +124,12 @@ promised_by_answer words r h = go (given_of words) refl h
         refuses (NotPowerOfTwo size) fails = fails
         refuses MoreShardsThanRows fails = fails
 
-    go : (o : Option Wish) → given_of words ≡ o → IsSomeAnd o (λ wish. Answers wish r) → Promises words r
+    go : (o : Option Wish) → given_of words ≡ o → IsSomeAnd o (λ wish. IsOutcomeFor wish r) → Promises words r
     go None is h = absurd h
     go (Some w) is h = with w r is h
 
 -- a refusal of clap's keeps them
-pub promised_by_clap : (words : List Text) (e : WordsEnd) → IsClapsOrMemory e → (e ≡ NoMemory) ⊎ (IsTaken words → ⊥) → Promises words (Err e)
+pub promised_by_clap : (words : List Text) (e : WordsEnd) → IsClapsOrMemory e → (e ≡ NoMemory) ⊎ (IsTakenByClap words → ⊥) → Promises words (Err e)
 promised_by_clap words e claps (inl is) = subst (λ (x : WordsEnd). Promises words (Err x)) (sym is) (promised_by_memory words)
 promised_by_clap words NoMemory claps (inr h) = promised_by_memory words
 promised_by_clap words (Fault (NotPowerOfTwo size)) claps (inr h) = absurd claps

@@ -1,6 +1,7 @@
 -- What a walk of clap's that finds no fault leaves: each value passed the parser of its argument, and each argument with
 -- a default has a row.
 use Rattle.std.proofs.Common.{◌≡◌, ◌∙◌, ◌<◌, ◌+◌, ◌&&◌, ◌||◌, not, ℕ, Bool, true, false, zero, suc, List, [], ◌∷◌, ◌++◌, Option, Some, None, refl, sym, ap, subst, arith, length, length-append, min, is_some, drop}
+use Rattle.std.proofs.lemmas.Option.{same_Some}
 use Rattle.std.specs.Prelude.{IsSomeAnd, option_and_then, option_map, nat_lt, if◌then◌else◌, find, fold, slice_get, encode_utf8}
 use Rattle.std.specs.Option.{option_map_or}
 use Rattle.std.specs.Str.{bytes_eq, chars}
@@ -97,11 +98,8 @@ IsFirst c a = arg_by_id c a.id ≡ Some a
 same_id : (x y : Text) → bytes_eq x y ≡ true → x ≡ y
 same_id x y e = (bytes_eq-Decides x y).0 e
 
-some_same : (a b : Rule) → Some a ≡ Some b → a ≡ b
-some_same a b e = cc
-
 same_rule : (c : List Rule) (a b : Rule) (id : Text) → IsFirst c a → id ≡ a.id → arg_by_id c id ≡ Some b → a ≡ b
-same_rule c a b id first is found = some_same a b (sym first ∙ (ap (arg_by_id c) (sym is) ∙ found))
+same_rule c a b id first is found = same_Some a b (sym first ∙ (ap (arg_by_id c) (sym is) ∙ found))
 
 use_values : (c : List Rule) (a : Rule) (s : ValueSource) (vs : List Text) (rows : List Row) → IsFirst c a
     → (keeps_values a ≡ true → values_fault a vs ≡ []) → (keeps_values a ≡ true → 0 < length vs)

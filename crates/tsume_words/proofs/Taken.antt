@@ -17,8 +17,10 @@ use Rattle.clap.specs.Kinds.{check_kinds}
 use Rattle.clap.specs.Simple.{App, Shape, argument_words, built, entered, label_of, names_of, rows_at, subcommand_of, is_simple}
 use Rattle.clap.specs.Walk.{Row, Rule, Text, answers_to, finished, is_empty, nothing_held, one_of, reading_by, rows_after, settled, walk, walk_from}
 use Rattle.clap.proofs.OnLiterals.{clap_on_literals}
+use Rattle.tsume_words.specs.declared.settings.TheConstants.{MOST_WORKERS, MOST_ROOM, LEAST_ROWS, MOST_ROWS, MOST_SHARDS}
+use Rattle.search_gate.specs.declared.expansions.TheConstants.{MOST_EXPANSIONS}
 use Rattle.tsume_words.proofs.Rows.{Each, each_found, HasRowIfDefault, IsFirst, RowIsRight, keeps_values, level_each, one_value, or_else_nil, rows_made}
-use Rattle.tsume_words.specs.Given.{HasFlag, HasNumber, IsForCommand, IsForSolve, IsTaken, all_words}
+use Rattle.tsume_words.specs.Given.{HasFlag, HasNumber, IsForCommand, IsForSolve, IsTakenByClap, all_words}
 use Rattle.tsume_words.specs.Line.{tsume_line}
 
 -- the command line is one of which clap's meaning says all
@@ -118,18 +120,18 @@ firsts = ((refl, (refl, (refl, (refl, (refl, (refl, (refl, tt))))))), ((refl, (r
 solve_given : (words : List Text) → Each (GivesValue (rows_after solve_shape.rules [] words)) solve_shape.rules → IsForSolve (rows_after solve_shape.rules [] words)
 unfolding tsume_line
 solve_given words all = record {
-  workers = number_given _ 1 64 _ all.0 refl refl refl;
-  expansions = number_given _ 1 1000000000 _ all.1.0 refl refl refl;
-  room = number_given _ 1 1400000 _ all.1.1.0 refl refl refl;
-  rows = number_given _ 16 1048576 _ all.1.1.1.0 refl refl refl;
-  shards = number_given _ 1 64 _ all.1.1.1.1.0 refl refl refl;
+  workers = number_given _ 1 MOST_WORKERS _ all.0 refl refl refl;
+  expansions = number_given _ 1 MOST_EXPANSIONS _ all.1.0 refl refl refl;
+  room = number_given _ 1 MOST_ROOM _ all.1.1.0 refl refl refl;
+  rows = number_given _ LEAST_ROWS MOST_ROWS _ all.1.1.1.0 refl refl refl;
+  shards = number_given _ 1 MOST_SHARDS _ all.1.1.1.1.0 refl refl refl;
   rest = flag_given _ _ all.1.1.1.1.1.0 refl refl refl;
 }
 
 check_given : (words : List Text) → Each (GivesValue (rows_after check_shape.rules [] words)) check_shape.rules
-    → HasNumber (codes "workers") 1 64 (rows_after check_shape.rules [] words)
+    → HasNumber (codes "workers") 1 MOST_WORKERS (rows_after check_shape.rules [] words)
 unfolding tsume_line
-check_given words all = number_given _ 1 64 _ all.0 refl refl refl
+check_given words all = number_given _ 1 MOST_WORKERS _ all.0 refl refl refl
 
 each_command : Each GivesIfFaultless (built tsume_line).subs
 unfolding tsume_line
@@ -167,7 +169,7 @@ faultless a words want each e =
         (p, is, subst IsForCommand (pair _ _ p got.4.name got.4.rows) given)
 
 -- where clap takes the words it gives one of the two commands
-pub taken_gives : (words : List Text) → IsTaken words
+pub taken_gives : (words : List Text) → IsTakenByClap words
     → (p : Text × List Row) × (subcommand_of tsume_line (all_words words) ≡ Some p) × IsForCommand p
 taken_gives words taken = faultless (built tsume_line) (argument_words tsume_line (all_words words)) wants each_command taken
 

@@ -7,11 +7,8 @@ use Rattle.std.specs.Str.Parse.{IsNumeral, ParsesUnsigned, digits_value, without
 use Rattle.clap.specs.Matches.{ReadsOne}
 use Rattle.clap.specs.Values.{IsUnsignedIn}
 use Rattle.clap.specs.Walk.{Row, Text, one_of}
-use Rattle.tsume_words.specs.Given.{HasNumber, IsReadable, number_of}
+use Rattle.tsume_words.specs.Given.{HasNumber, IsNumberGiven, number_of}
 use Rattle.tsume_words.specs.Sizes.{IsFromTo}
-
-pub some_same : (a b : ℕ) → Some a ≡ Some b → a ≡ b
-some_same a b e = cc
 
 -- a number that reads is the one that its text writes
 pub number_read : {E : Type 0} (G : List ℕ → Result ℕ E → Type 0) (o : Option Text) (r : Option ℕ) → ((t : Text) → o ≡ Some t → ReadsOne G t r)
@@ -31,7 +28,7 @@ readable_by low high None has = has
 readable_by low high (Some t) has = (has.0, has.1)
 
 -- an option's number can be read
-pub readable : (name : Text) (low high : ℕ) (found : List Row) → HasNumber name low high found → IsReadable name found
+pub readable : (name : Text) (low high : ℕ) (found : List Row) → HasNumber name low high found → IsNumberGiven name found
 readable name low high found has = readable_by low high (one_of name found) has
 
 within_by : (low high : ℕ) (o : Option Text) → IsSomeAnd o (IsUnsignedIn low high)

@@ -6,6 +6,8 @@ use Rattle.std.specs.Str.{bytes_eq}
 use Rattle.std.specs.Str.Parse.{IsNumeral, digits_value, without_leading_plus}
 use Rattle.clap.specs.Kinds.{Kinds}
 use Rattle.clap.specs.Words.{IsUnsignedIn, Row, Text, fault_of, one_of, subcommand_of}
+use Rattle.tsume_words.specs.declared.settings.TheConstants.{MOST_WORKERS, MOST_ROOM, LEAST_ROWS, MOST_ROWS, MOST_SHARDS}
+use Rattle.search_gate.specs.declared.expansions.TheConstants.{MOST_EXPANSIONS}
 use Rattle.tsume_words.specs.Line.{tsume_line}
 
 -- The words that clap reads are the program's name and then the user's.
@@ -17,8 +19,8 @@ abbrev pub clap_faults : List Text → Kinds
 clap_faults words = fault_of tsume_line (all_words words)
 
 -- Clap takes the words.
-abbrev pub IsTaken : List Text → Type 0
-IsTaken words = clap_faults words ≡ []
+abbrev pub IsTakenByClap : List Text → Type 0
+IsTakenByClap words = clap_faults words ≡ []
 
 -- The number that clap gives for an option: the one that the option's first text writes.
 abbrev pub number_of : Text → List Row → ℕ
@@ -29,7 +31,7 @@ abbrev pub is_flagged : Text → List Row → Bool
 is_flagged name rows = option_map_or (λ text. bytes_eq text (codes "true")) (one_of name rows) false
 
 -- The five numbers of a search.
-pub record Numbers : Type 0 where
+pub record SettingsView : Type 0 where
   pub workers : ℕ
   pub expansions : ℕ
   pub room : ℕ
@@ -39,12 +41,12 @@ pub record Numbers : Type 0 where
 -- What a command asks for: to solve, with its numbers and whether the rest is given to the defender; or to check, with
 -- its workers.
 pub data Wish : Type 0 where
-  to_solve : Numbers → Bool → Wish
+  to_solve : SettingsView → Bool → Wish
   to_check : ℕ → Wish
 
 -- The five numbers that clap gives for `solve`.
-abbrev pub numbers_of : List Row → Numbers
-numbers_of found = record {
+abbrev pub settings_of : List Row → SettingsView
+settings_of found = record {
   workers = number_of (codes "workers") found;
   expansions = number_of (codes "expansions") found;
   room = number_of (codes "room") found;
@@ -55,7 +57,7 @@ numbers_of found = record {
 -- What a command of this name asks for, by what clap found for it.
 abbrev pub wish_named : Text × List Row → Option Wish
 wish_named p =
-    if bytes_eq p.0 (codes "solve") then Some (to_solve (numbers_of p.1) (is_flagged (codes "rest") p.1))
+    if bytes_eq p.0 (codes "solve") then Some (to_solve (settings_of p.1) (is_flagged (codes "rest") p.1))
     else (if bytes_eq p.0 (codes "check") then Some (to_check (number_of (codes "workers") p.1)) else None)
 
 -- A wish stands where clap found no fault.
@@ -73,8 +75,8 @@ abbrev pub HasNumber : Text → ℕ → ℕ → List Row → Type 0
 HasNumber name low high found = IsSomeAnd (one_of name found) (IsUnsignedIn low high)
 
 -- Clap gives a number of 64 bits for the option of this name.
-abbrev pub IsReadable : Text → List Row → Type 0
-IsReadable name found = IsSomeAnd (one_of name found) (λ text. IsNumeral 10 (without_leading_plus text)
+abbrev pub IsNumberGiven : Text → List Row → Type 0
+IsNumberGiven name found = IsSomeAnd (one_of name found) (λ text. IsNumeral 10 (without_leading_plus text)
     × (digits_value 10 (without_leading_plus text) < 2 ^ 64))
 
 -- Clap says of the flag of this name whether it was found.
@@ -83,13 +85,13 @@ HasFlag name found = (one_of name found ≡ Some (codes "true")) ⊎ (one_of nam
 
 -- What clap gives for `solve`, each number in its range.
 pub record IsForSolve (found : List Row) : Type 0 where
-  pub workers : HasNumber (codes "workers") 1 64 found
-  pub expansions : HasNumber (codes "expansions") 1 1000000000 found
-  pub room : HasNumber (codes "room") 1 1400000 found
-  pub rows : HasNumber (codes "rows") 16 1048576 found
-  pub shards : HasNumber (codes "shards") 1 64 found
+  pub workers : HasNumber (codes "workers") 1 MOST_WORKERS found
+  pub expansions : HasNumber (codes "expansions") 1 MOST_EXPANSIONS found
+  pub room : HasNumber (codes "room") 1 MOST_ROOM found
+  pub rows : HasNumber (codes "rows") LEAST_ROWS MOST_ROWS found
+  pub shards : HasNumber (codes "shards") 1 MOST_SHARDS found
   pub rest : HasFlag (codes "rest") found
 
 -- What clap gives for one of the two commands, each number in its range.
 abbrev pub IsForCommand : Text × List Row → Type 0
-IsForCommand p = ((p.0 ≡ codes "solve") × IsForSolve p.1) ⊎ ((p.0 ≡ codes "check") × HasNumber (codes "workers") 1 64 p.1)
+IsForCommand p = ((p.0 ≡ codes "solve") × IsForSolve p.1) ⊎ ((p.0 ≡ codes "check") × HasNumber (codes "workers") 1 MOST_WORKERS p.1)

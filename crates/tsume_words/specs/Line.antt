@@ -1,4 +1,6 @@
 -- The command line that clap is given, in clap's own terms.
+use Rattle.tsume_words.specs.declared.settings.TheConstants.{MOST_WORKERS, MOST_ROOM, LEAST_ROWS, MOST_ROWS, MOST_SHARDS}
+use Rattle.search_gate.specs.declared.expansions.TheConstants.{MOST_EXPANSIONS}
 use Rattle.std.specs.Prelude.{ℕ, [], ◌∷◌, Some, codes, true}
 use Rattle.clap.specs.Words.{App, Rule, Text, new_app, new_rule, with_rule, with_subcommand}
 use Rattle.clap.specs.declared.builder.action.ArgAction.TheVariants.{Set, SetTrue}
@@ -16,23 +18,23 @@ number_option name low high default = record (new_rule name) {
 
 -- The workers are 1 to 64, and 1 where nothing is said.
 abbrev pub workers_option : Rule
-workers_option = number_option (codes "workers") 1 64 (codes "1")
+workers_option = number_option (codes "workers") 1 MOST_WORKERS (codes "1")
 
 -- The expansions are 1 to 1,000,000,000, and 1,000,000 where nothing is said.
 abbrev pub expansions_option : Rule
-expansions_option = number_option (codes "expansions") 1 1000000000 (codes "1000000")
+expansions_option = number_option (codes "expansions") 1 MOST_EXPANSIONS (codes "1000000")
 
 -- The room is 1 to 1,400,000 facts, and 1,048,576 where nothing is said.
 abbrev pub room_option : Rule
-room_option = number_option (codes "room") 1 1400000 (codes "1048576")
+room_option = number_option (codes "room") 1 MOST_ROOM (codes "1048576")
 
 -- The rows are 16 to 1,048,576, and 16,384 where nothing is said.
 abbrev pub rows_option : Rule
-rows_option = number_option (codes "rows") 16 1048576 (codes "16384")
+rows_option = number_option (codes "rows") LEAST_ROWS MOST_ROWS (codes "16384")
 
 -- The shards are 1 to 64, and 16 where nothing is said.
 abbrev pub shards_option : Rule
-shards_option = number_option (codes "shards") 1 64 (codes "16")
+shards_option = number_option (codes "shards") 1 MOST_SHARDS (codes "16")
 
 -- The flag `--rest` takes no value.
 abbrev pub rest_flag : Rule

@@ -3,7 +3,7 @@ use Rattle.std.specs.Prelude.{◌≡◌, ◌<◌, ℕ, Result, Ok, Err, String, 
 use Rattle.std.specs.Prelude.{if◌then◌else◌, nat_le, IsSomeAnd, ⊤}
 use Rattle.std.specs.Int.{IsPowerOfTwo, is_power_of_two}
 use Rattle.clap.specs.Words.{Text}
-use Rattle.tsume_words.specs.Given.{Numbers, Wish, given_of, IsTaken}
+use Rattle.tsume_words.specs.Given.{SettingsView, Wish, given_of, IsTakenByClap}
 use Rattle.tsume_words.specs.Given.Wish.{to_solve, to_check}
 use Rattle.tsume_words.specs.declared.command.Command.{Command}
 use Rattle.tsume_words.specs.declared.command.Command.TheVariants.{Solve, Check}
@@ -15,12 +15,12 @@ use Rattle.tsume_words.specs.declared.faults.WordsEnd.TheVariants.{Fault, NoMemo
 use Rattle.tsume_words.specs.declared.settings.Settings.{Settings}
 
 -- The rows and the shards are powers of two, and there are no more shards than rows.
-abbrev pub are_sound : Numbers → Bool
+abbrev pub are_sound : SettingsView → Bool
 are_sound n = is_power_of_two n.rows && (is_power_of_two n.shards && nat_le n.shards n.rows)
 
 -- A wish to solve stands where its numbers are sound, a wish to check always.
 abbrev pub sound_wish : Wish → Option Wish
-sound_wish (to_solve numbers rest) = if are_sound numbers then Some (to_solve numbers rest) else None
+sound_wish (to_solve settings rest) = if are_sound settings then Some (to_solve settings rest) else None
 sound_wish (to_check workers) = Some (to_check workers)
 
 -- What the words ask for: none where clap refuses them or one of the three tests after it fails.
@@ -28,10 +28,10 @@ abbrev pub command_of : List Text → Option Wish
 command_of words = option_and_then sound_wish (given_of words)
 
 -- The numbers of settings.
-abbrev pub numbers_in : Settings → Numbers
-numbers_in s = record {
+abbrev pub settings_in : Settings → SettingsView
+settings_in s = record {
   workers = s.workers;
-  expansions = s.expansions;
+  expansions = s.expansions.count;
   room = s.room;
   rows = s.rows;
   shards = s.shards;
@@ -39,7 +39,7 @@ numbers_in s = record {
 
 -- What a command asks for.
 abbrev pub wish_of : Command → Wish
-wish_of (Solve settings rest) = to_solve (numbers_in settings) rest
+wish_of (Solve settings rest) = to_solve (settings_in settings) rest
 wish_of (Check workers) = to_check workers
 
 -- By how many workers a command is to be done.
@@ -49,7 +49,7 @@ workers_of (Check workers) = workers
 
 -- The numbers fail this test and pass those before it: the rows are a power of two, then the shards, and then there are
 -- no more shards than rows.
-abbrev pub FailFirst : WordFault → Numbers → Type 0
+abbrev pub FailFirst : WordFault → SettingsView → Type 0
 FailFirst (NotPowerOfTwo Rows) n = ¬ IsPowerOfTwo n.rows
 FailFirst (NotPowerOfTwo Shards) n = IsPowerOfTwo n.rows × (¬ IsPowerOfTwo n.shards)
 FailFirst MoreShardsThanRows n = IsPowerOfTwo n.rows × IsPowerOfTwo n.shards × (n.rows < n.shards)
@@ -57,18 +57,18 @@ FailFirst (Clap text) n = ⊥
 
 -- The wish is to solve with numbers of which this test is the first to fail.
 abbrev pub IsStoppedBy : WordFault → Wish → Type 0
-IsStoppedBy fault (to_solve numbers rest) = FailFirst fault numbers
+IsStoppedBy fault (to_solve settings rest) = FailFirst fault settings
 IsStoppedBy fault (to_check workers) = ⊥
 
 -- Clap takes the words, and this test after it is the first to fail.
 abbrev pub FailsFirst : List Text → WordFault → Type 0
 FailsFirst words fault = IsSomeAnd (given_of words) (IsStoppedBy fault)
 
--- The answer to a wish that clap gave: the command, where its numbers are sound, or else the first test that fails.
-abbrev pub Answers : Wish → Result Command WordsEnd → Type 0
-Answers wish (Ok command) = sound_wish wish ≡ Some (wish_of command)
-Answers wish (Err (Fault fault)) = IsStoppedBy fault wish
-Answers wish (Err NoMemory) = ⊥
+-- The outcome for a wish that clap gave: the command, where its numbers are sound, or else the first test that fails.
+abbrev pub IsOutcomeFor : Wish → Result Command WordsEnd → Type 0
+IsOutcomeFor wish (Ok command) = sound_wish wish ≡ Some (wish_of command)
+IsOutcomeFor wish (Err (Fault fault)) = IsStoppedBy fault wish
+IsOutcomeFor wish (Err NoMemory) = ⊥
 
 -- The text that an error of clap becomes, or want of memory.
 abbrev pub IsClapsOrMemory : WordsEnd → Type 0
@@ -83,7 +83,7 @@ texts_of words = map string_bytes words
 
 -- What a refusal says of the words: clap's own says that clap refuses them, another that its test is the first to fail;
 -- want of memory says nothing.
-abbrev pub Refuses : List Text → WordsEnd → Type 0
-Refuses words (Fault (Clap text)) = ¬ IsTaken words
-Refuses words (Fault fault) = FailsFirst words fault
-Refuses words NoMemory = ⊤
+abbrev pub IsRefusalOf : List Text → WordsEnd → Type 0
+IsRefusalOf words (Fault (Clap text)) = ¬ IsTakenByClap words
+IsRefusalOf words (Fault fault) = FailsFirst words fault
+IsRefusalOf words NoMemory = ⊤

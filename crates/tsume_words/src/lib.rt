@@ -15,7 +15,7 @@ mod settings;
 pub use command::Command;
 pub use faults::{Size, WordFault, WordsEnd};
 pub use reading::read_words;
-pub use settings::Settings;
+pub use settings::{LEAST_ROWS, MOST_ROOM, MOST_ROWS, MOST_SHARDS, MOST_WORKERS, Settings};
 
 #[cfg(test)]
 mod tests;

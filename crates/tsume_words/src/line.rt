@@ -5,8 +5,10 @@ ghost use Rattle.clap.specs.declared.builder.command.Command.TheViews.{out-Comma
 ghost use Rattle.tsume_words.specs.Line.{number_option, workers_option, rest_flag, solve_line};
 ghost use Rattle.tsume_words.specs.Line.{check_line, tsume_line};
 
+use crate::settings::{LEAST_ROWS, MOST_ROOM, MOST_ROWS, MOST_SHARDS, MOST_WORKERS};
 use clap::builder::ValueParser;
 use clap::{Arg, ArgAction, Command};
+use search_gate::MOST_EXPANSIONS;
 use std::alloc::{AllocError, Global};
 
 // An option that takes one number of a range.
@@ -34,7 +36,7 @@ fn workers_option<'a>(alloc: Global, help: &'a str) -> Arg<'a>
     ensures rule { rule_of result ≡ workers_option }
     ensures local { result.global ≡ false }
 {
-    number_option(alloc, "workers", 1, 64, "1", help)
+    number_option(alloc, "workers", 1, MOST_WORKERS, "1", help)
 }
 
 fn rest_flag<'a>(alloc: Global) -> Arg<'a>
@@ -59,7 +61,7 @@ fn solve_command<'a>(alloc: Global) -> Result<Command<'a>, AllocError>
         alloc,
         "expansions",
         1,
-        1_000_000_000,
+        MOST_EXPANSIONS,
         "1000000",
         "Positions whose moves may be generated before giving up (1 to 1000000000)",
     );
@@ -67,15 +69,15 @@ fn solve_command<'a>(alloc: Global) -> Result<Command<'a>, AllocError>
         alloc,
         "room",
         1,
-        1_400_000,
+        MOST_ROOM,
         "1048576",
         "Facts that a certificate may be made of (1 to 1400000)",
     );
     let rows = number_option(
         alloc,
         "rows",
-        16,
-        1_048_576,
+        LEAST_ROWS,
+        MOST_ROWS,
         "16384",
         "Rows of the transposition table, a power of two (16 to 1048576)",
     );
@@ -83,7 +85,7 @@ fn solve_command<'a>(alloc: Global) -> Result<Command<'a>, AllocError>
         alloc,
         "shards",
         1,
-        64,
+        MOST_SHARDS,
         "16",
         "Parts of the transposition table that are locked each by itself, a power of two (1 to 64), at most the \
          rows",

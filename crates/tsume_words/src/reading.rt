@@ -3,18 +3,21 @@ ghost use Rattle.std.specs.Prelude.{◌≡◌, ◌⊎◌, ◌↔◌, IfOk, IfErr
 ghost use Rattle.std.specs.Prelude.{option_and_then};
 ghost use Rattle.std.specs.Int.{IsPowerOfTwo, is_power_of_two};
 ghost use Rattle.clap.specs.Words.{found_of, kind_of, rows_of, subcommand_rows_of};
-ghost use Rattle.tsume_words.specs.Given.{HasFlag, HasNumber, IsForCommand, IsForSolve, IsReadable, Wish};
-ghost use Rattle.tsume_words.specs.Given.{all_words, is_flagged, number_of, numbers_of, wish_named};
+ghost use Rattle.tsume_words.specs.Given.{HasFlag, HasNumber, IsForCommand, IsForSolve, IsNumberGiven, Wish};
+ghost use Rattle.tsume_words.specs.Given.{all_words, is_flagged, number_of, settings_of, wish_named};
 ghost use Rattle.tsume_words.specs.Given.Wish.{to_solve};
-ghost use Rattle.tsume_words.specs.Meaning.{Answers, FailsFirst, IsClapsOrMemory, Refuses, command_of};
+ghost use Rattle.tsume_words.specs.Meaning.{IsOutcomeFor, FailsFirst, IsClapsOrMemory, IsRefusalOf, command_of};
 ghost use Rattle.tsume_words.specs.Meaning.{texts_of, wish_of, workers_of};
 ghost use Rattle.tsume_words.specs.Sizes.{IsFromTo};
 ghost use Rattle.tsume_words.specs.declared.faults.WordFault.{WordFault};
+ghost use Rattle.tsume_words.specs.declared.settings.TheConstants.{MOST_WORKERS, MOST_ROOM};
+ghost use Rattle.search_gate.specs.declared.expansions.TheConstants.{MOST_EXPANSIONS};
 
 use crate::line::command_line;
 use crate::{Command, Settings, Size, WordFault, WordsEnd};
 use clap::ArgMatches;
 use clap::error::ErrorKind;
+use search_gate::Expansions;
 use std::alloc::{AllocError, Global};
 
 /// The command that the words ask for; they are the words after the program's name.
@@ -26,10 +29,10 @@ pub fn read_words(alloc: Global, words: Vec<String>) -> Result<Command, WordsEnd
     ensures command { IfOk result (λ command. command_of (texts_of words.items) ≡ Some (wish_of command)) }
 
     // By 1 to 64 workers, to check as to solve.
-    ensures workers { IfOk result (λ command. IsFromTo 1 64 (workers_of command)) }
+    ensures workers { IfOk result (λ command. IsFromTo 1 MOST_WORKERS (workers_of command)) }
 
     // Clap's fault comes only where clap refuses the words, each other only where its test is the first to fail.
-    ensures refused { IfErr result (Refuses (texts_of words.items)) }
+    ensures refused { IfErr result (IsRefusalOf (texts_of words.items)) }
 
     // And each comes where its test is the first to fail, but for want of memory.
     ensures stopped { (fault : WordFault) → FailsFirst (texts_of words.items) fault
@@ -74,9 +77,9 @@ fn refusal(alloc: Global, error: &clap::Error) -> WordsEnd
 // The command that clap found, tested.
 fn asked(matches: &ArgMatches<'_>) -> Result<Command, WordsEnd>
     requires { IsSomeAnd (subcommand_rows_of matches.now) IsForCommand }
-    ensures answer { IsSomeAnd (option_and_then wish_named (subcommand_rows_of matches.now))
-        (λ wish. Answers wish result) }
-    ensures workers { IfOk result (λ command. IsFromTo 1 64 (workers_of command)) }
+    ensures outcome { IsSomeAnd (option_and_then wish_named (subcommand_rows_of matches.now))
+        (λ wish. IsOutcomeFor wish result) }
+    ensures workers { IfOk result (λ command. IsFromTo 1 MOST_WORKERS (workers_of command)) }
 {
     match matches.subcommand_matches("solve") {
         Some(given) => solve(given),
@@ -88,25 +91,34 @@ fn asked(matches: &ArgMatches<'_>) -> Result<Command, WordsEnd>
 
 // The number that clap gives for the option of this name.
 fn number(given: &ArgMatches<'_>, name: &str) -> u64
-    requires { IsReadable name.now (rows_of (found_of given.now)) }
+    requires { IsNumberGiven name.now (rows_of (found_of given.now)) }
     ensures { result ≡ number_of name.now (rows_of (found_of given.now)) }
 {
     given.get_one::<u64>(name).unwrap()
 }
 
 fn workers(given: &ArgMatches<'_>) -> u32
-    requires { HasNumber (codes "workers") 1 64 (rows_of (found_of given.now)) }
+    requires { HasNumber (codes "workers") 1 MOST_WORKERS (rows_of (found_of given.now)) }
     ensures number { result ≡ number_of (codes "workers") (rows_of (found_of given.now)) }
-    ensures range { IsFromTo 1 64 result }
+    ensures range { IsFromTo 1 MOST_WORKERS result }
 {
     number(given, "workers") as u32
 }
 
 fn room(given: &ArgMatches<'_>) -> u32
-    requires { HasNumber (codes "room") 1 1400000 (rows_of (found_of given.now)) }
+    requires { HasNumber (codes "room") 1 MOST_ROOM (rows_of (found_of given.now)) }
     ensures { result ≡ number_of (codes "room") (rows_of (found_of given.now)) }
 {
     number(given, "room") as u32
+}
+
+fn expansions(given: &ArgMatches<'_>) -> Expansions
+    requires { HasNumber (codes "expansions") 1 MOST_EXPANSIONS (rows_of (found_of given.now)) }
+    ensures { result.count ≡ number_of (codes "expansions") (rows_of (found_of given.now)) }
+{
+    Expansions {
+        count: number(given, "expansions"),
+    }
 }
 
 // Whether clap found `--rest`.
@@ -128,12 +140,12 @@ fn is_power_of_two(number: u64) -> bool
 // What clap gives for `solve`, tested.
 fn solve(given: &ArgMatches<'_>) -> Result<Command, WordsEnd>
     requires { IsForSolve (rows_of (found_of given.now)) }
-    ensures answer { let found = rows_of (found_of given.now) in
-        Answers (to_solve (numbers_of found) (is_flagged (codes "rest") found)) result }
-    ensures workers { IfOk result (λ command. IsFromTo 1 64 (workers_of command)) }
+    ensures outcome { let found = rows_of (found_of given.now) in
+        IsOutcomeFor (to_solve (settings_of found) (is_flagged (codes "rest") found)) result }
+    ensures workers { IfOk result (λ command. IsFromTo 1 MOST_WORKERS (workers_of command)) }
 {
     let workers = workers(given);
-    let expansions = number(given, "expansions");
+    let expansions = expansions(given);
     let room = room(given);
     let rows = number(given, "rows");
     let shards = number(given, "shards");

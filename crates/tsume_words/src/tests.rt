@@ -161,6 +161,7 @@ fn meaning(alloc: Global, line: &str) -> Result<String, AllocError> {
                 rows,
                 shards,
             } = settings;
+            let expansions = expansions.count;
             format!(in alloc; "solve {workers} {expansions} {room} {rows} {shards} {rest}")
         }
         Ok(Command::Check { workers }) => format!(in alloc; "check {workers}"),

@@ -1,3 +1,4 @@
+-- The USI protocol.
 pub mod MoveText
 pub mod Padded
 pub mod Lines

@@ -6,12 +6,12 @@ use Rattle.board_core.specs.Text.{HasText}
 use Rattle.usi_text.specs.MoveText.{move_text}
 
 -- A space and the move.
-abbrev pub spaced : Move → List ℕ
-spaced m = 32 ∷ move_text m
+abbrev pub spaced_move : Move → List ℕ
+spaced_move m = 32 ∷ move_text m
 
 -- The answer that these moves mate: the word, then each move behind a space; no line feed.
 abbrev pub mate_text : List Move → List ℕ
-mate_text ms = codes "checkmate" ++ flat_map spaced ms
+mate_text ms = codes "checkmate" ++ flat_map spaced_move ms
 
 -- The answer that there is no mate; no line feed.
 abbrev pub nomate_text : List ℕ

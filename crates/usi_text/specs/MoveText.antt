@@ -1,13 +1,13 @@
 -- The texts of squares and moves (USI protocol: moves).
 use Rattle.std.specs.Prelude.{◌≡◌, ◌+◌, ℕ, List, [], ◌∷◌, ◌++◌, Bool, true, false, Option, Some, None}
-use Rattle.board_core.specs.Square.{file_of, rank_of}
+use Rattle.board_core.specs.Square.{file_of, row_of}
 use Rattle.board_core.specs.Text.{kind_letter, HasText}
 use Rattle.board_core.specs.declared.moves.Move.{Move}
 use Rattle.board_core.specs.declared.moves.Move.TheVariants as moves
 
--- A square: the digit of its file, 1 to 9, and the small letter of its rank, a to i.
+-- A square: the digit of its file, 1 to 9, and the small letter of its row, a to i.
 abbrev pub square_text : ℕ → List ℕ
-square_text square = (48 + file_of square) ∷ (96 + rank_of square) ∷ []
+square_text square = (48 + file_of square) ∷ (96 + row_of square) ∷ []
 
 -- What ends a board move: a plus where it promotes, else nothing.
 abbrev pub promotion_text : Bool → List ℕ
@@ -25,5 +25,5 @@ IsRead bytes (Some m) = HasText m × (bytes ≡ move_text m)
 IsRead bytes None = (m : Move) → HasText m → bytes ≡ move_text m → ⊥
 
 -- A law: no two moves have one text.
-abbrev pub TextsApart : Type 0
-TextsApart = (a b : Move) → move_text a ≡ move_text b → a ≡ b
+abbrev pub MoveTextsApart : Type 0
+MoveTextsApart = (a b : Move) → move_text a ≡ move_text b → a ≡ b

@@ -13,11 +13,11 @@ in_use bytes true = bytes
 in_use bytes false = take 4 bytes
 
 -- The five bytes of which these are in use.
-abbrev pub padded : List ℕ → List ℕ
-padded xs = if nat_lt 4 (length xs) then xs else xs ++ 0 ∷ []
+abbrev pub padded_bytes : List ℕ → List ℕ
+padded_bytes xs = if nat_lt 4 (length xs) then xs else xs ++ 0 ∷ []
 
 -- Padding gives the five bytes back.
-pub padded_again : (bytes : List ℕ) (long : Bool) → IsPadded bytes long → padded (in_use bytes long) ≡ bytes
+pub padded_again : (bytes : List ℕ) (long : Bool) → IsPadded bytes long → padded_bytes (in_use bytes long) ≡ bytes
 padded_again (a ∷ b ∷ c ∷ d ∷ e ∷ []) true h = refl
 padded_again (a ∷ b ∷ c ∷ d ∷ zero ∷ []) false h = refl
 padded_again bytes long h = absurd h

@@ -10,9 +10,10 @@ mod lines;
 mod read;
 mod write;
 
-pub use board_core::NoMemory;
 pub use laws::move_laws;
-pub use lines::{mate_line, nomate_line, timeout_line};
+pub use lines::{
+    append_mate_line, append_nomate_line, append_timeout_line, mate_line, nomate_line, timeout_line,
+};
 pub use read::read_move;
 pub use write::{MoveText, write_move};
 

@@ -7,14 +7,14 @@ ghost use Rattle.board_core.specs.declared.piece.Kind.TheVariants.{King};
 ghost use Rattle.board_core.specs.Text.{kind_letter, HasText};
 ghost use Rattle.usi_text.specs.MoveText.{square_text, promotion_text, move_text, IsRead};
 
-use board_core::{Kind, Move, Square};
+use board_core::{Kind, Move, Square, value_laws};
 
-fn square_of(file: u8, rank: u8) -> Option<Square>
-    ensures found { IfSome result (λ s. square_text s.number ≡ file ∷ rank ∷ []) }
-    ensures none { IfNone result ((s : Square) → square_text s.number ≡ file ∷ rank ∷ [] → ⊥) }
+fn square_of(file: u8, row: u8) -> Option<Square>
+    ensures found { IfSome result (λ s. square_text s.number ≡ file ∷ row ∷ []) }
+    ensures none { IfNone result ((s : Square) → square_text s.number ≡ file ∷ row ∷ [] → ⊥) }
 {
-    if matches!(file, b'1'..=b'9') && matches!(rank, b'a'..=b'i') {
-        Some(Square::on(file - b'0', rank - b'a' + 1))
+    if matches!(file, b'1'..=b'9') && matches!(row, b'a'..=b'i') {
+        Some(Square::on(file - b'0', row - b'a' + 1))
     } else {
         None
     }
@@ -24,15 +24,9 @@ fn dropped_kind(letter: u8) -> Option<Kind>
     ensures found { IfSome result (λ k. (kind_letter k ≡ letter) × (k ≢ King)) }
     ensures none { IfNone result ((k : Kind) → k ≢ King → kind_letter k ≡ letter → ⊥) }
 {
-    match letter {
-        b'P' => Some(Kind::Pawn),
-        b'L' => Some(Kind::Lance),
-        b'N' => Some(Kind::Knight),
-        b'S' => Some(Kind::Silver),
-        b'G' => Some(Kind::Gold),
-        b'B' => Some(Kind::Bishop),
-        b'R' => Some(Kind::Rook),
-        _ => None,
+    match Kind::of_letter(letter) {
+        Some(Kind::King) => None,
+        found => found,
     }
 }
 
@@ -49,11 +43,11 @@ fn board_move(f: u8, r: u8, g: u8, s: u8, promote: bool) -> Option<Move>
     Some(Move::Board { from, to, promote })
 }
 
-fn drop_move(letter: u8, file: u8, rank: u8) -> Option<Move>
-    ensures { IsRead (letter ∷ 42 ∷ file ∷ rank ∷ []) result }
+fn drop_move(letter: u8, file: u8, row: u8) -> Option<Move>
+    ensures { IsRead (letter ∷ 42 ∷ file ∷ row ∷ []) result }
 {
     let kind = dropped_kind(letter)?;
-    let to = square_of(file, rank)?;
+    let to = square_of(file, row)?;
     Some(Move::Drop { kind, to })
 }
 
@@ -61,7 +55,7 @@ fn move_of(bytes: &[u8]) -> Option<Move>
     ensures { IsRead bytes.now result }
 {
     match bytes {
-        [letter, b'*', file, rank] => drop_move(*letter, *file, *rank),
+        [letter, b'*', file, row] => drop_move(*letter, *file, *row),
         [f, r, g, s] => board_move(*f, *r, *g, *s, false),
         [f, r, g, s, b'+'] => board_move(*f, *r, *g, *s, true),
         _ => None,
@@ -74,5 +68,7 @@ pub fn read_move(bytes: &[u8]) -> Option<Move>
     ensures exact { IsRead bytes.now result }
     ensures again { (m : Move) → HasText m → bytes.now ≡ move_text m → result ≡ Some m }
 {
+    // No two squares have one number, and no two kinds one letter.
+    value_laws();
     move_of(bytes)
 }

@@ -5,7 +5,7 @@ use board_core::{Kind, Move, Square};
 use std::process::Abort;
 use std::test::Fail;
 
-// Texts, and the moves that they are by the USI protocol. A square's number is 9 * (file - 1) + (rank - 1).
+// Texts, and the moves that they are by the USI protocol. A square's number is 9 * (file - 1) + (row - 1).
 #[test]
 fn moves_are_read_and_written(rt: HostRuntime) -> Result<(), Fail> {
     let table = [

@@ -1,10 +1,10 @@
 // Moves as texts.
 ghost use Rattle.std.specs.Prelude.{◌≡◌, ◌≢◌, ◌≤◌, ◌+◌, List, ℕ, [], ◌∷◌, length};
-ghost use Rattle.board_core.specs.Square.{file_of, rank_of};
+ghost use Rattle.board_core.specs.Square.{file_of, row_of};
 ghost use Rattle.board_core.specs.declared.moves.Move.{Move};
 ghost use Rattle.usi_text.specs.MoveText.{move_text};
 
-use board_core::{Move, Square};
+use board_core::{Move, Square, value_laws};
 use std::fmt::{self, Write};
 use std::marker::Model;
 
@@ -18,7 +18,7 @@ pub struct MoveText {
 
 impl Model for MoveText {
     ghost use Rattle.std.specs.Prelude.{ℕ, List, length, nat_lt};
-    ghost use Rattle.usi_text.specs.Padded.{IsPadded, in_use, padded, padded_again, long_again};
+    ghost use Rattle.usi_text.specs.Padded.{IsPadded, in_use, padded_bytes, padded_again, long_again};
 
     ghost Value = { List ℕ };
 
@@ -26,7 +26,7 @@ impl Model for MoveText {
 
     ghost invariant = { λ t. IsPadded t.bytes t.long };
 
-    ghost inverse = { λ xs. record { bytes = padded xs; long = nat_lt 4 (length xs) } };
+    ghost inverse = { λ xs. record { bytes = padded_bytes xs; long = nat_lt 4 (length xs) } };
 
     ghost inverse_ok = { λ t h i. record {
       bytes = padded_again t.bytes t.long h i;
@@ -63,10 +63,10 @@ fn file_digit(square: Square) -> u8
     b'0' + square.file()
 }
 
-fn rank_letter(square: Square) -> u8
-    ensures { result ≡ 96 + rank_of square.number }
+fn row_letter(square: Square) -> u8
+    ensures { result ≡ 96 + row_of square.number }
 {
-    b'a' - 1 + square.rank()
+    b'a' - 1 + square.row()
 }
 
 fn text_of(m: Move) -> MoveText
@@ -76,21 +76,21 @@ fn text_of(m: Move) -> MoveText
         Move::Board { from, to, promote } => MoveText {
             bytes: [
                 file_digit(from),
-                rank_letter(from),
+                row_letter(from),
                 file_digit(to),
-                rank_letter(to),
+                row_letter(to),
                 if promote { b'+' } else { 0 },
             ],
             long: promote,
         },
         Move::Drop { kind, to } => MoveText {
-            bytes: [kind.letter(), b'*', file_digit(to), rank_letter(to), 0],
+            bytes: [kind.letter(), b'*', file_digit(to), row_letter(to), 0],
             long: false,
         },
     }
 }
 
-/// The text of a move: origin and destination, each as the digit of its file and the letter of its rank, and a plus where
+/// The text of a move: origin and destination, each as the digit of its file and the letter of its row, and a plus where
 /// it promotes, as `8h2b+`; or the letter of the dropped kind, a star and the square, as `G*5b` (USI protocol: moves).
 ///
 /// No other move has the same text. A board move to where it began and a drop of a king have no text in the protocol: what
@@ -99,5 +99,7 @@ pub fn write_move(m: Move) -> MoveText
     ensures text { result ≡ move_text m }
     ensures apart { (other : Move) → move_text other ≡ result → other ≡ m }
 {
+    // No two squares have one number, and no two kinds one letter.
+    value_laws();
     text_of(m)
 }

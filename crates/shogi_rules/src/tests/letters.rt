@@ -24,18 +24,18 @@ fn side(letter: u8) -> Side {
     }
 }
 
-// The square of a file from 1 to 9 and a rank from 1 to 9.
-fn square(rt: &impl Abort, file: u8, rank: u8) -> Square {
+// The square of a file from 1 to 9 and a row from 1 to 9.
+fn square(rt: &impl Abort, file: u8, row: u8) -> Square {
     assert!(rt;
-        1 <= file && file <= 9 && 1 <= rank && rank <= 9,
-        "square {file} {rank}"
+        1 <= file && file <= 9 && 1 <= row && row <= 9,
+        "square {file} {row}"
     );
-    Square::on(file, rank)
+    Square::on(file, row)
 }
 
 // The square of a digit and a letter, as 5 and b.
-pub(super) fn named(rt: &impl Abort, file: u8, rank: u8) -> Square {
-    square(rt, file.wrapping_sub(b'0'), rank.wrapping_sub(b'`'))
+pub(super) fn named(rt: &impl Abort, file: u8, row: u8) -> Square {
+    square(rt, file.wrapping_sub(b'0'), row.wrapping_sub(b'`'))
 }
 
 pub(super) fn by(rt: &impl Abort, text: &str) -> Move {
@@ -58,18 +58,18 @@ pub(super) fn by(rt: &impl Abort, text: &str) -> Move {
 
 fn cells(rt: &impl Abort, board: &str) -> [Option<Piece>; 81] {
     let mut cells = [None; 81];
-    let (mut file, mut rank, mut promoted) = (9u8, 1u8, false);
+    let (mut file, mut row, mut promoted) = (9u8, 1u8, false);
     for byte in board.bytes() {
         match byte {
             b'/' => {
                 file = 9;
-                rank = rank.wrapping_add(1);
+                row = row.wrapping_add(1);
             }
             b'+' => promoted = true,
             b'1'..=b'9' => file = file.wrapping_sub(byte - b'0'),
             letter => {
                 let kind = kind(rt, letter);
-                cells[square(rt, file, rank).number as usize] = Some(Piece {
+                cells[square(rt, file, row).number as usize] = Some(Piece {
                     kind,
                     promoted: promoted && kind.can_promote(),
                     side: side(letter),

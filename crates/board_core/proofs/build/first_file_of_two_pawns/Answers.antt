@@ -1,5 +1,6 @@
 use Rattle.std.proofs.Common.{arith, below_more}
-use Rattle.board_core.proofs.Faults.{each_side, two_pawns_within}
+use Rattle.board_core.proofs.EachKind.{each_side}
+use Rattle.board_core.proofs.Faults.{two_pawns_within}
 use Rattle.board_core.proofs.build.first_file_of_two_pawns.Goals as goal
 
 pub loop-file-preserved : goal.loop-file-preserved

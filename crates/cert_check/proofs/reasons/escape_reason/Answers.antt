@@ -1,13 +1,14 @@
-use Rattle.std.proofs.Common.{arith, sym, subst}
+use Rattle.std.proofs.Common.{Contains, arith, sym, subst}
 use Rattle.board_core.specs.Order.{Lists}
 use Rattle.shogi_rules.specs.Tsume.{IsCheck}
-use Rattle.cert_check.specs.Reasons.{IsAnsweredInto}
-use Rattle.cert_check.proofs.Listing.{held_at, more}
+use Rattle.mate_def.specs.Mate.{HasEvasionTo}
+use Rattle.cert_check.proofs.Listing.{held_at}
+use Rattle.list_laws.proofs.Standing.{each_more}
 use Rattle.cert_check.proofs.Entries.{first_unanswered, all_answered}
 use Rattle.cert_check.proofs.reasons.escape_reason.Goals as goal
 
-pub is_answered-requires-clause-check : goal.is_answered-requires-clause-check
-is_answered-requires-clause-check c =
+pub has_evasion_back-requires-clause-check : goal.has_evasion_back-requires-clause-check
+has_evasion_back-requires-clause-check c =
     held_at (IsCheck c.args.problem.now.position.side c.args.position.now) c.deref-check-items.result.now
     (subst (Lists (IsCheck c.args.problem.now.position.side c.args.position.now)) (sym c.deref-check-items.ensures.value) c.in_ok-checks.ensures)
     c.loop-check.check-index c.check-item.result (omega arith) c.check-item.is
@@ -18,14 +19,14 @@ returns-then-not-branch c = λ positions places.
     c.check-item.result
     (subst (Lists (IsCheck c.args.problem.now.position.side c.args.position.now)) (sym c.deref-check-items.ensures.value) c.in_ok-checks.ensures)
     (omega arith) c.check-item.is
-    (λ w. let e = (c.in_ok-is_answered.ensures positions places).1 w in cc)
+    (λ w. let e = (c.in_ok-has_evasion_back.ensures positions places).1 w in cc)
     (c.loop-check.invariant positions places)
 
 pub loop-check-preserved : goal.loop-check-preserved
 loop-check-preserved c = λ positions places.
-    more (IsAnsweredInto positions c.args.problem.now.position.side c.args.position.now)
+    each_more (HasEvasionTo c.args.problem.now.position.side (Contains positions) c.args.position.now)
     c.deref-check-items.result.now c.loop-check.check-index c.check-item.result (omega arith) c.check-item.is
-    ((c.in_ok-is_answered.ensures positions places).0 c.if-not-branch.false)
+    ((c.in_ok-has_evasion_back.ensures positions places).0 c.if-not-branch.false)
     (c.loop-check.invariant positions places)
 
 pub returns : goal.returns

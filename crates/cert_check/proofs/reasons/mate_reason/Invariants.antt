@@ -4,6 +4,6 @@ use Rattle.shogi_rules.specs.Rules.{after}
 use Rattle.cert_check.specs.Valid.{IsListedBelow}
 use Rattle.cert_check.proofs.reasons.mate_reason.Given as goal
 
-abbrev pub invariant-loop-answer : goal.invariant-loop-answer
-invariant-loop-answer l = (k : ℕ) (a : Move) → k < l.answer-index → get_or l.answer-items k a ≡ a
-    → IsListedBelow l.entries l.entry.rank (after l.checked a)
+abbrev pub invariant-loop-evasion : goal.invariant-loop-evasion
+invariant-loop-evasion l = (k : ℕ) (a : Move) → k < l.evasion-index → get_or l.evasion-items k a ≡ a
+    → IsListedBelow l.entries l.entry.rank.number (after l.checked a)

@@ -2,7 +2,7 @@ use Rattle.std.proofs.Common.{List, subst}
 use Rattle.std.specs.Prelude.{Option}
 use Rattle.board_core.specs.Board.{Board}
 use Rattle.cert_text.specs.declared.certificate.Certificate.{Certificate}
-use Rattle.cert_check.specs.Valid.{positions_in}
+use Rattle.cert_text.specs.Kinds.{positions_in}
 use Rattle.cert_check.specs.Places.{ArePlacesOf}
 use Rattle.cert_check.specs.Reasons.{IsFirstReason, IsHeld, EscapeReason}
 use Rattle.cert_check.specs.declared.verdict.Why.{Why}

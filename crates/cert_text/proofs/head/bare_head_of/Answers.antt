@@ -1,6 +1,7 @@
 use Rattle.std.proofs.Common.{◌++◌, ◌∷◌, subst}
 use Rattle.std.specs.Prelude.{codes}
-use Rattle.cert_text.specs.Reading.{Lacks, claim_text}
+use Rattle.cert_text.specs.Text.{claim_text}
+use Rattle.cert_text.specs.Reading.{Lacks}
 use Rattle.cert_text.proofs.Cuts.{not_lacks}
 use Rattle.cert_text.proofs.Heads.{headed_cut, problem_cut}
 use Rattle.cert_text.proofs.head.bare_head_of.Goals as goal
@@ -9,9 +10,9 @@ pub returns-in_default-clause-none : goal.returns-in_default-clause-none
 returns-in_default-clause-none c = λ claim count sfen rest n lack e.
     not_lacks 10 (claim_text claim count) (codes "problem " ++ (sfen ++ 10 ∷ rest)) (subst (Lacks 10) e c.in_default.ensures.none)
 
-pub returns-in_default-claim_of-clause-none : goal.returns-in_default-claim_of-clause-none
-returns-in_default-claim_of-clause-none c = λ claim count sfen rest n lack e.
-    c.in_default-claim_of.ensures.none claim count n (headed_cut c.args.text.now c.in-Some.first.now c.in-Some.more.now claim count sfen rest c.in-Some.ensures.parts c.in-Some.ensures.front n e).0
+pub returns-in_default-claim_of_line-clause-none : goal.returns-in_default-claim_of_line-clause-none
+returns-in_default-claim_of_line-clause-none c = λ claim count sfen rest n lack e.
+    c.in_default-claim_of_line.ensures.none claim count n (headed_cut c.args.text.now c.in-Some.first.now c.in-Some.more.now claim count sfen rest c.in-Some.ensures.parts c.in-Some.ensures.front n e).0
 
 pub returns-in_default-cut-clause-none : goal.returns-in_default-cut-clause-none
 returns-in_default-cut-clause-none c = λ claim count sfen rest n lack e.

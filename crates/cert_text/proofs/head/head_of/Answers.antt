@@ -9,34 +9,34 @@ use Rattle.cert_text.proofs.head.head_of.Goals as goal
 pub returns-in_default-clause-none : goal.returns-in_default-clause-none
 returns-in_default-clause-none c = λ claim count sfen rest. no_line claim count sfen rest c.args.text.now c.in_default.ensures.none
 
-pub returns-in_default-front_of-clause-none : goal.returns-in_default-front_of-clause-none
-returns-in_default-front_of-clause-none c = if_none c.bare_head_of.result _ _ (λ bare. λ claim count sfen rest h.
+pub returns-in_default-claim_of_front-clause-none : goal.returns-in_default-claim_of_front-clause-none
+returns-in_default-claim_of_front-clause-none c = if_none c.bare_head_of.result _ _ (λ bare. λ claim count sfen rest h.
     elim (head_cut claim count sfen rest c.args.text.now c.in-Some.first.now c.in-Some.more.now c.in-Some.ensures.parts c.in-Some.ensures.front h) [
       | inl at ↦ bare claim count sfen rest h.is_count h.is_line at.0
-      | inr at ↦ c.in_default-front_of.ensures.none claim at.0
+      | inr at ↦ c.in_default-claim_of_front.ensures.none claim at.0
     ]) c.bare_head_of.ensures.none
 
 pub returns-in_default-bare_head_of-clause-none : goal.returns-in_default-bare_head_of-clause-none
 returns-in_default-bare_head_of-clause-none c = λ claim count sfen rest h.
     elim (head_cut claim count sfen rest c.args.text.now c.in-Some.first.now c.in-Some.more.now c.in-Some.ensures.parts c.in-Some.ensures.front h) [
-      | inl at ↦ front_apart c.in-Some-front_of.claim claim count c.in-Some.first.now c.in-Some-front_of.ensures.found at.1
+      | inl at ↦ front_apart c.in-Some-claim_of_front.claim claim count c.in-Some.first.now c.in-Some-claim_of_front.ensures.found at.1
       | inr at ↦ c.in_default-bare_head_of.ensures.none claim count sfen rest h.is_count h.is_line at.1
     ]
 
 pub returns-then-not-is_same-clause-none : goal.returns-then-not-is_same-clause-none
 returns-then-not-is_same-clause-none c = λ claim count sfen rest h.
     elim (head_cut claim count sfen rest c.args.text.now c.in-Some.first.now c.in-Some.more.now c.in-Some.ensures.parts c.in-Some.ensures.front h) [
-      | inl at ↦ front_apart c.in-Some-front_of.claim claim count c.in-Some.first.now c.in-Some-front_of.ensures.found at.1
+      | inl at ↦ front_apart c.in-Some-claim_of_front.claim claim count c.in-Some.first.now c.in-Some-claim_of_front.ensures.found at.1
       | inr at ↦ (
           let one = one_bare claim c.in-Some-bare_head_of.head.claim count c.in-Some-bare_head_of.head.count sfen c.in-Some-bare_head_of.head.sfen.now rest c.in-Some-bare_head_of.head.rest.now
           h.is_count c.in-Some-bare_head_of.ensures.count h.is_line c.in-Some-bare_head_of.ensures.sfen (sym at.1 ∙ c.in-Some-bare_head_of.ensures.text) in
-          let front = one_front claim c.in-Some-front_of.claim c.in-Some.first.now at.0 c.in-Some-front_of.ensures.found in
+          let front = one_front claim c.in-Some-claim_of_front.claim c.in-Some.first.now at.0 c.in-Some-claim_of_front.ensures.found in
           true≢false (sym (c.is_same.ensures.1 (sym one.0 ∙ front)) ∙ c.if-not-is_same.true))
     ]
 
 pub returns-clause-found : goal.returns-clause-found
 returns-clause-found c =
-    let same : c.in-Some-bare_head_of.head.claim ≡ c.in-Some-front_of.claim = c.is_same.ensures.0 c.if-not-is_same.false in
-    let front = subst (λ (claim : Claim). IsFrontLine claim c.in-Some.first.now) (sym same) c.in-Some-front_of.ensures.found in
+    let same : c.in-Some-bare_head_of.head.claim ≡ c.in-Some-claim_of_front.claim = c.is_same.ensures.0 c.if-not-is_same.false in
+    let front = subst (λ (claim : Claim). IsFrontLine claim c.in-Some.first.now) (sym same) c.in-Some-claim_of_front.ensures.found in
     fronted_head c.in-Some-bare_head_of.head.claim c.in-Some-bare_head_of.head.count c.in-Some-bare_head_of.head.sfen.now c.in-Some-bare_head_of.head.rest.now
     c.args.text.now c.in-Some.first.now c.in-Some.more.now c.in-Some.ensures.parts front c.in-Some-bare_head_of.ensures.count c.in-Some-bare_head_of.ensures.sfen c.in-Some-bare_head_of.ensures.text

@@ -1,10 +1,6 @@
 use Rattle.std.proofs.Common.{◌≡◌, take}
 use Rattle.cert_text.specs.Certificate.{positions_of}
-use Rattle.plain_search.proofs.Picked.{ArePicked}
 use Rattle.plain_search.proofs.certificate.mate_certificate.Given as goal
 
 abbrev pub invariant-loop-entry : goal.invariant-loop-entry
 invariant-loop-entry l = l.positions.items ≡ positions_of (take l.entry-index l.entries)
-
-abbrev pub invariant-loop-place : goal.invariant-loop-place
-invariant-loop-place l = ArePicked l.entries (take l.place-index l.place-items) l.sorted.items

@@ -1,7 +1,7 @@
 use Rattle.std.proofs.Common.{◌≡◌, ◌≢◌, rules, arith}
 use Rattle.std.proofs.lemmas.Grind.{common_steps}
 use Rattle.std.proofs.lemmas.Result.{IfOk-weaker}
-use Rattle.plain_search.proofs.Steps.{checks_are_steps, answers_are_steps}
+use Rattle.plain_search.proofs.Steps.{checks_are_steps, evasions_are_steps}
 use Rattle.plain_search.proofs.grow.moves_at.Goals as goal
 
 pub returns-then-eq : goal.returns-then-eq
@@ -13,5 +13,5 @@ returns-then-eq c =
 pub returns-else-eq : goal.returns-else-eq
 returns-else-eq c =
     let other : c.args.position.now.side ≢ c.args.problem.now.position.side = λ e. grind (arith, common_steps) in
-    IfOk-weaker c.trial_answers.result _ _
-    (λ moves lists. answers_are_steps c.args.problem.now.position.side c.args.position.now moves.items other lists) c.trial_answers.ensures
+    IfOk-weaker c.trial_evasions.result _ _
+    (λ moves lists. evasions_are_steps c.args.problem.now.position.side c.args.position.now moves.items other lists) c.trial_evasions.ensures

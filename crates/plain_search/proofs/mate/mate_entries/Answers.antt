@@ -1,7 +1,7 @@
-use Rattle.std.proofs.Common.{◌<◌, List, rules, ℕ, arith, ap, sym, refl, subst, length, get_or}
-use Rattle.std.specs.Prelude.{slice_index}
-use Rattle.board_core.specs.declared.moves.MateEntry.{MateEntry}
-use Rattle.plain_search.proofs.Mates.{AreShown, IsNext, next_place, answer_at, answer_more, shown_more, mate_shown}
+use Rattle.std.proofs.Common.{List, ℕ, arith, ap, sym, refl, subst, length, get_or}
+use Rattle.std.specs.Prelude.{Some}
+use Rattle.cert_text.specs.declared.entry.MateEntry.{MateEntry}
+use Rattle.plain_search.proofs.Mates.{AreShown, IsNext, next_place, evasion_at, evasion_more, shown_more, mate_shown}
 use Rattle.plain_search.proofs.Reached.{AreReached, from_more, reached_more, plain_shown}
 use Rattle.plain_search.proofs.mate.mate_entries.Goals as goal
 use Rattle.plain_search.proofs.mate.mate_entries.Goals.{After-len-in-loop-agenda}
@@ -21,41 +21,36 @@ pub winning_step-step-requires-clause-place : goal.winning_step-step-requires-cl
 winning_step-step-requires-clause-place c = (next (goal.at.winning_step-step-requires-clause-place c).After-len-in-loop-agenda).known
 
 pub winning_step-step-requires-clause-won : goal.winning_step-step-requires-clause-won
-winning_step-step-requires-clause-won c = (next (goal.at.winning_step-step-requires-clause-won c).After-len-in-loop-agenda).won
+winning_step-step-requires-clause-won c =
+    (next (goal.at.winning_step-step-requires-clause-won c).After-len-in-loop-agenda).won c.known_rank-rank.result.number c.known_rank-rank.ensures
 
 pub winning_step-step-requires-clause-rises : goal.winning_step-step-requires-clause-rises
 winning_step-step-requires-clause-rises c = (next (goal.at.winning_step-step-requires-clause-rises c).After-len-in-loop-agenda).rises
 
-pub add-requires-in-loop-answer-clause-place : goal.add-requires-in-loop-answer-clause-place
-add-requires-in-loop-answer-clause-place c = (answer_at c.args.graph.now c.args.ranks.now
-    (slice_index c.args.ranks.now (get_or c.places-in-loop-agenda.result.now c.len-in-loop-agenda.result 0))
-    c.winning_step-step.result.to c.winning_step-step.ensures.beaten c.steps-answer-items.result.now c.steps-answer-items.ensures
-    c.loop-answer.answer-index c.answer-item.result (omega arith) c.answer-item.is).0
+pub add-requires-in-loop-evasion-clause-place : goal.add-requires-in-loop-evasion-clause-place
+add-requires-in-loop-evasion-clause-place c = (evasion_at c.args.graph.now c.args.ranks.now
+    (Some c.known_rank-rank.result.number)
+    c.winning_step-step.result.to c.winning_step-step.ensures.beaten c.steps-evasion-items.result.now c.steps-evasion-items.ensures
+    c.loop-evasion.evasion-index c.evasion-item.result (omega arith) c.evasion-item.is).0
 
-pub loop-answer-preserved : goal.loop-answer-preserved
-loop-answer-preserved c =
-    let found = answer_at c.args.graph.now c.args.ranks.now
-    (slice_index c.args.ranks.now (get_or c.places-in-loop-agenda.result.now c.len-in-loop-agenda.result 0))
-    c.winning_step-step.result.to c.winning_step-step.ensures.beaten c.steps-answer-items.result.now c.steps-answer-items.ensures
-    c.loop-answer.answer-index c.answer-item.result (omega arith) c.answer-item.is in
+pub loop-evasion-preserved : goal.loop-evasion-preserved
+loop-evasion-preserved c =
+    let found = evasion_at c.args.graph.now c.args.ranks.now
+    (Some c.known_rank-rank.result.number)
+    c.winning_step-step.result.to c.winning_step-step.ensures.beaten c.steps-evasion-items.result.now c.steps-evasion-items.ensures
+    c.loop-evasion.evasion-index c.evasion-item.result (omega arith) c.evasion-item.is in
     record {
       kept = c.in_ok-add-2.ensures.kept;
-      answered = answer_more c.args.ranks.now c.loop-agenda.agenda.places.items c.loop-answer.agenda.places.items
-          c.add-in-loop-answer.new.self.places.items c.steps-answer-items.result.now c.loop-answer.answer-index c.answer-item.result
-          c.loop-answer.invariant.answered found.2 found.1 c.in_ok-add-2.ensures.there c.in_ok-add-2.ensures.longer;
-      from = from_more (c.loop-agenda.agenda.places.items) c.loop-answer.agenda.places.items c.add-in-loop-answer.new.self.places.items
-          c.steps-answer-items.result.now c.answer-item.result c.loop-answer.invariant.from
-          (c.loop-answer.answer-index, c.loop-answer-test.true, sym c.answer-item.is) c.in_ok-add-2.ensures.longer;
+      answered = evasion_more c.args.ranks.now c.loop-agenda.agenda.places.items c.loop-evasion.agenda.places.items
+          c.add-in-loop-evasion.new.self.places.items c.steps-evasion-items.result.now c.loop-evasion.evasion-index c.evasion-item.result
+          c.loop-evasion.invariant.answered found.2 found.1 c.in_ok-add-2.ensures.there c.in_ok-add-2.ensures.longer;
+      from = from_more (c.loop-agenda.agenda.places.items) c.loop-evasion.agenda.places.items c.add-in-loop-evasion.new.self.places.items
+          c.steps-evasion-items.result.now c.evasion-item.result c.loop-evasion.invariant.from
+          (c.loop-evasion.evasion-index, c.loop-evasion-test.true, sym c.evasion-item.is) c.in_ok-add-2.ensures.longer;
     }
 
-pub offset_bounds-ranks-place : goal.offset_bounds-ranks-place
-offset_bounds-ranks-place c =
-    let place : ℕ = get_or c.places-in-loop-agenda.result.now c.len-in-loop-agenda.result 0 in
-    let known : place < length c.args.ranks.now = (next (goal.at.offset_bounds-ranks-place c).After-len-in-loop-agenda).known in
-    search rules
-
-pub bounds-ranks-place : goal.bounds-ranks-place
-bounds-ranks-place c = (next (goal.at.bounds-ranks-place c).After-len-in-loop-agenda).known
+pub known_rank-rank-requires-clause-has : goal.known_rank-rank-requires-clause-has
+known_rank-rank-requires-clause-has c = (next (goal.at.known_rank-rank-requires-clause-has c).After-len-in-loop-agenda).has
 
 pub position-requires : goal.position-requires
 position-requires c = (next (goal.at.position-requires c).After-len-in-loop-agenda).met_too
@@ -64,21 +59,21 @@ pub loop-agenda-preserved : goal.loop-agenda-preserved
 loop-agenda-preserved c =
     let place : ℕ = get_or c.places-in-loop-agenda.result.now c.len-in-loop-agenda.result 0 in
     let found = next (goal.at.loop-agenda-preserved c).After-len-in-loop-agenda in
-    let entry : MateEntry = record { rank = slice_index c.args.ranks.now place; by = c.winning_step-step.result.by; at = c.position.result.now } in
+    let entry : MateEntry = record { rank = c.known_rank-rank.result; by = c.winning_step-step.result.by; at = c.position.result.now } in
     record {
-      kept = c.loop-answer.invariant.kept;
-      shown = subst (AreShown c.args.graph.now c.args.ranks.now c.loop-answer.agenda.places.items)
+      kept = c.loop-evasion.invariant.kept;
+      shown = subst (AreShown c.args.graph.now c.args.ranks.now c.loop-evasion.agenda.places.items)
           (sym {A = List MateEntry} c.in_ok-push.ensures.items)
-          (shown_more c.args.graph.now c.args.ranks.now c.loop-agenda.agenda.places.items c.loop-answer.agenda.places.items
-          c.loop-agenda.entries.items c.steps-answer-items.result.now c.loop-answer.answer-index place c.winning_step-step.result entry
-          c.loop-agenda.invariant.shown c.steps-answer-items.ensures c.loop-answer.invariant.answered (omega arith) found.there c.position.ensures refl c.winning_step-step.ensures.step refl
+          (shown_more c.args.graph.now c.args.ranks.now c.loop-agenda.agenda.places.items c.loop-evasion.agenda.places.items
+          c.loop-agenda.entries.items c.steps-evasion-items.result.now c.loop-evasion.evasion-index place c.winning_step-step.result entry
+          c.loop-agenda.invariant.shown c.steps-evasion-items.ensures c.loop-evasion.invariant.answered (omega arith) found.there c.position.ensures c.known_rank-rank.ensures c.winning_step-step.ensures.step refl
           c.winning_step-step.ensures.beaten);
-      reached = subst (AreReached c.args.problem.now.position c.args.graph.now c.loop-answer.agenda.places.items)
+      reached = subst (AreReached c.args.problem.now.position c.args.graph.now c.loop-evasion.agenda.places.items)
           (sym {A = List MateEntry} c.in_ok-push.ensures.items)
           (reached_more c.args.problem.now.position c.args.graph.now c.args.ranks.now c.requires.graph c.requires.ranks
-          c.loop-agenda.agenda.places.items c.loop-answer.agenda.places.items c.loop-agenda.entries.items c.steps-answer-items.result.now
-          place c.winning_step-step.result entry c.loop-agenda.invariant.shown c.loop-agenda.invariant.reached found c.steps-answer-items.ensures
-          c.loop-answer.invariant.from c.position.ensures refl c.winning_step-step.ensures.step refl c.winning_step-step.ensures.beaten
+          c.loop-agenda.agenda.places.items c.loop-evasion.agenda.places.items c.loop-agenda.entries.items c.steps-evasion-items.result.now
+          place c.winning_step-step.result entry c.loop-agenda.invariant.shown c.loop-agenda.invariant.reached found c.steps-evasion-items.ensures
+          c.loop-evasion.invariant.from c.position.ensures c.known_rank-rank.ensures c.winning_step-step.ensures.step refl c.winning_step-step.ensures.beaten
           c.winning_step-step.ensures.first);
     }
 

@@ -4,11 +4,11 @@ use Rattle.plain_search.proofs.Mates.{AreShown, AreAnswered}
 use Rattle.plain_search.proofs.Reached.{AreReached, AreFrom}
 use Rattle.plain_search.proofs.mate.mate_entries.Given as goal
 
-abbrev pub invariant-loop-answer : goal.invariant-loop-answer
-invariant-loop-answer l = record {
+abbrev pub invariant-loop-evasion : goal.invariant-loop-evasion
+invariant-loop-evasion l = record {
   kept : IsAgenda (length l.ranks) l.agenda;
-  answered : AreAnswered l.ranks l.initial.agenda.places.items l.agenda.places.items l.answer-items l.answer-index;
-  from : AreFrom l.initial.agenda.places.items l.agenda.places.items l.answer-items;
+  answered : AreAnswered l.ranks l.initial.agenda.places.items l.agenda.places.items l.evasion-items l.evasion-index;
+  from : AreFrom l.initial.agenda.places.items l.agenda.places.items l.evasion-items;
 }
 
 abbrev pub invariant-loop-agenda : goal.invariant-loop-agenda

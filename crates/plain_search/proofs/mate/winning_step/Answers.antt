@@ -1,9 +1,9 @@
 use Rattle.std.proofs.Common.{false, arith, length, refl}
-use Rattle.std.specs.Prelude.{slice_index}
+use Rattle.std.specs.Prelude.{Some}
 use Rattle.plain_search.specs.declared.graph.Step.{Step}
 use Rattle.plain_search.specs.Graph.{steps_at}
 use Rattle.plain_search.specs.Ranks.{IsBeaten}
-use Rattle.plain_search.proofs.Lists.{item_of, more, of_all}
+use Rattle.list_laws.proofs.Standing.{item_of, more, of_all}
 use Rattle.std.proofs.lemmas.Option.{slice_get_read}
 use Rattle.plain_search.proofs.Reached.{first_of}
 use Rattle.plain_search.proofs.mate.winning_step.Goals as goal
@@ -15,7 +15,7 @@ returns-then-is_beaten-clause-step c =
 
 pub loop-step-preserved : goal.loop-step-preserved
 loop-step-preserved c =
-    let rank = slice_index c.args.ranks.now c.args.place in
+    let rank = Some c.args.rank in
     let items = c.steps-step-items.result.now in
     more (λ (step : Step). IsBeaten false c.args.graph.now c.args.ranks.now rank step.to → ⊥) items c.loop-step.step-index c.step-item.result
     (slice_get_read items (length items) c.loop-step.step-index c.step-item.result refl (omega arith) c.step-item.is)
@@ -24,7 +24,7 @@ loop-step-preserved c =
 
 pub unreachable-requires : goal.unreachable-requires
 unreachable-requires c =
-    let rank = slice_index c.args.ranks.now c.args.place in
+    let rank = Some c.args.rank in
     let won = c.requires.won in
     of_all (λ (step : Step). IsBeaten false c.args.graph.now c.args.ranks.now rank step.to → ⊥) c.steps-step-items.result.now
     (steps_at c.args.graph.now c.args.place) c.loop-step.step-index c.steps-step-items.ensures (omega arith) c.loop-step.invariant
@@ -32,7 +32,7 @@ unreachable-requires c =
 
 pub returns-then-is_beaten-clause-first : goal.returns-then-is_beaten-clause-first
 returns-then-is_beaten-clause-first c =
-    let rank = slice_index c.args.ranks.now c.args.place in
+    let rank = Some c.args.rank in
     let items = c.steps-step-items.result.now in
     first_of c.order_laws.ensures.places (λ (step : Step). IsBeaten false c.args.graph.now c.args.ranks.now rank step.to) items
     (steps_at c.args.graph.now c.args.place) c.loop-step.step-index c.step-item.result c.steps-step-items.ensures c.requires.rises

@@ -1,41 +1,39 @@
-use Rattle.std.proofs.Common.{arith}
-use Rattle.play_line.proofs.Defending.{HasOnlyRank, none_judged, higher, no_higher, judged, answers_here, answer_at, judged_as}
-use Rattle.play_line.proofs.defence.defence.Goals.{then-rank-highest, else-rank-highest}
+use Rattle.std.proofs.Common.{arith, refl, subst}
+use Rattle.std.specs.Prelude.{Option}
+use Rattle.play_line.specs.Line.{IsDefence}
+use Rattle.play_line.specs.declared.defence.Lasting.{Lasting}
+use Rattle.play_line.proofs.Defending.{longest_more, judged, move_of, evasions_here, evasion_at}
 use Rattle.play_line.proofs.defence.defence.Goals as goal
-
-pub loop-answer-init : goal.loop-answer-init
-loop-answer-init c = none_judged c.args.certificate.now c.args.checked.now c.deref-answer-items.result.now
 
 pub rank_after-rank-requires-clause-legal : goal.rank_after-rank-requires-clause-legal
 rank_after-rank-requires-clause-legal c =
-    let lists = answers_here c.args.problem.now.position.side c.args.checked.now c.in_ok-answers.answers.items c.deref-answer-items.result.now c.deref-answer-items.ensures.value c.in_ok-answers.ensures in
-    let is_answer = answer_at c.args.problem.now.position.side c.args.checked.now c.deref-answer-items.result.now lists c.loop-answer.answer-index c.answer-item.result c.loop-answer-test.true c.answer-item.is in
-    is_answer.legal
+    let lists = evasions_here c.args.problem.now.position.side c.args.checked.now c.in_ok-evasions.evasions.items c.deref-evasion-items.result.now c.deref-evasion-items.ensures.value c.in_ok-evasions.ensures in
+    let is_evasion = evasion_at c.args.problem.now.position.side c.args.checked.now c.deref-evasion-items.result.now lists c.loop-evasion.evasion-index c.evasion-item.result c.loop-evasion-test.true c.evasion-item.is in
+    is_evasion.legal
 
 pub rank_after-rank-requires-clause-listed : goal.rank_after-rank-requires-clause-listed
 rank_after-rank-requires-clause-listed c =
-    let lists = answers_here c.args.problem.now.position.side c.args.checked.now c.in_ok-answers.answers.items c.deref-answer-items.result.now c.deref-answer-items.ensures.value c.in_ok-answers.ensures in
-    c.requires.listed c.answer-item.result
-    (answer_at c.args.problem.now.position.side c.args.checked.now c.deref-answer-items.result.now lists c.loop-answer.answer-index c.answer-item.result c.loop-answer-test.true c.answer-item.is)
+    let lists = evasions_here c.args.problem.now.position.side c.args.checked.now c.in_ok-evasions.evasions.items c.deref-evasion-items.result.now c.deref-evasion-items.ensures.value c.in_ok-evasions.ensures in
+    c.requires.listed c.evasion-item.result
+    (evasion_at c.args.problem.now.position.side c.args.checked.now c.deref-evasion-items.result.now lists c.loop-evasion.evasion-index c.evasion-item.result c.loop-evasion-test.true c.evasion-item.is)
 
-pub loop-answer-preserved : goal.loop-answer-preserved
-loop-answer-preserved c =
-    let lists = answers_here c.args.problem.now.position.side c.args.checked.now c.in_ok-answers.answers.items c.deref-answer-items.result.now c.deref-answer-items.ensures.value c.in_ok-answers.ensures in
-    let has : HasOnlyRank c.args.certificate.now c.args.checked.now c.answer-item.result c.rank_after-rank.result =
-    record { has = c.rank_after-rank.ensures.rank; only = c.rank_after-rank.ensures.only; least = c.rank_after-rank.ensures.least } in
-    elim c.if-rank-highest.branch [
-      | then-rank-highest w ↦
-          judged_as c.args.certificate.now c.args.checked.now c.deref-answer-items.result.now _ _ _ _ _ w.longest-is w.highest-is
-          (higher c.args.certificate.now c.args.checked.now c.deref-answer-items.result.now c.loop-answer.answer-index c.loop-answer.longest c.loop-answer.highest
-          c.answer-item.result c.rank_after-rank.result c.loop-answer-test.true c.answer-item.is has (omega arith) c.loop-answer.invariant)
-      | else-rank-highest w ↦
-          judged_as c.args.certificate.now c.args.checked.now c.deref-answer-items.result.now _ _ _ _ _ w.longest-is w.highest-is
-          (no_higher c.order_laws.ensures.places c.args.certificate.now c.args.checked.now c.args.problem.now.position.side c.deref-answer-items.result.now c.loop-answer.answer-index c.loop-answer.longest c.loop-answer.highest
-          c.answer-item.result c.rank_after-rank.result lists c.loop-answer-test.true c.answer-item.is has (omega arith) c.loop-answer.invariant)
-    ]
+pub loop-evasion-preserved : goal.loop-evasion-preserved
+loop-evasion-preserved c =
+    let lists = evasions_here c.args.problem.now.position.side c.args.checked.now c.in_ok-evasions.evasions.items c.deref-evasion-items.result.now c.deref-evasion-items.ensures.value c.in_ok-evasions.ensures in
+    longest_more c.order_laws.ensures.places c.args.certificate.now c.args.checked.now c.args.problem.now.position.side c.deref-evasion-items.result.now
+    c.loop-evasion.evasion-index c.loop-evasion.longest _ c.evasion-item.result c.rank_after-rank.result c.longer.result lists c.loop-evasion-test.true
+    c.evasion-item.is (record { has = c.rank_after-rank.ensures.rank; only = c.rank_after-rank.ensures.only }) refl c.longer.ensures c.loop-evasion.invariant
+
+pub returns-in-None : goal.returns-in-None
+returns-in-None c =
+    let lists = evasions_here c.args.problem.now.position.side c.args.checked.now c.in_ok-evasions.evasions.items c.deref-evasion-items.result.now c.deref-evasion-items.ensures.value c.in_ok-evasions.ensures in
+    subst (λ (o : Option Lasting). IsDefence c.args.certificate.now c.args.problem.now.position.side c.args.checked.now (move_of o)) c.in-None.is
+    (judged c.args.certificate.now c.args.checked.now c.args.problem.now.position.side c.deref-evasion-items.result.now c.loop-evasion.evasion-index
+    c.loop-evasion.longest lists c.loop-evasion-test.false (omega arith) c.loop-evasion.invariant)
 
 pub returns : goal.returns
 returns c =
-    let lists = answers_here c.args.problem.now.position.side c.args.checked.now c.in_ok-answers.answers.items c.deref-answer-items.result.now c.deref-answer-items.ensures.value c.in_ok-answers.ensures in
-    judged c.args.certificate.now c.args.checked.now c.args.problem.now.position.side c.deref-answer-items.result.now c.loop-answer.answer-index c.loop-answer.longest
-    c.loop-answer.highest lists c.loop-answer-test.false (omega arith) c.loop-answer.invariant
+    let lists = evasions_here c.args.problem.now.position.side c.args.checked.now c.in_ok-evasions.evasions.items c.deref-evasion-items.result.now c.deref-evasion-items.ensures.value c.in_ok-evasions.ensures in
+    subst (λ (o : Option Lasting). IsDefence c.args.certificate.now c.args.problem.now.position.side c.args.checked.now (move_of o)) c.in-Some.is
+    (judged c.args.certificate.now c.args.checked.now c.args.problem.now.position.side c.deref-evasion-items.result.now c.loop-evasion.evasion-index
+    c.loop-evasion.longest lists c.loop-evasion-test.false (omega arith) c.loop-evasion.invariant)

@@ -2,12 +2,12 @@ use Rattle.std.proofs.Common.{arith, subst}
 use Rattle.std.specs.Prelude.{Option}
 use Rattle.board_core.specs.declared.moves.Move.{Move}
 use Rattle.play_line.specs.Line.{IsDefence}
-use Rattle.play_line.proofs.Following.{texts_more, begins, entry_in, ends, goes_on, is_quiet, is_legal, answers_listed, longest_listed, rank_falls}
+use Rattle.play_line.proofs.Following.{texts_more, begins, entry_in, ends, goes_on, is_quiet, is_legal, evasions_listed, longest_listed, rank_falls}
 use Rattle.play_line.proofs.line.main_line.Goals as goal
 
 pub loop-moves-init : goal.loop-moves-init
 loop-moves-init c =
-    begins c.args.certificate.now c.args.problem.now.position c.entries-entries.result.now c.place_of-place.result c.new-moves.result.items
+    begins c.cert_laws.ensures.found c.args.certificate.now c.args.problem.now.position c.entries-entries.result.now c.place_of-place.result c.new-moves.result.items
     c.entries-entries.ensures.entries c.place_of-place.ensures c.new-moves.ensures.items
 
 pub bounds-entries-place : goal.bounds-entries-place
@@ -33,7 +33,7 @@ apply-checked-requires-clause-legal c =
 
 pub defence-requires-clause-listed : goal.defence-requires-clause-listed
 defence-requires-clause-listed c =
-    answers_listed c.args.certificate.now c.args.problem.now.position c.apply-checked.result c.requires c.index-entries-place.result
+    evasions_listed c.args.certificate.now c.args.problem.now.position c.apply-checked.result c.requires c.index-entries-place.result
     (entry_in c.args.certificate.now c.entries-entries.result.now c.loop-moves.place c.index-entries-place.result c.entries-entries.ensures.entries c.loop-moves.invariant.within
     c.index-entries-place.is) c.apply-checked.ensures.position
 
@@ -52,24 +52,24 @@ returns-in-None-clause-texts c =
 pub apply-requires-clause-legal : goal.apply-requires-clause-legal
 apply-requires-clause-legal c =
     let best = subst (λ (o : Option Move). IsDefence c.args.certificate.now c.args.problem.now.position.side c.apply-checked.result o) c.in-Some.is c.in_ok-defence.ensures in
-    best.is_answer.legal
+    best.is_evasion.legal
 
 pub place_of-place-requires-in-Some-clause-listed : goal.place_of-place-requires-in-Some-clause-listed
 place_of-place-requires-in-Some-clause-listed c =
     let best = subst (λ (o : Option Move). IsDefence c.args.certificate.now c.args.problem.now.position.side c.apply-checked.result o) c.in-Some.is c.in_ok-defence.ensures in
-    longest_listed c.args.certificate.now c.args.problem.now.position c.apply-checked.result c.apply.result c.in-Some.answer best c.apply.ensures.position
+    longest_listed c.args.certificate.now c.args.problem.now.position c.apply-checked.result c.apply.result c.in-Some.evasion best c.apply.ensures.position
 
 pub loop-moves-smaller : goal.loop-moves-smaller
 loop-moves-smaller c =
     let best = subst (λ (o : Option Move). IsDefence c.args.certificate.now c.args.problem.now.position.side c.apply-checked.result o) c.in-Some.is c.in_ok-defence.ensures in
-    rank_falls c.args.certificate.now c.args.problem.now.position c.apply-checked.result c.apply.result c.entries-entries.result.now c.loop-moves.place
-    c.place_of-place-in-Some.result c.index-entries-place.result c.in-Some.answer c.entries-entries.ensures.apart c.requires c.entries-entries.ensures.entries
-    c.loop-moves.invariant.within c.index-entries-place.is c.apply-checked.ensures.position c.apply.ensures.position best.is_answer c.place_of-place-in-Some.ensures
+    rank_falls c.cert_laws.ensures.apart c.args.certificate.now c.args.problem.now.position c.apply-checked.result c.apply.result c.entries-entries.result.now c.loop-moves.place
+    c.place_of-place-in-Some.result c.index-entries-place.result c.in-Some.evasion c.entries-entries.ensures.apart c.requires c.entries-entries.ensures.entries
+    c.loop-moves.invariant.within c.index-entries-place.is c.apply-checked.ensures.position c.apply.ensures.position best.is_evasion c.place_of-place-in-Some.ensures
 
 pub loop-moves-preserved : goal.loop-moves-preserved
 loop-moves-preserved c =
     let best = subst (λ (o : Option Move). IsDefence c.args.certificate.now c.args.problem.now.position.side c.apply-checked.result o) c.in-Some.is c.in_ok-defence.ensures in
-    goes_on c.args.certificate.now c.args.problem.now.position c.apply-checked.result c.apply.result c.entries-entries.result.now c.loop-moves.place
-    c.place_of-place-in-Some.result c.loop-moves.moves.items c.push.new.self.items c.push-in-Some.new.self.items c.index-entries-place.result c.in-Some.answer
+    goes_on c.cert_laws.ensures.found c.args.certificate.now c.args.problem.now.position c.apply-checked.result c.apply.result c.entries-entries.result.now c.loop-moves.place
+    c.place_of-place-in-Some.result c.loop-moves.moves.items c.push.new.self.items c.push-in-Some.new.self.items c.index-entries-place.result c.in-Some.evasion
     c.entries-entries.ensures.entries c.index-entries-place.is c.apply-checked.ensures.position c.apply.ensures.position best c.place_of-place-in-Some.ensures
     c.in_ok-push.ensures.items c.in_ok-push-in-Some.ensures.items c.apply-checked.ensures.has_text c.apply.ensures.has_text c.loop-moves.invariant

@@ -9,4 +9,4 @@ pub returns-then-text-ne43-clause-signs : goal.returns-then-text-ne43-clause-sig
 returns-then-text-ne43-clause-signs c = λ at. rw c.plain_sign.ensures (signs_first c.args.text.now c.requires (inr (search rules)) at)
 
 pub returns-clause-signs : goal.returns-clause-signs
-returns-clause-signs c = λ at. rw (c.stands.ensures, c.promoted_of.ensures) (signs_promoted c.args.text.now (omega arith) (search rules) at)
+returns-clause-signs c = λ at. rw (c.sign_of_piece.ensures, c.promoted_of.ensures) (signs_promoted c.args.text.now (omega arith) (search rules) at)

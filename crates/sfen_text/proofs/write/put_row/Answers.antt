@@ -7,6 +7,6 @@ pub loop-file-preserved : goal.loop-file-preserved
 loop-file-preserved c = record {
   left = omega arith;
   run = omega arith;
-  text = piece_put c.args.position.now.cells c.args.rank (c.loop-file.file - 1) c.loop-file.run c.in-Some.piece c.loop-file.out.items c.put_run.new.out.items c.put_piece.new.out.items _ (omega arith)
+  text = piece_put c.args.position.now.cells c.args.row_number (c.loop-file.file - 1) c.loop-file.run c.in-Some.piece c.loop-file.out.items c.put_run.new.out.items c.put_piece.new.out.items _ (omega arith)
       (sym (c.in-Some.ensures ∙ ap (λ (k : ℕ). piece_at c.args.position.now.cells k) c.on.ensures.number)) c.loop-file.invariant.text c.in_ok-put_run-in-Some.ensures c.in_ok-put_piece-in-Some.ensures;
 }

@@ -9,4 +9,4 @@ use Rattle.sfen_text.proofs.write.write_sfen.Goals as goal
 pub returns-clause-apart : goal.returns-clause-apart
 returns-clause-apart c =
     IfOk-weaker c.text_of.result (λ text. text.items ≡ sfen_of c.args.position.now) (λ text. (other : Board) → IsKept other → sfen_of other ≡ text.items → other ≡ c.args.position.now)
-    (λ text e. only_text c.args.position.now text.items c.cells.ensures.kept e) c.text_of.ensures
+    (λ text e. only_text c.args.position.now text.items c.laws.ensures e) c.text_of.ensures

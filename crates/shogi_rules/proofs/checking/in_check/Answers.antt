@@ -1,10 +1,8 @@
-use Rattle.std.proofs.Common.{arith, refl}
-use Rattle.shogi_rules.proofs.Kings.{king_counted}
+use Rattle.std.proofs.Common.{◌≡◌, true, false, IsSome, subst}
 use Rattle.shogi_rules.proofs.checking.in_check.Goals as goal
 
 pub returns-in-None-clause-check : goal.returns-in-None-clause-check
 returns-in-None-clause-check c = (
   (λ t. absurd (cc)),
-  (λ k. let some = king_counted c.args.position.now c.args.side c.cells-cells.ensures.kept.cells k in
-      let none = c.king_square.ensures.none.0 (rw c.in-None.is refl) in absurd (omega arith)),
+  (λ k. absurd (let no : false ≡ true = subst IsSome c.in-None.is (c.king_square.ensures.standing k.0 k.2.king) in cc)),
 )

@@ -25,8 +25,8 @@ move_piece-requires-clause-promotion c = promotion_decided c.args.position.now c
 pub drop_piece-requires-clause-empty : goal.drop_piece-requires-clause-empty
 drop_piece-requires-clause-empty c = legal_drop_of c.args.position.now c.args.by c.in-Drop.kind c.in-Drop.to c.in-Drop.is c.requires.legal Occupied
 
-pub drop_piece-requires-clause-held : goal.drop_piece-requires-clause-held
-drop_piece-requires-clause-held c = legal_drop_of c.args.position.now c.args.by c.in-Drop.kind c.in-Drop.to c.in-Drop.is c.requires.legal NotInHand
+pub drop_piece-requires-clause-in_hand : goal.drop_piece-requires-clause-in_hand
+drop_piece-requires-clause-in_hand c = legal_drop_of c.args.position.now c.args.by c.in-Drop.kind c.in-Drop.to c.in-Drop.is c.requires.legal NotInHand
 
 pub drop_piece-requires-clause-alive : goal.drop_piece-requires-clause-alive
 drop_piece-requires-clause-alive c = legal_drop_of c.args.position.now c.args.by c.in-Drop.kind c.in-Drop.to c.in-Drop.is c.requires.legal DeadDrop

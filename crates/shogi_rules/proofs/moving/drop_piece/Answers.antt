@@ -1,6 +1,6 @@
 use Rattle.std.proofs.Common.{◌≡◌, None, refl}
 use Rattle.board_core.specs.Board.{piece_at, kings_of}
-use Rattle.shogi_rules.specs.Rules.{dropped}
+use Rattle.board_core.specs.Board.{plain_piece}
 use Rattle.shogi_rules.proofs.Moves.{empty_there, kings_dropped}
 use Rattle.shogi_rules.proofs.moving.drop_piece.Goals as goal
 
@@ -12,7 +12,7 @@ returns-clause-kings c = λ owner.
     let first : kings_of c.spend.new.self owner ≡ kings_of c.args.position.now owner = rw c.spend.ensures.position refl in
     rw (
       last,
-      kings_dropped c.spend.new.self c.put.new.self c.args.to.number (dropped c.args.kind c.args.position.now.side) owner c.spend.ensures.king empty
-          (rw (c.dropped.ensures, c.side-side.ensures) at c.put.ensures.changes),
+      kings_dropped c.spend.new.self c.put.new.self c.args.to.number (plain_piece c.args.kind c.args.position.now.side) owner c.spend.ensures.king empty
+          (rw (c.plain.ensures, c.side-side.ensures) at c.put.ensures.changes),
       first,
     ) refl

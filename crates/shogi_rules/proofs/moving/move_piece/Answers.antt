@@ -7,14 +7,14 @@ use Rattle.shogi_rules.proofs.moving.move_piece.Goals as goal
 pub put-requires-clause-king : goal.put-requires-clause-king
 put-requires-clause-king c =
     let there : piece_at c.args.position.now.cells c.args.from.number ≡ Some c.in-Some.piece = cc in
-    rw c.landed.ensures (λ kind. king_gone c.args.position.now c.take.new.self c.take-in-Some.new.self c.args.from.number c.args.to.number c.in-Some.piece
+    rw c.landed_piece.ensures (λ kind. king_gone c.args.position.now c.take.new.self c.take-in-Some.new.self c.args.from.number c.args.to.number c.in-Some.piece
     kind (c.cells.ensures.kept.kings c.in-Some.piece.side) there c.take.ensures.changes c.take-in-Some.ensures.changes)
 
 pub put-requires-clause-pawn : goal.put-requires-clause-pawn
 put-requires-clause-pawn c =
     let there : piece_at c.args.position.now.cells c.args.from.number ≡ Some c.in-Some.piece = cc in
     let fit : IsTrue (fits c.in-Some.piece c.args.from.number c.args.to.number) = rw there at c.requires.fits in
-    rw c.landed.ensures (λ pawn. pawn_alone c.args.position.now c.take.new.self c.take-in-Some.new.self c.args.from.number c.args.to.number c.args.promote c.in-Some.piece
+    rw c.landed_piece.ensures (λ pawn. pawn_alone c.args.position.now c.take.new.self c.take-in-Some.new.self c.args.from.number c.args.to.number c.args.promote c.in-Some.piece
     c.cells.ensures.kept c.args.from.on_board there fit c.take.ensures.changes c.take-in-Some.ensures.changes pawn)
 
 pub capture-requires : goal.capture-requires
@@ -28,7 +28,7 @@ capture-requires c = λ taken is.
       king,
       taken_left c.args.position.now c.take.new.self c.take-in-Some.new.self c.put.new.self c.args.from.number c.args.to.number c.args.promote c.in-Some.piece taken
           c.cells.ensures.kept (goes_elsewhere c.args.position.now c.args.from.number c.args.to.number c.requires.own c.requires.free) king there at
-          c.take.ensures.changes c.take-in-Some.ensures.changes (rw c.landed.ensures at c.put.ensures.changes),
+          c.take.ensures.changes c.take-in-Some.ensures.changes (rw c.landed_piece.ensures at c.put.ensures.changes),
     )
 
 pub returns-clause-moves : goal.returns-clause-moves
@@ -37,7 +37,7 @@ returns-clause-moves c = goes_elsewhere c.args.position.now c.args.from.number c
 pub returns-clause-position : goal.returns-clause-position
 returns-clause-position c =
     let there : piece_at c.args.position.now.cells c.args.from.number ≡ Some c.in-Some.piece = cc in
-    rw (c.pass.ensures, c.capture.ensures.position, c.put.ensures.position, c.take-in-Some.ensures.position, c.take.ensures.position, c.landed.ensures, c.side-side.ensures, c.piece_at.ensures)
+    rw (c.pass.ensures, c.capture.ensures.position, c.put.ensures.position, c.take-in-Some.ensures.position, c.take.ensures.position, c.landed_piece.ensures, c.side-side.ensures, c.piece_at.ensures)
     (moved_is c.args.position.now c.args.from.number c.args.to.number c.args.promote c.in-Some.piece there)
 
 pub returns-clause-conserved : goal.returns-clause-conserved
@@ -49,7 +49,7 @@ returns-clause-conserved c = λ kind.
     rw c.pass.ensures caught in
     conserves c.args.position.now c.take.new.self c.take-in-Some.new.self c.put.new.self c.pass.new.self c.args.from.number c.args.to.number c.args.promote c.in-Some.piece kind
     (goes_elsewhere c.args.position.now c.args.from.number c.args.to.number c.requires.own c.requires.free) there
-    c.take.ensures.changes c.take-in-Some.ensures.changes (rw c.landed.ensures at c.put.ensures.changes) last
+    c.take.ensures.changes c.take-in-Some.ensures.changes (rw c.landed_piece.ensures at c.put.ensures.changes) last
 
 pub returns-clause-kings : goal.returns-clause-kings
 returns-clause-kings c = λ side.
@@ -63,4 +63,4 @@ returns-clause-kings c = λ side.
     let last : kings_of c.pass.new.self side ≡ kings_of c.put.new.self side = rw (c.pass.ensures, c.capture.ensures.position) refl in
     kings_stay c.args.position.now c.take.new.self c.take-in-Some.new.self c.put.new.self c.pass.new.self c.args.from.number c.args.to.number c.args.promote c.in-Some.piece side
     (goes_elsewhere c.args.position.now c.args.from.number c.args.to.number c.requires.own c.requires.free) there free
-    c.take.ensures.changes c.take-in-Some.ensures.changes (rw c.landed.ensures at c.put.ensures.changes) last
+    c.take.ensures.changes c.take-in-Some.ensures.changes (rw c.landed_piece.ensures at c.put.ensures.changes) last

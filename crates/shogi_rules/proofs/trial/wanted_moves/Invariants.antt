@@ -1,9 +1,10 @@
 use Rattle.std.proofs.Common.{◌+◌, ◌*◌}
-use Rattle.shogi_rules.specs.Trial.{IsWanted, ListsBelow}
+use Rattle.board_core.specs.Order.{Lists}
+use Rattle.shogi_rules.specs.Trial.{IsWantedBefore}
 use Rattle.shogi_rules.proofs.trial.wanted_moves.Given as goal
 
 abbrev pub invariant-loop-number : goal.invariant-loop-number
-invariant-loop-number l = ListsBelow (IsWanted l.wanted l.attacker l.position) (162 * l.number) l.moves.items
+invariant-loop-number l = Lists (IsWantedBefore l.wanted l.problem.position.side l.position (162 * l.number)) l.moves.items
 
-abbrev pub invariant-loop-place : goal.invariant-loop-place
-invariant-loop-place l = ListsBelow (IsWanted l.wanted l.attacker l.position) (13122 + 81 * l.place) l.moves.items
+abbrev pub invariant-loop-kind : goal.invariant-loop-kind
+invariant-loop-kind l = Lists (IsWantedBefore l.wanted l.problem.position.side l.position (13122 + 81 * l.kind-index)) l.moves.items

@@ -1,12 +1,12 @@
 use Rattle.cert_text.specs.declared.certificate.Certificate.TheVariants as certificates
 use Rattle.tsume_app.proofs.solution.no_mate.Goals as goal
 
-pub returns-clause-answer : goal.returns-clause-answer
-returns-clause-answer c =
+pub returns-clause-true_of : goal.returns-clause-true_of
+returns-clause-true_of c =
     let escape = certificates.Escape c.args.certificate in
     let p = c.args.problem.now.position in
     record {
-      no_mate = (c.valid_is_accepted.ensures.shows escape p c.problem.ensures.kept c.requires.valid).no_mate;
+      no_mate = (c.valid_is_accepted.ensures.shows escape p c.laws.ensures.kept c.requires.valid).no_mate;
       found = c.requires;
       accepted = λ verdict is. c.valid_is_accepted.ensures.accepted escape p verdict is c.requires.valid;
     }

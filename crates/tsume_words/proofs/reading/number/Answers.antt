@@ -1,8 +1,9 @@
 use Rattle.std.proofs.Common.{◌∙◌, sym, refl}
+use Rattle.std.proofs.lemmas.Option.{same_Some}
 use Rattle.std.specs.Str.Parse.{ExplainsUnsignedError, HasUnsignedDigitsIfOk, ParsesUnsigned}
 use Rattle.clap.specs.Words.{found_of}
 use Rattle.clap.proofs.WalkLemmas.{one_text-rows}
-use Rattle.tsume_words.proofs.Texts.{number_read, some_same}
+use Rattle.tsume_words.proofs.Texts.{number_read}
 use Rattle.tsume_words.proofs.reading.number.Goals as goal
 
 pub unwrap-requires : goal.unwrap-requires
@@ -15,4 +16,4 @@ pub returns : goal.returns
 returns c =
     let is = number_read (λ bs r. ParsesUnsigned 64 10 bs r × ExplainsUnsignedError 10 bs r × HasUnsignedDigitsIfOk bs r) _ c.get_one.result
     (λ t e. c.get_one.ensures.value t (one_text-rows (found_of c.args.given.now) c.args.name.now ∙ e)) (λ u x g. g.0) c.requires in
-    some_same _ _ (sym c.unwrap.ensures ∙ is)
+    same_Some _ _ (sym c.unwrap.ensures ∙ is)

@@ -3,28 +3,29 @@ use Rattle.board_core.specs.declared.piece.Piece.{Piece}
 use Rattle.board_core.specs.declared.piece.Side.{Side}
 use Rattle.board_core.specs.declared.piece.Side.TheVariants.{Black, White}
 use Rattle.board_core.specs.Board.{Board, kings_of}
-use Rattle.board_core.proofs.Faults.{each_side, clear_totals, clear_defender, clear_to_kings, clear_dead, clear_pawns, clear_all, some_defender}
+use Rattle.board_core.proofs.EachKind.{each_side}
+use Rattle.board_core.proofs.Faults.{clear_totals, clear_defender, clear_to_kings, clear_dead, clear_pawns, clear_all, some_defender}
 use Rattle.board_core.proofs.position.Position.build.Goals as goal
 
 abbrev board : List (Option Piece) → List ℕ → List ℕ → Side → Board
 board cells black white side = record { cells = cells; black = black; white = white; side = side }
 
-pub returns-then-count_kings-gt1 : goal.returns-then-count_kings-gt1
-returns-then-count_kings-gt1 c = let b = board c.args.cells.now c.args.black c.args.white c.args.side in (
+pub returns-then-count_kings-gt1-clause-built : goal.returns-then-count_kings-gt1-clause-built
+returns-then-count_kings-gt1-clause-built c = let b = board c.args.cells.now c.args.black c.args.white c.args.side in (
   (Black, omega (arith, c.count_kings-2.ensures)),
   clear_defender b (clear_totals b (c.in_default.ensures.none (search rules)))
       (some_defender b _ _ c.other.ensures c.count_kings.ensures c.if-count_kings-eq0.false),
 )
 
-pub returns-then-count_kings-gt1-2 : goal.returns-then-count_kings-gt1-2
-returns-then-count_kings-gt1-2 c = let b = board c.args.cells.now c.args.black c.args.white c.args.side in (
+pub returns-then-count_kings-gt1-2-clause-built : goal.returns-then-count_kings-gt1-2-clause-built
+returns-then-count_kings-gt1-2-clause-built c = let b = board c.args.cells.now c.args.black c.args.white c.args.side in (
   (White, omega (arith, c.count_kings-3.ensures)),
   clear_defender b (clear_totals b (c.in_default.ensures.none (search rules)))
       (some_defender b _ _ c.other.ensures c.count_kings.ensures c.if-count_kings-eq0.false),
 )
 
-pub returns-in-Some-first_dead : goal.returns-in-Some-first_dead
-returns-in-Some-first_dead c = let b = board c.args.cells.now c.args.black c.args.white c.args.side in (
+pub returns-in-Some-first_dead-clause-built : goal.returns-in-Some-first_dead-clause-built
+returns-in-Some-first_dead-clause-built c = let b = board c.args.cells.now c.args.black c.args.white c.args.side in (
   c.in-Some-first_dead.ensures.some,
   clear_dead b c.in-Some-first_dead.square.number (let low = c.in-Some-first_dead.square.on_board in omega arith)
       (clear_to_kings b (c.in_default.ensures.none (search rules))
@@ -33,8 +34,8 @@ returns-in-Some-first_dead c = let b = board c.args.cells.now c.args.black c.arg
       c.in-Some-first_dead.ensures.first,
 )
 
-pub returns-in-Some-first_file_of_two_pawns : goal.returns-in-Some-first_file_of_two_pawns
-returns-in-Some-first_file_of_two_pawns c = let b = board c.args.cells.now c.args.black c.args.white c.args.side in (
+pub returns-in-Some-first_file_of_two_pawns-clause-built : goal.returns-in-Some-first_file_of_two_pawns-clause-built
+returns-in-Some-first_file_of_two_pawns-clause-built c = let b = board c.args.cells.now c.args.black c.args.white c.args.side in (
   c.in-Some-first_file_of_two_pawns.ensures.some,
   clear_pawns b c.in-Some-first_file_of_two_pawns.file
       (clear_dead b 81 (omega arith)
@@ -48,8 +49,8 @@ returns-in-Some-first_file_of_two_pawns c = let b = board c.args.cells.now c.arg
 pub kept-requires : goal.kept-requires
 kept-requires c = record {
   cells = c.told-cells;
-  black = c.seven.ensures;
-  white = c.seven-2.ensures;
+  black = c.laws.ensures;
+  white = c.laws-2.ensures;
   totals = c.in_default.ensures.none (search rules);
   kings = each_side (λ s. kings_of (board c.args.cells.now c.args.black c.args.white c.args.side) s ≤ 1)
       (omega (arith, c.count_kings-2.ensures)) (omega (arith, c.count_kings-3.ensures));
@@ -57,8 +58,8 @@ kept-requires c = record {
   pawns = λ side file. c.in_default-first_file_of_two_pawns.ensures.none (search rules) file side;
 }
 
-pub returns : goal.returns
-returns c = let b = board c.args.cells.now c.args.black c.args.white c.args.side in (
+pub returns-clause-built : goal.returns-clause-built
+returns-clause-built c = let b = board c.args.cells.now c.args.black c.args.white c.args.side in (
   c.kept.ensures,
   clear_all b (λ n. clear_pawns b n
       (clear_dead b 81 (omega arith)

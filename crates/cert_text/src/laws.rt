@@ -1,0 +1,22 @@
+// What is true of all certificates' texts and entries.
+ghost use Rattle.cert_text.specs.Laws.{CertTextsApart, EntriesStand, EntriesAreListed, EntriesApart, EntriesAreFound};
+
+use sfen_text::sfen_laws;
+use usi_text::move_laws;
+
+/// Laws about certificates: no two that can be read have one text; and where a mate's entries and their positions stand.
+/// Does nothing; whoever reads texts that hold certificates, or looks entries up, calls it to know this. Takes no memory.
+pub fn cert_laws()
+    ensures texts { CertTextsApart }
+    // An entry's position stands at the entry's place, so it is listed.
+    ensures stand { EntriesStand }
+    ensures listed { EntriesAreListed }
+    // Where no position stands twice, entries of one position are one entry.
+    ensures apart { EntriesApart }
+    // The entry at a place where a position stands has that position.
+    ensures found { EntriesAreFound }
+{
+    // No two positions, and no two moves, have one text.
+    sfen_laws();
+    move_laws();
+}
