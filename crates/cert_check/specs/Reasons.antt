@@ -93,7 +93,7 @@ reason_order (EvasionOutside evasion) = 1 + order_of evasion
 reason_order (RankNotLower evasion) = 1 + order_of evasion
 reason_order (CheckUnanswered check) = 1 + order_of check
 
--- The evasion about one entry: that it holds what it has to; or the first reason that speaks against it.
+-- The finding about one entry: that it holds what it has to; or the first reason that speaks against it.
 abbrev pub IsFirstReason : Type 0 → (Why → Type 0) → Option Why → Type 0
 IsFirstReason Holds Reason None = Holds
 IsFirstReason Holds Reason (Some why) = Reason why × ((sooner : Why) → reason_order sooner < reason_order why → ¬ Reason sooner)

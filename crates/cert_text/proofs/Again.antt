@@ -363,7 +363,7 @@ module _ (laws : Laws) where
   texts_apart (certificates.Escape c) (certificates.Mate d) bytes r k t u = absurd (claims_apart d c bytes k u r t)
 
   -- A certificate's text has no fault.
-  no_first_fault : (c : Certificate) (bytes : List ℕ) (fault : CertFault) → IsReadable c → IsTextOf c bytes → HasFirstFault bytes fault → ⊥
+  pub no_first_fault : (c : Certificate) (bytes : List ℕ) (fault : CertFault) → IsReadable c → IsTextOf c bytes → HasFirstFault bytes fault → ⊥
   no_first_fault (certificates.Mate c) bytes fault r t h = elim (later_of bytes fault h) [
     | inl head ↦ (subst (HasFirstFault bytes) head h) Mate (length c.entries) c.problem (entries_text (mate_form c.problem) c.entries ++ end_line)
         (record { head = listing_head Mate (mate_form c.problem) c bytes r t; kept = r.kept; is_problem = r.is_problem })
@@ -394,7 +394,7 @@ module _ (laws : Laws) where
       (moved k.claim h.claim k.count h.count k.problem h.problem k.rest h.rest two heads.0 heads.1 (laws.apart k.problem h.problem k.begins.kept h.begins.kept heads.2) heads.3 k.later)
 
   -- A text has one first fault at most.
-  first_same : (bytes : List ℕ) (one two : CertFault) → HasFirstFault bytes one → HasFirstFault bytes two → one ≡ two
+  pub first_same : (bytes : List ℕ) (one two : CertFault) → HasFirstFault bytes one → HasFirstFault bytes two → one ≡ two
   first_same bytes one two h k = elim (later_of bytes one h) [
     | inl head ↦ elim (later_of bytes two k) [ inl other ↦ head ∙ sym other | inr later ↦ absurd (no_head_later bytes one two h head later) ]
     | inr mine ↦ elim (later_of bytes two k) [ inl other ↦ absurd (no_head_later bytes two one k other mine) | inr later ↦ later_same bytes one two mine later ]

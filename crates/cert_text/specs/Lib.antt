@@ -4,5 +4,6 @@ pub mod Certificate
 pub mod Kinds
 pub mod Text
 pub mod Reading
+pub mod FaultText
 pub mod Scan
 pub mod Laws

@@ -169,7 +169,7 @@ IsFaultAs fault (Ok c) = ⊥
 IsFaultAs fault (Err (ends.Fault found)) = found ≡ fault
 IsFaultAs fault (Err ends.NoMemory) = Unit {0}
 
--- A certificate is small enough to be read: it has so many entries as are read.
+-- A certificate has so many entries as are read: one at least, and no more than `MOST_ENTRIES`.
 abbrev pub IsWithinLimits : Certificate → Type 0
 IsWithinLimits (certificates.Mate c) = IsReadCount (length c.entries)
 IsWithinLimits (certificates.Escape c) = IsReadCount (length c.entries)

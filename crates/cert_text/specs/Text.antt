@@ -1,4 +1,4 @@
--- The certificate's text, version 1: a relation between certificates and whole texts.
+-- The certificate's text, version 1, as it is written.
 use Rattle.std.specs.Prelude.{ℕ, List, ◌∷◌, ◌++◌, codes, length}
 use Rattle.std.specs.List.{flat_map}
 use Rattle.std.specs.Fmt.{decimal}

@@ -23,6 +23,11 @@ pub enum CertFault {
 }
 
 impl fmt::Display for CertFault {
+    ghost use Rattle.std.specs.Prelude.{Some};
+    ghost use Rattle.cert_text.specs.FaultText.{certificate_fault_text};
+
+    ghost output = { λ fault. Some (certificate_fault_text fault) };
+
     /// Prints the fault in words, with the number of the line: `bad head`, `bad line 3`, `not rising 3`, `wrong count`,
     /// `no end`.
     fn fmt<W: Write>(&self, f: &mut fmt::Formatter<W>) -> fmt::Result {

@@ -4,7 +4,8 @@ ghost use Rattle.cert_text.specs.declared.limits.TheConstants.{MOST_RANK};
 
 use crate::MOST_RANK;
 
-/// A rank, 1 to [`MOST_RANK`]: an upper bound for the number of the attacker's moves up to the mate.
+/// A rank as an entry states it, 1 to [`MOST_RANK`]. Where the certificate is valid, the mate takes at most so many of the
+/// attacker's moves.
 #[derive(Clone, Copy, PartialEq, Eq, PartialOrd, Ord, Debug)]
 pub struct Rank {
     /// From 1 to [`MOST_RANK`].

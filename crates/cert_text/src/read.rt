@@ -96,10 +96,10 @@ fn certificate_of(
 /// that line aren't compared with the certificate. A certificate has 1 to [`MOST_ENTRIES`](crate::MOST_ENTRIES) entries.
 ///
 /// For any other text its first fault in reading order ([`CertFault`]). Errors: want of memory alone.
-/// Reads in one pass, and keeps what it reads in a vector that doubles.
+/// Reads a line after the other, and keeps what it reads in a vector that doubles.
 pub fn read_cert(alloc: Global, bytes: &[u8]) -> Result<Certificate, CertEnd>
     ensures exact { IsCertificateOutcome bytes.now result }
-    // Each certificate that can be read is, from its text.
+    // Each certificate that can be read is, from its text, unless memory is wanted.
     ensures again { (c : Certificate) → IsReadable c → IsTextOf c bytes.now → IsReadAs c result }
     // No text has two first faults, or one and a certificate.
     ensures only { (fault : CertFault) → HasFirstFault bytes.now fault → IsFaultAs fault result }

@@ -15,8 +15,8 @@ use std::alloc::{AllocError, Global};
 ///
 /// It decides after each whole level of positions, and where the expansions are used up. The mate's certificate takes at each
 /// position the least rank that the known positions tell, and the first check of that rank; the escape's takes after each
-/// check the first evasion into known positions of the attacker each check from which has an evasion back into them. (The tsume
-/// rule.)
+/// check the first evasion into known positions of the attacker, each check from which leads to a known position with an evasion
+/// back into them. (The tsume rule.)
 pub fn search<G: Gate>(
     alloc: Global,
     problem: &Problem,

@@ -24,6 +24,6 @@ TextsAreLines = (b : Board) → IsKept b → AllByRecursion (λ byte. 32 ≤ byt
 abbrev pub OnePositionSpelled : Type 0
 OnePositionSpelled = (input : List ℕ) (a b : Board) → IsKept a → IsKept b → Spells input a → Spells input b → a ≡ b
 
--- A law: no input has two outcomes. It spells one position that can be solved, or has one first fault.
+-- A law: no input has two outcomes, be they positions or first faults.
 abbrev pub OneReadingOutcome : Type 0
 OneReadingOutcome = (input : List ℕ) (one other : Result Board TextFault) → IsReadingOutcome input one → IsReadingOutcome input other → one ≡ other

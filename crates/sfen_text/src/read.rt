@@ -210,7 +210,7 @@ fn outcome_of(input: &[u8]) -> Result<Position, TextFault>
 }
 
 /// The position that an SFEN text stands for; else its first fault from the left, with its place in the whole input, or,
-/// where the text is well formed, the fault of its parts ([`TextFault`]). Takes no memory, in one pass.
+/// where the text is well formed, the fault of its parts ([`TextFault`]). Takes no memory, and time by the length of the text.
 ///
 /// Spaces, tabs, carriage returns and line feeds at both ends don't count, nor does `sfen ` or `position sfen ` in front
 /// (USI protocol: `position`). The rest is three or four fields with spaces between: the board from row a to row i, each
@@ -227,7 +227,7 @@ pub fn read_sfen(input: &[u8]) -> Result<Position, TextFault>
     // A position that the text spells is read, where it keeps what every position keeps and the side that isn't to move has
     // a king.
     ensures read { (p : Board) → Spells input.now p → IsKept p → HasDefender p → result ≡ Ok p }
-    // What is written for a position is read as it.
+    // What is written for a position is read as it, where the side that isn't to move has a king.
     ensures again { (p : Board) → IsKept p → HasDefender p → input.now ≡ sfen_of p → result ≡ Ok p }
 {
     // The kinds that can stand in a hand have a count there; and no input has two outcomes.

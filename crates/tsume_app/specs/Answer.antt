@@ -80,7 +80,8 @@ pub record IsNoMateShown (p : Board) (expansions : ℕ) (c : Escaping) : Type 0 
   pub found : IsEscapeFound p expansions c
   pub accepted : IsAcceptedFor p (certificates.Escape c)
 
--- A search gave up for its cause: all its expansions were used up, and what they list tells neither a mate nor that there is none.
+-- A search gave up for its cause: the number told is that of the expansions it may use, and what so many list tells neither a mate
+-- nor that there is none.
 abbrev pub IsGivenUp : Board → ℕ → Cause → Type 0
 IsGivenUp p expansions (Expansions used) = (used ≡ expansions) × IsUndecided p expansions
 

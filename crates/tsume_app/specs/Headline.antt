@@ -1,5 +1,5 @@
 -- The program's promise in plain words.
-use Rattle.std.specs.Prelude.{◌≡◌, ℕ, List, Bool, Some, Ok, ⊤}
+use Rattle.std.specs.Prelude.{◌≡◌, ℕ, List, Bool, Some, Ok, ⊤, length}
 use Rattle.board_core.specs.declared.moves.Move.{Move}
 use Rattle.board_core.specs.Board.{Board}
 use Rattle.mate_def.specs.Mate.{IsMate}
@@ -8,17 +8,19 @@ use Rattle.cert_text.specs.declared.certificate.Certificate.{Certificate}
 use Rattle.cert_text.specs.Certificate.{Mating, Escaping}
 use Rattle.cert_text.specs.Reading.{IsReadable, IsTextOf}
 use Rattle.cert_text.specs.declared.head.Claim.{Claim}
-use Rattle.cert_text.specs.Kinds.{problem_of}
-use Rattle.cert_check.specs.Valid.{IsValid, ValidMate, ValidEscape}
+use Rattle.cert_text.specs.Kinds.{claim_of, problem_of, positions_in}
+use Rattle.cert_check.specs.Valid.{IsValid, Shows, ValidMate, ValidEscape}
 use Rattle.play_line.specs.Line.{IsMainLine}
 use Rattle.tsume_words.specs.Given.{SettingsView}
 use Rattle.tsume_words.specs.Given.Wish.{to_solve, to_check}
 use Rattle.tsume_words.specs.Meaning.{command_of}
+use Rattle.tsume_app.specs.declared.answer.Cause.{Cause}
 use Rattle.tsume_app.specs.declared.answer.Judgement.TheVariants.{Accepted}
 use Rattle.tsume_app.specs.declared.answer.Answer.TheVariants.{Judged}
 use Rattle.tsume_app.specs.declared.fault.Fault.TheVariants.{NotUtf8, Words, TooLong, Problem, Cert, Read, NoMemory}
 use Rattle.tsume_app.specs.declared.ended.Ended.{Ended}
 use Rattle.tsume_app.specs.declared.ended.Ended.TheVariants.{Answered, CutShort, Failed}
+use Rattle.tsume_app.specs.Answer.{IsGivenUp}
 use Rattle.tsume_app.specs.Input.{StandsFor}
 
 -- The words ask to solve, with the rest of the pieces in the defender's hand or without.
@@ -44,16 +46,37 @@ pub record StandsForNoMate (rest : Bool) (input : List ℕ) (c : Escaping) : Typ
   pub no_mate : ¬ IsMate problem.side problem
   pub valid : ValidEscape c problem
 
--- The bytes are the text of a certificate that is valid for its own problem.
-pub record IsValidText (input : List ℕ) : Type 0 where
+-- The bytes stand for a problem that was given up for its cause: so many expansions tell neither a mate nor that there is none.
+pub record StandsForUnknown (rest : Bool) (expansions : ℕ) (input : List ℕ) (cause : Cause) : Type 0 where
+  pub problem : Board
+  pub stands_for : StandsFor rest input (Ok problem)
+  pub given_up : IsGivenUp problem expansions cause
+
+-- The problem that the certificate itself names is a mate, for which it is valid, and the moves are its main line.
+pub record NamesMate (c : Mating) (moves : List Move) : Type 0 where
+  pub mate : IsMate c.problem.side c.problem
+  pub valid : ValidMate c c.problem
+  pub line : IsMainLine c c.problem.side c.problem moves
+
+-- The problem that the certificate itself names is no mate, and the certificate is valid for it.
+pub record NamesNoMate (c : Escaping) : Type 0 where
+  pub no_mate : ¬ IsMate c.problem.side c.problem
+  pub valid : ValidEscape c c.problem
+
+-- The bytes are the text of a certificate that claims this of its own problem, lists so many positions, is valid for the problem
+-- and shows what it claims.
+pub record IsValidText (input : List ℕ) (claim : Claim) (entries : ℕ) : Type 0 where
   pub certificate : Certificate
   pub readable : IsReadable certificate
   pub text : IsTextOf certificate input
+  pub is_claim : claim ≡ claim_of certificate
+  pub count : entries ≡ length (positions_in certificate)
   pub valid : IsValid certificate (problem_of certificate)
+  pub shows : Shows certificate (problem_of certificate)
 
--- The run ended with an accepted certificate.
-abbrev pub IsAccepted : Ended → Type 0
-IsAccepted ended = (claim : Claim) × (entries : ℕ) × (ended ≡ Answered (Judged (Accepted claim entries)))
+-- The run ended with a certificate accepted that claims this and has so many entries.
+abbrev pub IsAccepted : Ended → Claim → ℕ → Type 0
+IsAccepted ended claim entries = ended ≡ Answered (Judged (Accepted claim entries))
 
 -- The run was broken off: the source or the sink failed, more bytes came than are read, or memory was wanted.
 abbrev pub IsBrokenOff : Ended → Type 0

@@ -1,8 +1,10 @@
 -- This project's; the USI protocol for the answer.
 pub mod Answer
+pub mod FaultText
 pub mod Headline
 pub mod Input
 pub mod Inside
 pub mod Outside
 pub mod Run
 pub mod Status
+pub mod Told

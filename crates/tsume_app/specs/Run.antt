@@ -12,8 +12,7 @@ use Rattle.tsume_words.specs.declared.faults.WordsEnd.TheVariants as words_ends
 use Rattle.clap.specs.Words.{Text as Word}
 use Rattle.cert_text.specs.declared.certificate.Certificate.{Certificate}
 use Rattle.cert_text.specs.declared.fault.CertFault.{CertFault}
-use Rattle.cert_text.specs.declared.fault.CertEnd.TheVariants as ends
-use Rattle.cert_text.specs.Reading.{IsReadable, IsTextOf, IsCertificateOutcome}
+use Rattle.cert_text.specs.Reading.{HasFirstFault, IsReadable, IsTextOf, IsCertificateOutcome}
 use Rattle.tsume_app.specs.declared.answer.Solution.{Solution}
 use Rattle.tsume_app.specs.declared.answer.Judgement.{Judgement}
 use Rattle.tsume_app.specs.declared.answer.Answer.{Answer}
@@ -56,10 +55,14 @@ IsProblemFault (to_check workers) input fault = ⊥
 abbrev pub IsNoCertificate : List ℕ → Type 0
 IsNoCertificate input = (c : Certificate) → IsReadable c → ¬ IsTextOf c input
 
+-- The bytes of an input have this first fault as a certificate's text, and no other.
+abbrev pub HasOneFault : List ℕ → CertFault → Type 0
+HasOneFault input fault = HasFirstFault input fault × ((other : CertFault) → HasFirstFault input other → other ≡ fault)
+
 -- The bytes of an input are no certificate's text, and this is their first fault; `check` alone tells it.
 abbrev pub IsCertificateFault : Wish → List ℕ → CertFault → Type 0
 IsCertificateFault (to_solve settings rest) input fault = ⊥
-IsCertificateFault (to_check workers) input fault = IsCertificateOutcome input (Err (ends.Fault fault)) × IsNoCertificate input
+IsCertificateFault (to_check workers) input fault = HasOneFault input fault × IsNoCertificate input
 
 -- The bytes of an input were all that the source had left, and no more than the command takes.
 pub record IsReadWhole (wish : Wish) (source : Shown) (input : List ℕ) : Type 0 where

@@ -1,5 +1,5 @@
 // How a run ended.
-ghost use Rattle.std.specs.Prelude.{◌≡◌};
+ghost use Rattle.std.specs.Prelude.{◌≡◌, Some};
 ghost use Rattle.tsume_app.specs.Status.{solution_status, judgement_status, answer_status, fault_status, status_of, is_answered};
 
 use crate::answer::{Answer, Judgement, Solution};
@@ -83,6 +83,10 @@ impl Ended {
 }
 
 impl fmt::Display for Ended {
+    ghost use Rattle.tsume_app.specs.FaultText.{ended_text};
+
+    ghost output = { λ ended. Some (ended_text ended) };
+
     fn fmt<W: Write>(&self, f: &mut fmt::Formatter<W>) -> fmt::Result {
         match self {
             Ended::Answered(_) => Ok(()),

@@ -1,5 +1,5 @@
 // Why a run ends without an answer.
-ghost use Rattle.std.specs.Prelude.{◌≡◌};
+ghost use Rattle.std.specs.Prelude.{◌≡◌, Some};
 
 use cert_text::CertFault;
 use sfen_text::TextFault;
@@ -27,6 +27,10 @@ impl From<TextFault> for ProblemFault {
 }
 
 impl fmt::Display for ProblemFault {
+    ghost use Rattle.tsume_app.specs.FaultText.{problem_fault_text};
+
+    ghost output = { λ fault. Some (problem_fault_text fault) };
+
     fn fmt<W: Write>(&self, f: &mut fmt::Formatter<W>) -> fmt::Result {
         match self {
             ProblemFault::Text(fault) => write!(f, "{fault}"),
@@ -76,6 +80,10 @@ impl From<AllocError> for Fault {
 }
 
 impl fmt::Display for Fault {
+    ghost use Rattle.tsume_app.specs.FaultText.{failure_text};
+
+    ghost output = { λ fault. Some (failure_text fault) };
+
     fn fmt<W: Write>(&self, f: &mut fmt::Formatter<W>) -> fmt::Result {
         match self {
             Fault::NotUtf8 => write!(f, "a word is not UTF-8"),

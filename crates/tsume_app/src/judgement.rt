@@ -9,7 +9,7 @@ ghost use Rattle.tsume_app.specs.Run.{IsReadWhole, IsTrueOfInput, HasCause};
 use crate::answer::{Answer, Judgement};
 use crate::fault::Fault;
 use cert_check::{Verdict, check};
-use cert_text::{CertEnd, Certificate, read_cert};
+use cert_text::{CertEnd, Certificate, cert_laws, read_cert};
 use std::alloc::{AllocError, Global};
 
 fn judgement_of(alloc: Global, certificate: &Certificate) -> Result<Judgement, AllocError>
@@ -32,6 +32,8 @@ pub(crate) fn judge_input(alloc: Global, input: &[u8]) -> Result<Answer, Fault>
     ensures cause { (workers : ℕ) (source : Shown) → IsReadWhole (to_check workers) source input.now
         → IfErr result (λ fault. HasCause (to_check workers) source fault input.now) }
 {
+    // No text has two first faults.
+    cert_laws();
     match read_cert(alloc, input) {
         Ok(certificate) => Ok(Answer::Judged(judgement_of(alloc, &certificate)?)),
         Err(CertEnd::Fault(fault)) => Err(Fault::Cert(fault)),

@@ -11,6 +11,7 @@ mod input;
 mod judgement;
 mod program;
 mod solution;
+mod telling;
 mod text;
 
 pub use answer::{Answer, Cause, Judgement, MainLine, Solution};
@@ -18,6 +19,7 @@ pub use ended::Ended;
 pub use fault::{Fault, ProblemFault};
 pub use input::{Input, MOST_CERTIFICATE_BYTES, MOST_PROBLEM_BYTES};
 pub use program::run;
+pub use telling::{Told, run_and_tell, start, tell};
 
 #[cfg(test)]
 mod tests;

@@ -3,10 +3,13 @@ ghost use Rattle.std.specs.Prelude.{◌≡◌, ◌⊎◌, ◌↔◌, ℕ, Bool, 
 ghost use Rattle.board_core.specs.declared.moves.Move.{Move};
 ghost use Rattle.cert_text.specs.Certificate.{Mating, Escaping};
 ghost use Rattle.tsume_io.specs.Faults.{Rose};
-ghost use Rattle.tsume_words.specs.Given.{Wish};
+ghost use Rattle.cert_text.specs.declared.head.Claim.{Claim};
+ghost use Rattle.tsume_words.specs.Given.{Wish, SettingsView};
+ghost use Rattle.tsume_words.specs.Given.Wish.{to_solve};
 ghost use Rattle.tsume_words.specs.Meaning.{FailsFirst, command_of, texts_of, wish_of};
 ghost use Rattle.tsume_words.specs.declared.faults.WordFault.{WordFault};
-ghost use Rattle.tsume_app.specs.Headline.{AsksToSolve, AsksToCheck, StandsForMate, StandsForNoMate, IsValidText, IsAccepted, IsBrokenOff};
+ghost use Rattle.tsume_app.specs.declared.answer.Cause.{Cause};
+ghost use Rattle.tsume_app.specs.Headline.{AsksToSolve, AsksToCheck, StandsForMate, StandsForNoMate, StandsForUnknown, NamesMate, NamesNoMate, IsValidText, IsAccepted, IsBrokenOff};
 ghost use Rattle.tsume_app.specs.Inside.{HasTexts, HasWritten, IsReadCounted};
 ghost use Rattle.tsume_app.specs.Input.{limit_of};
 ghost use Rattle.tsume_app.specs.Outside.{Shown, shown, NeverFailed};
@@ -152,9 +155,19 @@ pub fn run<S: Source, K: Sink, G: Gate>(
         → AsksToSolve rest (texts_of words.items) → S.left source.old ≡ Some input
         → result ≡ Ended.Answered (Answer.Solved (Solution.NoMate c)) → StandsForNoMate rest input c }
 
-    // Where `check` wasn't broken off, it accepts exactly where the bytes are the text of a valid certificate.
-    ensures accepted { (input : List ℕ) → AsksToCheck (texts_of words.items) → S.left source.old ≡ Some input
-        → ¬ IsBrokenOff result → (IsAccepted result ↔ IsValidText input) }
+    // Where it gave up, the stated expansions tell neither.
+    ensures gave_up { (settings : SettingsView) (rest : Bool) (input : List ℕ) (cause : Cause)
+        → command_of (texts_of words.items) ≡ Some (to_solve settings rest) → S.left source.old ≡ Some input
+        → result ≡ Ended.Answered (Answer.Solved (Solution.Unknown cause)) → StandsForUnknown rest settings.expansions input cause }
+
+    // Whatever the source tells of its bytes, as a file tells nothing: what ended with a mate names one.
+    ensures own_mate { (c : Mating) (moves : List Move) → result ≡ Ended.Answered (Answer.Solved (Solution.Mate c moves)) → NamesMate c moves }
+    ensures own_no_mate { (c : Escaping) → result ≡ Ended.Answered (Answer.Solved (Solution.NoMate c)) → NamesNoMate c }
+
+    // Where `check` wasn't broken off, it accepts exactly where the bytes are the text of a valid certificate, with its claim and the
+    // number of its entries.
+    ensures accepted { (input : List ℕ) (claim : Claim) (entries : ℕ) → AsksToCheck (texts_of words.items) → S.left source.old ≡ Some input
+        → ¬ IsBrokenOff result → (IsAccepted result claim entries ↔ IsValidText input claim entries) }
 
     // In full. What a command did: a printed mate is one, a printed "no mate" means that there is none, each with a certificate that
     // the checker accepts; an accepted certificate is valid; each refusal has its cause.

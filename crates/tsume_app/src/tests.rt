@@ -1,5 +1,5 @@
 // Whole runs over a source and a sink in memory.
-use crate::{Ended, run};
+use crate::{Ended, run, run_and_tell};
 use search_gate::{Gate, OpenGate};
 use std::alloc::Global;
 use std::sync::atomic::{AtomicU64, Ordering};
@@ -305,5 +305,57 @@ fn the_gate_is_passed_for_each_position(rt: HostRuntime) -> Result<(), Fail> {
     // The problem, and what its seven checks lead to.
     assert_eq!(rt; gate.passed.load(Ordering::SeqCst), 8);
     assert_eq!(rt; gate.wrong.load(Ordering::SeqCst), 0);
+    Ok(())
+}
+
+#[test]
+fn the_user_is_told_how_a_run_ended(rt: HostRuntime) -> Result<(), Fail> {
+    // Words, an input, the failing call of the sink and of the user's sink; the status, and what the user is told.
+    let table = [
+        ("solve", GOLD, 0, 0, 0, ""),
+        ("solve --expansions 1", TWO_ROOKS, 0, 0, 1, ""),
+        ("solve", "", 0, 0, 3, "tsume: bad row at 0\n"),
+        (
+            "solve",
+            "4k4/9/9/9/9/9/9/9/4R4 b - 1\n",
+            0,
+            0,
+            3,
+            "tsume: defender in check\n",
+        ),
+        (
+            "solve --rows 24",
+            GOLD,
+            0,
+            0,
+            2,
+            "tsume: rows is no power of two\n",
+        ),
+        ("solve", GOLD, 1, 0, 5, "tsume: write fault\n"),
+        ("check", OPEN_ESCAPE, 0, 0, 7, ""),
+        ("check", GOLD, 0, 2, 3, "tsume: bad "),
+    ];
+    for (line, input, sink, user, status, told) in table {
+        let mut words = Vec::new(rt.alloc());
+        for word in line.split(' ') {
+            words.push(String::from_str(rt.alloc(), word)?)?;
+        }
+        let bytes = Vec::from_slice(rt.alloc(), input.as_bytes())?;
+        let mut from = MemSource::make(bytes, 7, Vec::new(rt.alloc()));
+        let calls = Vec::from_slice(rt.alloc(), &[sink])?;
+        let mut to = MemSink::make(rt.alloc(), 4096, 11, calls)?;
+        let calls = Vec::from_slice(rt.alloc(), &[user])?;
+        let mut errors = MemSink::make(rt.alloc(), 4096, 11, calls)?;
+        let found = run_and_tell(
+            rt.alloc(),
+            words,
+            &mut from,
+            &mut to,
+            &mut errors,
+            &OpenGate,
+        );
+        assert_eq!(rt; found, status, "{line} {input}");
+        assert!(rt; errors.kept() == told.as_bytes(), "{line} {input}");
+    }
     Ok(())
 }

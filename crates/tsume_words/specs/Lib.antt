@@ -2,4 +2,5 @@
 pub mod Given
 pub mod Line
 pub mod Meaning
+pub mod FaultText
 pub mod Sizes

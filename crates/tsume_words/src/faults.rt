@@ -26,6 +26,11 @@ pub enum WordFault {
 }
 
 impl fmt::Display for WordFault {
+    ghost use Rattle.std.specs.Prelude.{Some};
+    ghost use Rattle.tsume_words.specs.FaultText.{word_fault_text};
+
+    ghost output = { λ fault. Some (word_fault_text fault) };
+
     fn fmt<W: fmt::Write>(&self, f: &mut fmt::Formatter<W>) -> fmt::Result {
         f.write_str(match self {
             WordFault::Clap(text) => text.as_str().trim_end(),

@@ -1,10 +1,11 @@
 use Rattle.tsume_words.specs.Given.Wish.{to_solve, to_check}
+use Rattle.tsume_words.specs.Meaning.{texts_of}
 use Rattle.tsume_app.specs.declared.ended.Ended.{Ended}
 use Rattle.std.proofs.Common.{subst}
 use Rattle.tsume_app.specs.Outside.{shown}
 use Rattle.tsume_app.specs.Run.{IsEnded}
 use Rattle.tsume_app.proofs.Complete.{complete_of}
-use Rattle.tsume_app.proofs.Promises.{mate_of, no_mate_of, accepted_of}
+use Rattle.tsume_app.proofs.Promises.{mate_of, no_mate_of, unknown_of, own_mate_of, own_no_mate_of, accepted_of}
 use Rattle.tsume_app.proofs.program.run.Goals as goal
 
 pub returns-clause-mate : goal.returns-clause-mate
@@ -21,11 +22,30 @@ returns-clause-no_mate g c = λ rest input certificate asks told is.
     no_mate_of asks.0 rest source sink input certificate
     (subst (λ (e : Ended). IsEnded (to_solve asks.0 rest) source sink e) is (c.words_ended.ensures.ended (to_solve asks.0 rest) asks.1)) told
 
-pub returns-clause-accepted : goal.returns-clause-accepted
-returns-clause-accepted g c = λ input asks told whole.
+pub returns-clause-gave_up : goal.returns-clause-gave_up
+returns-clause-gave_up g c = λ settings rest input cause asks told is.
     let source = shown g.S.Source.left g.S.Source.faults c.args.source.now c.words_ended.new.source in
     let sink = shown g.K.Sink.kept g.K.Sink.faults c.args.sink.now c.words_ended.new.sink in
-    accepted_of asks.0 source sink input c.words_ended.result (c.words_ended.ensures.ended (to_check asks.0) asks.1) told whole
+    unknown_of settings rest source sink input cause
+    (subst (λ (e : Ended). IsEnded (to_solve settings rest) source sink e) is (c.words_ended.ensures.ended (to_solve settings rest) asks)) told
+
+pub returns-clause-own_mate : goal.returns-clause-own_mate
+returns-clause-own_mate g c = λ certificate moves is.
+    let source = shown g.S.Source.left g.S.Source.faults c.args.source.now c.words_ended.new.source in
+    let sink = shown g.K.Sink.kept g.K.Sink.faults c.args.sink.now c.words_ended.new.sink in
+    own_mate_of (texts_of c.args.words.items) source sink c.words_ended.result certificate moves c.words_ended.ensures.ended c.words_ended.ensures.words is
+
+pub returns-clause-own_no_mate : goal.returns-clause-own_no_mate
+returns-clause-own_no_mate g c = λ certificate is.
+    let source = shown g.S.Source.left g.S.Source.faults c.args.source.now c.words_ended.new.source in
+    let sink = shown g.K.Sink.kept g.K.Sink.faults c.args.sink.now c.words_ended.new.sink in
+    own_no_mate_of (texts_of c.args.words.items) source sink c.words_ended.result certificate c.words_ended.ensures.ended c.words_ended.ensures.words is
+
+pub returns-clause-accepted : goal.returns-clause-accepted
+returns-clause-accepted g c = λ input claim entries asks told whole.
+    let source = shown g.S.Source.left g.S.Source.faults c.args.source.now c.words_ended.new.source in
+    let sink = shown g.K.Sink.kept g.K.Sink.faults c.args.sink.now c.words_ended.new.sink in
+    accepted_of asks.0 source sink input claim entries c.words_ended.result (c.words_ended.ensures.ended (to_check asks.0) asks.1) told whole
 
 pub returns-clause-complete : goal.returns-clause-complete
 returns-clause-complete g c = λ wish asks posed sound kept.

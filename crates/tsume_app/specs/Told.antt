@@ -1,0 +1,40 @@
+-- What the user is told beside the answer, on the standard error.
+use Rattle.std.specs.Prelude.{◌≡◌, ℕ, List, [], ◌∷◌, ◌++◌, Some, None, codes}
+use Rattle.clap.specs.Words.{Text as Word}
+use Rattle.tsume_io.specs.Faults.{Rose}
+use Rattle.tsume_io.specs.Sink.{GrewBy, GrewByPrefix}
+use Rattle.tsume_words.specs.Given.{Wish}
+use Rattle.tsume_words.specs.Meaning.{command_of}
+use Rattle.tsume_app.specs.declared.ended.Ended.{Ended}
+use Rattle.tsume_app.specs.declared.ended.Ended.TheVariants.{Answered, CutShort, Failed}
+use Rattle.tsume_app.specs.declared.telling.Told.{Told}
+use Rattle.tsume_app.specs.declared.telling.Told.TheVariants.{Whole, InPart, Nothing}
+use Rattle.tsume_app.specs.FaultText.{ended_text}
+use Rattle.tsume_app.specs.Outside.{Shown, NeverFailed, IsUntouched}
+use Rattle.tsume_app.specs.Run.{IsEnded, AreWordsRefused}
+use Rattle.tsume_app.specs.Status.{status_of}
+
+-- A line for the user: `tsume: `, a text, and a line feed.
+abbrev pub told_line : List ℕ → List ℕ
+told_line text = codes "tsume: " ++ text ++ 10 ∷ []
+
+-- What the user is told of a run: nothing where it was answered, else a line with the ending's text.
+abbrev pub told_text : Ended → List ℕ
+told_text (Answered answer) = []
+told_text (CutShort answer) = told_line (ended_text (CutShort answer))
+told_text (Failed fault input) = told_line (ended_text (Failed fault input))
+
+-- How much of a run's ending the user was told: all; a part, where the sink failed; or nothing, for want of memory, which is free.
+abbrev pub IsTold : Shown → Ended → Told → Type 0
+IsTold errors ended Whole = GrewBy errors.told errors.told_after (told_text ended) × NeverFailed errors
+IsTold errors ended InPart = GrewByPrefix errors.told errors.told_after (told_text ended) × Rose errors.faults errors.faults_after
+IsTold errors ended Nothing = IsUntouched errors
+
+-- A run ended as runs do, the user was told of it, and the status is the ending's.
+pub record IsToldRun (words : List Word) (source sink errors : Shown) (status : ℕ) : Type 0 where
+  pub ended : Ended
+  pub told : Told
+  pub is_status : status ≡ status_of ended
+  pub is_told : IsTold errors ended told
+  pub does : (wish : Wish) → command_of words ≡ Some wish → IsEnded wish source sink ended
+  pub refuses : command_of words ≡ None → AreWordsRefused words source sink ended

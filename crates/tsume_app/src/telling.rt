@@ -1,0 +1,113 @@
+// What the user is told beside the answer, and the program as a whole.
+ghost use Rattle.std.specs.Prelude.{◌≡◌, ◌++◌, OnOk};
+ghost use Rattle.tsume_words.specs.Meaning.{texts_of};
+ghost use Rattle.tsume_app.specs.Outside.{shown};
+ghost use Rattle.tsume_app.specs.Told.{told_text, IsTold, IsToldRun};
+
+use crate::ended::Ended;
+use crate::fault::Fault;
+use crate::input::Input;
+use crate::program::run;
+use search_gate::{Gate, OpenGate};
+use std::alloc::{AllocError, Global};
+use std::env::{self, Env};
+use std::io::{self, Print};
+use tsume_io::{Sink, Source, StdSink, StdSource, write_all};
+
+/// How much of an ending the user was told.
+#[derive(Clone, Copy, PartialEq, Eq, Debug)]
+pub enum Told {
+    /// All that there is to tell; nothing where the run was answered.
+    Whole,
+    /// A part: the sink failed.
+    InPart,
+    /// Nothing, for want of memory.
+    Nothing,
+}
+
+fn append_told(alloc: Global, out: &mut Vec<u8>, ended: &Ended) -> Result<(), AllocError>
+    ensures { OnOk result (out.new.items ≡ out.old.items ++ told_text ended.now) }
+{
+    if ended.is_answered() {
+        return Ok(());
+    }
+    let line = format!(in alloc; "tsume: {ended}\n")?;
+    out.extend_from_slice(line.as_bytes())?;
+    Ok(())
+}
+
+/// Tells the user how a run ended, on a sink beside that of the answer: nothing where it was answered, else a line with `tsume: ` and
+/// what the ending prints.
+pub fn tell<K: Sink>(alloc: Global, ended: &Ended, errors: &mut K) -> Told
+    ensures { IsTold (shown K.kept K.faults errors.old errors.new) ended.now result }
+{
+    let mut text = Vec::new(alloc);
+    if append_told(alloc, &mut text, ended).is_err() {
+        return Told::Nothing;
+    }
+    if write_all(errors, &text).is_err() {
+        return Told::InPart;
+    }
+    Told::Whole
+}
+
+/// Runs the program as [`run`] does, and tells the user how it ended: see [`tell`]. What comes back is the exit status.
+pub fn run_and_tell<S: Source, K: Sink, E: Sink, G: Gate>(
+    alloc: Global,
+    words: Vec<String>,
+    source: &mut S,
+    sink: &mut K,
+    errors: &mut E,
+    gate: &G,
+) -> u8
+    ensures { IsToldRun (texts_of words.items) (shown S.left S.faults source.old source.new) (shown K.kept K.faults sink.old sink.new)
+        (shown E.kept E.faults errors.old errors.new) result }
+{
+    let ended = run(alloc, words, source, sink, gate);
+    tell(alloc, &ended, errors);
+    ended.status()
+}
+
+// The words of the command line behind the program's name.
+fn words<R: Env + AllocGlobal>(rt: &R) -> io::Result<Vec<String>> {
+    let mut words = Vec::new(rt.alloc());
+    for word in env::args(rt)?.skip(1) {
+        words.push(word)?;
+    }
+    Ok(words)
+}
+
+// Why there are no words.
+fn fault_of(error: &io::Error) -> Fault {
+    if error.kind() == io::ErrorKind::InvalidData {
+        Fault::NotUtf8
+    } else {
+        Fault::NoMemory
+    }
+}
+
+/// The program over the words of the command line, the standard input and output, and a writer for what the user is told: see
+/// [`run_and_tell`]. Words that are no UTF-8 are refused. What comes back is the exit status.
+pub fn start<R: Env + io::Input + Print + AllocGlobal, W: io::Write + Drop>(
+    rt: &R,
+    errors: W,
+) -> u8 {
+    let mut source = StdSource::new(rt.reader());
+    let mut sink = StdSink::new(io::writer(rt));
+    let mut errors = StdSink::new(errors);
+    match words(rt) {
+        Ok(words) => run_and_tell(
+            rt.alloc(),
+            words,
+            &mut source,
+            &mut sink,
+            &mut errors,
+            &OpenGate,
+        ),
+        Err(error) => {
+            let ended = Ended::Failed(fault_of(&error), Input::none(rt.alloc()));
+            tell(rt.alloc(), &ended, &mut errors);
+            ended.status()
+        }
+    }
+}
