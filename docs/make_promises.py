@@ -9,19 +9,14 @@ its caller; and the names of its clauses, `it` for one that has no name.
 """
 import os, re, sys
 
-TOP = os.path.dirname(os.path.dirname(os.path.abspath(__file__)))
+sys.dont_write_bytecode = True
+from make_definitions import TOP, crates
+
 PAGE = os.path.join(TOP, "docs", "promises.md")
 MARK = "<!-- What follows is made by docs/make_promises.py. -->\n"
 FN = re.compile(r"^( *)(pub )?fn ([a-z_0-9]+)")
 CLAUSE = re.compile(r"^ *(requires|ensures) ([a-z_0-9]+ )?\{")
 BLOCK = re.compile(r"^(?:pub )?(?:impl(?:<[^{]*?>)?|trait) (?:(?P<trait>[A-Z]\w*)(?:<[^{]*>)? for )?(?P<name>[A-Z]\w*)")
-
-
-def crates():
-    for line in open(os.path.join(TOP, "crates.txt"), encoding="utf-8"):
-        line = line.split("#")[0]
-        if ":" in line:
-            yield line.split(":")[0].split()[0]
 
 
 def exported(folder):
