@@ -3,439 +3,140 @@ use super::*;
 use std::process::Abort;
 use std::test::Fail;
 
-// A piece by its square (tens for the file, ones for the row: 51 is 5a), kind, whether it is promoted, and side.
-type Placed = (u8, Kind, bool, Side);
-
 const NONE: [u8; 7] = [0; 7];
+
+const HALF: [u8; 7] = [9, 2, 2, 2, 2, 1, 1];
 
 const ALL: [u8; 7] = [18, 4, 4, 4, 4, 2, 2];
 
-fn square(rt: &impl Abort, code: u8) -> Square {
-    let (file, row) = (code / 10, code % 10);
-    assert!(rt;
-        1 <= file && file <= 9 && 1 <= row && row <= 9,
-        "square {code}"
-    );
-    Square::on(file, row)
-}
+const SOME: [u8; 7] = [10, 4, 0, 4, 1, 1, 0];
 
-fn cells_of(rt: &impl Abort, pieces: &[Placed]) -> [Option<Piece>; 81] {
+const OTHERS: [u8; 7] = [8, 0, 4, 0, 3, 0, 1];
+
+const ONE_FILE: &str = "k5a +P1a +P1b +p1c +P1d +p1e +P1f +P1g +p1h +p1i";
+
+use BadPosition::{DeadPiece, NoDefenderKing, TooMany, TwoKings, TwoPawns};
+use Kind::{Bishop, Gold, Knight, Lance, Pawn, Rook, Silver};
+use Side::{Black, White};
+
+// The cells of a text as `k5a +P5c`: of each piece its letter, capital for Black and behind a `+` where it is promoted, and
+// its square.
+fn cells_of(rt: &impl Abort, pieces: &str) -> [Option<Piece>; 81] {
     let mut cells = [None; 81];
-    for (code, kind, promoted, side) in pieces.iter() {
-        let promoted = *promoted && kind.can_promote();
-        cells[square(rt, *code).number as usize] = Some(Piece {
-            kind: *kind,
-            promoted,
-            side: *side,
+    for word in pieces.split_whitespace() {
+        let plain = word.strip_prefix("+").unwrap_or(word).as_bytes();
+        assert!(rt; plain.len() == 3, "piece {word}");
+        let capital = plain[0].to_ascii_uppercase();
+        let kind = Kind::of_letter(capital).expect(rt, word);
+        let (file, row) = (plain[1].wrapping_sub(b'1'), plain[2].wrapping_sub(b'a'));
+        assert!(rt; file < 9 && row < 9, "square of {word}");
+        cells[(file * 9 + row) as usize] = Some(Piece {
+            kind,
+            promoted: plain.len() < word.len() && kind.can_promote(),
+            side: if plain[0] == capital { Black } else { White },
         });
     }
     cells
 }
 
-use BadPosition::{DeadPiece, NoDefenderKing, TooMany, TwoKings, TwoPawns};
-use Kind::{Bishop, Gold, King, Knight, Lance, Pawn, Rook, Silver};
-use Side::{Black, White};
+// What stands on the board, the two hands, and who moves.
+type Stand<'a> = (&'a str, [u8; 7], [u8; 7], Side);
 
-// What stands on the board, the two hands, who moves, and the fault that has to be named, if any.
-type Row<'a> = (&'a [Placed], [u8; 7], [u8; 7], Side, Option<BadPosition>);
-
-fn dead(number: u8) -> Option<BadPosition> {
-    Square::numbered(number).map(DeadPiece)
+fn built(rt: &impl Abort, (pieces, black, white, side): &Stand) -> Result<Position, BadPosition> {
+    let cells = cells_of(rt, pieces);
+    Position::build(&cells, Hand::of(*black), Hand::of(*white), *side)
 }
 
-fn check(rt: &impl Abort, rows: &[Row]) {
-    for (row, (pieces, black, white, side, fault)) in rows.iter().enumerate() {
-        let cells = cells_of(rt, pieces);
-        match Position::build(&cells, Hand::of(*black), Hand::of(*white), *side) {
-            Ok(position) => {
-                assert_eq!(rt; None, *fault, "row {row}");
-                assert_eq!(rt; position.hand(Black), Hand::of(*black), "row {row}");
-                assert_eq!(rt; position.hand(White), Hand::of(*white), "row {row}");
-                assert_eq!(rt; position.side(), *side, "row {row}");
-                assert!(rt; position.cells() == &cells, "row {row}");
-            }
-            Err(found) => assert_eq!(rt; Some(found), *fault, "row {row}"),
-        }
+fn stand(rt: &impl Abort, row: &Stand) -> Position {
+    built(rt, row).expect(rt, row.0)
+}
+
+#[test]
+fn the_first_kind_with_too_many_is_named(rt: HostRuntime) {
+    // Before a king that isn't there, too.
+    for (pieces, black, white, kind) in [
+        ("", [19, 0, 0, 0, 0, 0, 0], NONE, Pawn),
+        ("P5c", [9, 0, 0, 0, 0, 0, 0], [9, 0, 0, 0, 0, 0, 0], Pawn),
+        ("+p5c", [18, 0, 0, 0, 0, 0, 0], NONE, Pawn),
+        ("", [0, 5, 5, 0, 0, 0, 3], NONE, Lance),
+        ("", NONE, [0, 0, 5, 5, 5, 3, 3], Knight),
+        ("", [0, 0, 0, 2, 3, 0, 0], [0, 0, 0, 3, 2, 0, 0], Silver),
+        ("k5a", [0, 0, 0, 0, 5, 3, 3], NONE, Gold),
+        ("+b5e +B5f", [0, 0, 0, 0, 0, 1, 0], NONE, Bishop),
+        ("+r5e R5f", NONE, [0, 0, 0, 0, 0, 0, 1], Rook),
+    ] {
+        let built = built(&rt, &(pieces, black, white, Black));
+        assert_eq!(rt; built.err(), Some(TooMany(kind)), "{pieces}");
     }
 }
 
 #[test]
-fn the_first_fault_is_named(rt: HostRuntime) {
-    check(
-        &rt,
-        &[
-            // Too many of a kind, and no king either.
-            (
-                &[],
-                [19, 0, 0, 0, 0, 0, 0],
-                NONE,
-                Black,
-                Some(TooMany(Pawn)),
-            ),
-            (
-                &[(53, Pawn, false, Black)],
-                [9, 0, 0, 0, 0, 0, 0],
-                [9, 0, 0, 0, 0, 0, 0],
-                Black,
-                Some(TooMany(Pawn)),
-            ),
-            (
-                &[(53, Pawn, true, White)],
-                [18, 0, 0, 0, 0, 0, 0],
-                NONE,
-                Black,
-                Some(TooMany(Pawn)),
-            ),
-            (
-                &[],
-                [0, 5, 5, 0, 0, 0, 3],
-                NONE,
-                Black,
-                Some(TooMany(Lance)),
-            ),
-            (
-                &[],
-                NONE,
-                [0, 0, 5, 5, 5, 3, 3],
-                Black,
-                Some(TooMany(Knight)),
-            ),
-            (
-                &[],
-                [0, 0, 0, 2, 3, 0, 0],
-                [0, 0, 0, 3, 2, 0, 0],
-                Black,
-                Some(TooMany(Silver)),
-            ),
-            (
-                &[(51, King, false, White)],
-                [0, 0, 0, 0, 5, 3, 3],
-                NONE,
-                Black,
-                Some(TooMany(Gold)),
-            ),
-            (
-                &[(55, Bishop, true, White), (56, Bishop, true, Black)],
-                [0, 0, 0, 0, 0, 1, 0],
-                NONE,
-                Black,
-                Some(TooMany(Bishop)),
-            ),
-            (
-                &[(55, Rook, true, White), (56, Rook, false, Black)],
-                NONE,
-                [0, 0, 0, 0, 0, 0, 1],
-                Black,
-                Some(TooMany(Rook)),
-            ),
-            // The side that isn't to move has no king: before two kings, a dead piece and two pawns.
-            (&[], NONE, NONE, Black, Some(NoDefenderKing)),
-            (
-                &[(51, King, false, White), (11, Pawn, false, Black)],
-                NONE,
-                NONE,
-                White,
-                Some(NoDefenderKing),
-            ),
-            (
-                &[(59, King, false, Black), (58, King, false, Black)],
-                NONE,
-                NONE,
-                Black,
-                Some(NoDefenderKing),
-            ),
-            // Two kings, of either side: before a dead piece and two pawns.
-            (
-                &[
-                    (59, King, false, Black),
-                    (58, King, false, Black),
-                    (11, Pawn, false, Black),
-                ],
-                NONE,
-                NONE,
-                White,
-                Some(TwoKings),
-            ),
-            (
-                &[
-                    (51, King, false, White),
-                    (52, King, false, White),
-                    (33, Pawn, false, Black),
-                    (34, Pawn, false, Black),
-                ],
-                NONE,
-                NONE,
-                Black,
-                Some(TwoKings),
-            ),
-            // The first piece that could never move again, before two pawns.
-            (
-                &[
-                    (51, King, false, White),
-                    (91, Pawn, false, Black),
-                    (19, Lance, false, White),
-                ],
-                NONE,
-                NONE,
-                Black,
-                dead(8),
-            ),
-            (
-                &[
-                    (51, King, false, White),
-                    (33, Pawn, false, Black),
-                    (34, Pawn, false, Black),
-                    (91, Lance, false, Black),
-                ],
-                NONE,
-                NONE,
-                Black,
-                dead(72),
-            ),
-            (
-                &[(51, King, false, White), (12, Knight, false, Black)],
-                NONE,
-                NONE,
-                Black,
-                dead(1),
-            ),
-            (
-                &[(51, King, false, White), (11, Knight, false, Black)],
-                NONE,
-                NONE,
-                Black,
-                dead(0),
-            ),
-            (
-                &[(51, King, false, White), (28, Knight, false, White)],
-                NONE,
-                NONE,
-                Black,
-                dead(16),
-            ),
-            (
-                &[(51, King, false, White), (29, Knight, false, White)],
-                NONE,
-                NONE,
-                Black,
-                dead(17),
-            ),
-            (
-                &[(51, King, false, White), (99, Pawn, false, White)],
-                NONE,
-                NONE,
-                Black,
-                dead(80),
-            ),
-            // The first file with two unpromoted pawns of a side.
-            (
-                &[
-                    (51, King, false, White),
-                    (93, Pawn, false, Black),
-                    (95, Pawn, false, Black),
-                    (23, Pawn, false, White),
-                    (27, Pawn, false, White),
-                ],
-                NONE,
-                NONE,
-                Black,
-                Some(TwoPawns(2)),
-            ),
-            (
-                &[
-                    (51, King, false, White),
-                    (18, Pawn, true, White),
-                    (12, Pawn, false, White),
-                    (17, Pawn, false, White),
-                ],
-                NONE,
-                NONE,
-                Black,
-                Some(TwoPawns(1)),
-            ),
-            (
-                &[
-                    (51, King, false, White),
-                    (92, Pawn, false, Black),
-                    (99, Pawn, false, Black),
-                ],
-                NONE,
-                NONE,
-                Black,
-                Some(TwoPawns(9)),
-            ),
-        ],
-    );
+fn a_fault_of_the_pieces_is_named_in_order(rt: HostRuntime) {
+    for (pieces, side, fault) in [
+        // The side that isn't to move has no king: before two kings, a dead piece and two pawns.
+        ("", Black, NoDefenderKing),
+        ("k5a P1a", White, NoDefenderKing),
+        ("K5i K5h", Black, NoDefenderKing),
+        // Two kings, of either side: before a dead piece and two pawns.
+        ("K5i K5h P1a", White, TwoKings),
+        ("k5a k5b P3c P3d", Black, TwoKings),
+        // The first piece that could never move again, before two pawns.
+        ("k5a P9a l1i", Black, DeadPiece(Square { number: 8 })),
+        ("k5a P3c P3d L9a", Black, DeadPiece(Square { number: 72 })),
+        ("k5a N1b", Black, DeadPiece(Square { number: 1 })),
+        ("k5a N1a", Black, DeadPiece(Square { number: 0 })),
+        ("k5a n2h", Black, DeadPiece(Square { number: 16 })),
+        ("k5a n2i", Black, DeadPiece(Square { number: 17 })),
+        ("k5a p9i", Black, DeadPiece(Square { number: 80 })),
+        // The first file with two unpromoted pawns of a side.
+        ("k5a P9c P9e p2c p2g", Black, TwoPawns(2)),
+        ("k5a +p1h p1b p1g", Black, TwoPawns(1)),
+        ("k5a P9b P9i", Black, TwoPawns(9)),
+    ] {
+        let built = built(&rt, &(pieces, NONE, NONE, side));
+        assert_eq!(rt; built.err(), Some(fault), "{pieces}");
+    }
 }
 
 #[test]
 fn what_may_stand_stands(rt: HostRuntime) {
-    check(
-        &rt,
-        &[
-            // One king, of the side that isn't to move, and nothing else; then everything else in hand.
-            (&[(51, King, false, White)], NONE, NONE, Black, None),
-            (&[(59, King, false, Black)], NONE, NONE, White, None),
-            (&[(51, King, false, White)], ALL, NONE, Black, None),
-            (
-                &[(51, King, false, White), (59, King, false, Black)],
-                [9, 2, 2, 2, 2, 1, 1],
-                [9, 2, 2, 2, 2, 1, 1],
-                Black,
-                None,
-            ),
-            (
-                &[
-                    (51, King, false, White),
-                    (53, Bishop, true, White),
-                    (54, Rook, false, Black),
-                ],
-                [10, 4, 0, 4, 1, 1, 0],
-                [8, 0, 4, 0, 3, 0, 1],
-                Black,
-                None,
-            ),
-            // A promoted pawn on each row of one file; an unpromoted one among promoted ones; one of each side.
-            (
-                &[
-                    (51, King, false, White),
-                    (11, Pawn, true, Black),
-                    (12, Pawn, true, Black),
-                    (13, Pawn, true, White),
-                    (14, Pawn, true, Black),
-                    (15, Pawn, true, White),
-                    (16, Pawn, true, Black),
-                    (17, Pawn, true, Black),
-                    (18, Pawn, true, White),
-                    (19, Pawn, true, White),
-                ],
-                NONE,
-                NONE,
-                Black,
-                None,
-            ),
-            (
-                &[
-                    (51, King, false, White),
-                    (75, Pawn, false, Black),
-                    (73, Pawn, true, Black),
-                    (77, Pawn, true, Black),
-                ],
-                NONE,
-                NONE,
-                Black,
-                None,
-            ),
-            (
-                &[
-                    (51, King, false, White),
-                    (75, Pawn, false, Black),
-                    (73, Pawn, false, White),
-                ],
-                NONE,
-                NONE,
-                Black,
-                None,
-            ),
-            // One pawn on a file beside another on the next one.
-            (
-                &[
-                    (51, King, false, White),
-                    (19, Pawn, false, Black),
-                    (22, Pawn, false, Black),
-                ],
-                NONE,
-                NONE,
-                Black,
-                None,
-            ),
-            // As far ahead as each may stand, and on the rows where the other side's couldn't; promoted ones anywhere.
-            (
-                &[
-                    (51, King, false, White),
-                    (12, Pawn, false, Black),
-                    (22, Lance, false, Black),
-                    (33, Knight, false, Black),
-                ],
-                NONE,
-                NONE,
-                Black,
-                None,
-            ),
-            (
-                &[
-                    (51, King, false, White),
-                    (18, Pawn, false, White),
-                    (28, Lance, false, White),
-                    (37, Knight, false, White),
-                ],
-                NONE,
-                NONE,
-                Black,
-                None,
-            ),
-            (
-                &[
-                    (51, King, false, White),
-                    (19, Pawn, false, Black),
-                    (29, Lance, false, Black),
-                    (39, Knight, false, Black),
-                ],
-                NONE,
-                NONE,
-                Black,
-                None,
-            ),
-            (
-                &[
-                    (51, King, false, White),
-                    (11, Pawn, false, White),
-                    (21, Lance, false, White),
-                    (31, Knight, false, White),
-                ],
-                NONE,
-                NONE,
-                Black,
-                None,
-            ),
-            (
-                &[
-                    (51, King, false, White),
-                    (11, Lance, true, Black),
-                    (21, Knight, true, Black),
-                    (39, Lance, true, White),
-                    (49, Knight, true, White),
-                ],
-                NONE,
-                NONE,
-                Black,
-                None,
-            ),
-            // A silver, a gold, a bishop and a rook may stand on the last row.
-            (
-                &[
-                    (51, King, false, White),
-                    (11, Silver, false, Black),
-                    (21, Gold, false, Black),
-                    (31, Bishop, false, Black),
-                    (41, Rook, false, Black),
-                ],
-                NONE,
-                NONE,
-                Black,
-                None,
-            ),
-        ],
-    );
+    for (pieces, black, white, side) in [
+        // One king, of the side that isn't to move, and nothing else; then everything else in hand.
+        ("k5a", NONE, NONE, Black),
+        ("K5i", NONE, NONE, White),
+        ("k5a", ALL, NONE, Black),
+        ("k5a K5i", HALF, HALF, Black),
+        ("k5a +b5c R5d", SOME, OTHERS, Black),
+        // A promoted pawn on each row of one file; an unpromoted one among promoted ones; one of each side.
+        (ONE_FILE, NONE, NONE, Black),
+        ("k5a P7e +P7c +P7g", NONE, NONE, Black),
+        ("k5a P7e p7c", NONE, NONE, Black),
+        // One pawn on a file beside another on the next one.
+        ("k5a P1i P2b", NONE, NONE, Black),
+        // As far ahead as each may stand, and on the rows where the other side's couldn't; promoted ones anywhere.
+        ("k5a P1b L2b N3c", NONE, NONE, Black),
+        ("k5a p1h l2h n3g", NONE, NONE, Black),
+        ("k5a P1i L2i N3i", NONE, NONE, Black),
+        ("k5a p1a l2a n3a", NONE, NONE, Black),
+        ("k5a +L1a +N2a +l3i +n4i", NONE, NONE, Black),
+        // A silver, a gold, a bishop and a rook may stand on the last row.
+        ("k5a S1a G2a B3a R4a", NONE, NONE, Black),
+    ] {
+        let position = stand(&rt, &(pieces, black, white, side));
+        assert_eq!(rt; position.hand(Black), Hand::of(black), "{pieces}");
+        assert_eq!(rt; position.hand(White), Hand::of(white), "{pieces}");
+        assert_eq!(rt; position.side(), side, "{pieces}");
+        assert!(rt; position.cells() == &cells_of(&rt, pieces), "{pieces}");
+    }
 }
 
 #[test]
 fn kings_are_found_and_positions_compared(rt: HostRuntime) -> Result<(), Fail> {
-    let cells = cells_of(&rt, &[(51, King, false, White), (53, Gold, false, Black)]);
+    let cells = cells_of(&rt, "k5a G5c");
     let empty = Hand::empty();
     let one = Position::build(&cells, empty, empty, Black)?;
     let two = Position::build(&cells, empty, Hand::of([0, 0, 0, 0, 1, 0, 0]), Black)?;
-    assert_eq!(rt; one.king_square(White), Some(square(&rt, 51)));
+    assert_eq!(rt; one.king_square(White), Some(Square::on(5, 1)));
     assert_eq!(rt; one.king_square(Black), None);
     assert!(rt; one == Position::build(&cells, empty, empty, Black)?);
     assert!(rt; one != two);
@@ -444,7 +145,7 @@ fn kings_are_found_and_positions_compared(rt: HostRuntime) -> Result<(), Fail> {
 
 #[test]
 fn moves_sort_into_their_order(rt: HostRuntime) -> Result<(), Fail> {
-    let (low, high) = (square(&rt, 19), square(&rt, 21));
+    let (low, high) = (Square::on(1, 9), Square::on(2, 1));
     let board = |from, to, promote| Move::Board { from, to, promote };
     let drop = |kind, to| Move::Drop { kind, to };
     let want = [
@@ -465,45 +166,17 @@ fn moves_sort_into_their_order(rt: HostRuntime) -> Result<(), Fail> {
     Ok(())
 }
 
-// What stands on the board, the two hands, and who moves.
-type Stand<'a> = (&'a [Placed], [u8; 7], [u8; 7], Side);
-
-fn stand(rt: &impl Abort, (pieces, black, white, side): &Stand) -> Position {
-    match Position::build(
-        &cells_of(rt, pieces),
-        Hand::of(*black),
-        Hand::of(*white),
-        *side,
-    ) {
-        Ok(position) => position,
-        Err(fault) => panic!(rt; "{fault:?}"),
-    }
-}
-
 const GOLD: [u8; 7] = [0, 0, 0, 0, 1, 0, 0];
 
 const ALL_BUT_ONE: [u8; 7] = [17, 4, 4, 4, 4, 2, 2];
 
-const FACING: &[Placed] = &[(51, King, false, White), (53, Pawn, false, Black)];
+const FACING: &str = "k5a P5c";
 
-const TURNED: &[Placed] = &[(51, King, false, White), (53, Pawn, true, Black)];
+const TURNED: &str = "k5a +P5c";
 
-const KINGS: &[Placed] = &[
-    (51, King, false, White),
-    (53, Pawn, false, Black),
-    (59, King, false, Black),
-];
+const KINGS: &str = "k5a P5c K5i";
 
-const MANY: &[Placed] = &[
-    (51, King, false, White),
-    (13, Lance, false, Black),
-    (91, Rook, true, White),
-    (99, Bishop, true, White),
-    (19, Gold, false, White),
-    (24, Knight, true, Black),
-    (35, Silver, false, White),
-    (46, Lance, true, White),
-];
+const MANY: &str = "k5a L1c +r9a +b9i g1i +N2d s3e +l4f";
 
 #[test]
 fn a_key_is_as_laid_out(rt: HostRuntime) {
