@@ -63,6 +63,8 @@ impl Source for MemSource {
 
     ghost faults = { λ s. (source_script s).faults };
 
+    ghost of_64_bits = { λ s. s.script.of_64_bits };
+
     fn read(&mut self, into: &mut [u8]) -> Result<usize, Failed>
         // As each source.
         ensures within { IfOk result (λ n. n ≤ length into.new) }
@@ -151,6 +153,8 @@ impl Sink for MemSink {
     ghost kept = { λ s. Some (bytes_kept s) };
 
     ghost faults = { λ s. (sink_script s).faults };
+
+    ghost of_64_bits = { λ s. s.script.of_64_bits };
 
     fn write(&mut self, piece: &[u8]) -> Result<usize, Failed>
         // As each sink.

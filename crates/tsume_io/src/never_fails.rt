@@ -1,4 +1,5 @@
 // A source whose calls don't fail.
+ghost use Rattle.std.proofs.Common.{rules};
 ghost use Rattle.std.specs.Prelude.{◌≡◌, ◌≤◌, Some, vec_len};
 
 use crate::copy::copy_front;
@@ -37,6 +38,8 @@ impl Source for NeverFails {
     ghost left = { λ s. Some (bytes_ahead s) };
 
     ghost faults = { λ _. 0 };
+
+    ghost of_64_bits = { λ _. Prim.search rules };
 
     fn read(&mut self, into: &mut [u8]) -> Result<usize, Failed> {
         let count = copy_front(self.left(), into);

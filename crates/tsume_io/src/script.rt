@@ -1,5 +1,6 @@
 // How the calls of a source or a sink in memory go.
-ghost use Rattle.std.specs.Prelude.{◌≡◌, ◌↔◌, ◌≤◌, ◌⊎◌, IsTrue, IsErr, OnOk, OnErr};
+ghost use Rattle.std.specs.Prelude.{◌≡◌, ◌-◌, ◌^◌, ◌↔◌, ◌≤◌, ◌⊎◌, IsTrue, IsErr, OnOk, OnErr};
+ghost use Rattle.tsume_io.specs.Faults.{Rose};
 
 use crate::Failed;
 use crate::fault::raised;
@@ -15,6 +16,7 @@ pub struct Script {
     pub calls: u64,
     pub faults: u64,
     ghost some: { 1 ≤ piece },
+    ghost of_64_bits: { faults ≤ 2 ^ 64 - 1 },
 }
 
 impl Script {
@@ -37,6 +39,7 @@ impl Script {
         ensures fails { IsErr result ↔ (IsFailingNext self.old ⊎ IsTrue refuses) }
         ensures ok { OnOk result (Passes self.old self.new) }
         ensures err { OnErr result (Fails self.old self.new) }
+        ensures rose { OnErr result (Rose self.old.faults self.new.faults) }
         ensures never_falls { self.old.faults ≤ self.new.faults }
     {
         self.calls = raised(self.calls);

@@ -1,5 +1,5 @@
 // Where bytes go, and a write of all of them.
-ghost use Rattle.std.specs.Prelude.{◌≡◌, ℕ, ◌≤◌, List, Option, length, take, IfOk, OnOk, OnErr};
+ghost use Rattle.std.specs.Prelude.{◌≡◌, ℕ, ◌-◌, ◌^◌, ◌≤◌, List, Option, length, take, IfOk, OnOk, OnErr};
 ghost use Rattle.tsume_io.specs.Faults.{Rose};
 ghost use Rattle.tsume_io.specs.Sink.{GrewBy, GrewByPrefix, IsWriteOf};
 
@@ -23,6 +23,9 @@ pub trait Sink {
         ensures counted { OnOk result (faults self.new ≡ faults self.old) }
         ensures unchanged { OnErr result (kept self.new ≡ kept self.old) }
         ensures never_falls { faults self.old ≤ faults self.new };
+
+    // The count is of 64 bits.
+    ghost of_64_bits: { (s : Self) → faults s ≤ 2 ^ 64 - 1 };
 }
 
 /// The sink failed before all bytes were kept.

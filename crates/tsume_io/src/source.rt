@@ -1,5 +1,5 @@
 // Where bytes come from, and a read of all of them.
-ghost use Rattle.std.specs.Prelude.{◌≡◌, ℕ, ◌<◌, ◌≤◌, List, Option, length, take, IfOk, OnOk, OnErr, IsErrOf, vec_len};
+ghost use Rattle.std.specs.Prelude.{◌≡◌, ℕ, ◌-◌, ◌^◌, ◌<◌, ◌≤◌, List, Option, length, take, IfOk, OnOk, OnErr, IsErrOf, vec_len};
 ghost use Rattle.tsume_io.specs.Faults.{Rose};
 ghost use Rattle.tsume_io.specs.Source.{Took, TookAll, TookAtMost, TookOneMoreThan, HasMoreThan, IsAtEnd};
 ghost use Rattle.tsume_io.specs.declared.source.ReadEnd.TheVariants.{Fault as FaultEnd, NoMemory as NoMemoryEnd};
@@ -26,6 +26,9 @@ pub trait Source {
         ensures counted { OnOk result (faults self.new ≡ faults self.old) }
         ensures unchanged { OnErr result (left self.new ≡ left self.old) }
         ensures never_falls { faults self.old ≤ faults self.new };
+
+    // The count is of 64 bits.
+    ghost of_64_bits: { (s : Self) → faults s ≤ 2 ^ 64 - 1 };
 }
 
 /// Why a read of all bytes gave up.

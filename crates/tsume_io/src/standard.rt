@@ -1,10 +1,10 @@
 // std's readers and writers as a source and a sink: the edge that is trusted, since nothing is told of
 // a real file's bytes.
-ghost use Rattle.std.specs.Prelude.{◌≡◌, ◌≤◌, None, length, IfOk, OnOk, OnErr};
+ghost use Rattle.std.specs.Prelude.{◌≡◌, ◌-◌, ◌^◌, ◌≤◌, None, length, IfOk, OnOk, OnErr};
 ghost use Rattle.std.specs.Io.KnownBytes.{ReadConsumes, WriteAppends};
-ghost use Rattle.tsume_io.specs.Faults.{Rose};
+ghost use Rattle.tsume_io.specs.Faults.{Rose, one_more};
 
-use crate::fault::{Failed, raised};
+use crate::fault::{Failed, counted};
 use crate::{Sink, Source};
 use std::io;
 
@@ -14,6 +14,7 @@ use std::io;
 pub struct StdSource<R> {
     reader: R,
     faults: u64,
+    ghost of_64_bits: { faults ≤ 2 ^ 64 - 1 },
 }
 
 impl<R: io::Read + Drop> StdSource<R> {
@@ -42,6 +43,8 @@ impl<R: io::Read + Drop> Source for StdSource<R> {
 
     ghost faults = { λ s. source_faults s };
 
+    ghost of_64_bits = { λ s. s.of_64_bits };
+
     fn read(&mut self, into: &mut [u8]) -> Result<usize, Failed>
         // As each source that doesn't tell its bytes.
         ensures within { IfOk result (λ n. n ≤ length into.new) }
@@ -49,17 +52,14 @@ impl<R: io::Read + Drop> Source for StdSource<R> {
         ensures counted { OnOk result (source_faults self.new ≡ source_faults self.old) }
         ensures never_falls { source_faults self.old ≤ source_faults self.new }
 
+        // By one each time.
+        ensures raised { OnErr result (source_faults self.new ≡ one_more (source_faults self.old)) }
+
         // What std tells of the reader's bytes holds here too.
         ensures reader { ReadConsumes (R.remaining (reader_of self.old))
             (R.remaining (reader_of self.new)) result into.new }
     {
-        match self.reader.read(into) {
-            Ok(count) => Ok(count),
-            Err(_) => {
-                self.faults = raised(self.faults);
-                Err(Failed)
-            }
-        }
+        counted(self.reader.read(into), 0, &mut self.faults)
     }
 }
 
@@ -70,6 +70,7 @@ impl<R: io::Read + Drop> Source for StdSource<R> {
 pub struct StdSink<W> {
     writer: W,
     faults: u64,
+    ghost of_64_bits: { faults ≤ 2 ^ 64 - 1 },
 }
 
 impl<W: io::Write + Drop> StdSink<W> {
@@ -99,6 +100,8 @@ impl<W: io::Write + Drop> Sink for StdSink<W> {
 
     ghost faults = { λ s. sink_faults s };
 
+    ghost of_64_bits = { λ s. s.of_64_bits };
+
     fn write(&mut self, piece: &[u8]) -> Result<usize, Failed>
         // As each sink that doesn't tell its bytes.
         ensures count { IfOk result (λ n. IsWriteOf n piece.now) }
@@ -106,16 +109,17 @@ impl<W: io::Write + Drop> Sink for StdSink<W> {
         ensures counted { OnOk result (sink_faults self.new ≡ sink_faults self.old) }
         ensures never_falls { sink_faults self.old ≤ sink_faults self.new }
 
+        // By one each time.
+        ensures raised { OnErr result (sink_faults self.new ≡ one_more (sink_faults self.old)) }
+
         // What std tells of the writer's bytes holds here too.
         ensures writer { WriteAppends (W.contents (writer_of self.old))
             (W.contents (writer_of self.new)) result piece.now }
     {
-        match self.writer.write(piece) {
-            Ok(count) if count > 0 || piece.is_empty() => Ok(count),
-            _ => {
-                self.faults = raised(self.faults);
-                Err(Failed)
-            }
-        }
+        counted(
+            self.writer.write(piece),
+            piece.len().min(1),
+            &mut self.faults,
+        )
     }
 }
