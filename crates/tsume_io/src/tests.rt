@@ -167,3 +167,44 @@ fn a_writer_of_std_is_a_sink(rt: HostRuntime) {
     assert_eq!(rt; sink.write(&LETTERS), Err(Failed));
     assert_eq!(rt; sink.faults(), 2);
 }
+
+const MEGABYTE: usize = 1 << 20;
+
+fn counting(alloc: Global, size: u32) -> Result<Vec<u8>, Fail> {
+    Ok((0..size).map(|n| (n % 251) as u8).collect(alloc)?)
+}
+
+// No clause says that a reader's bytes are no fault, nor a writer's. In pieces of one byte each of the
+// two is called a million times.
+#[test]
+fn a_megabyte_goes_through_buffers_of_ten_sizes(rt: HostRuntime) -> Result<(), Fail> {
+    let alloc = rt.alloc();
+    let bytes = counting(alloc, 1 << 20)?;
+    for size in [1, 2, 7, 512, 4_095, 4_097, 8_193, 65_536, 65_537, MEGABYTE] {
+        let mut copy = Vec::with_capacity(alloc, MEGABYTE)?;
+        let mut source = StdSource::new(bytes.as_slice());
+        let mut sink = StdSink::new(&mut copy);
+        let mut buffer = vec![in alloc; 0; size]?;
+        for _ in 0..MEGABYTE.div_ceil(size) {
+            let count = source.read(&mut buffer)?;
+            write_all(&mut sink, &buffer[..count])?;
+        }
+        assert_eq!(rt; source.read(&mut buffer), Ok(0), "at {size}");
+        assert!(rt; copy == bytes, "at {size}");
+    }
+    Ok(())
+}
+
+// So a body that fails from some size on, which would meet each clause, fails here.
+#[test]
+fn no_size_of_a_buffer_is_a_fault(rt: HostRuntime) {
+    let bytes = [7; 70_001];
+    let mut space = [0; 70_000];
+    let space = &mut space[..];
+    for size in 1..=70_000usize {
+        let mut source = StdSource::new(bytes.as_slice());
+        assert_eq!(rt; source.read(&mut space[..size]), Ok(size));
+        let mut sink = StdSink::new(&mut space[..size]);
+        assert_eq!(rt; sink.write(&bytes[..size]), Ok(size));
+    }
+}
