@@ -1,6 +1,6 @@
 -- A position is found by its key exactly where it is listed.
 use Rattle.std.proofs.Common.{◌≡◌, ◌<◌, ◌+◌, ◌++◌, inl, inr, ℕ, List, [], ◌∷◌, length, take, Contains, arith, ap, sym, refl, ◌∙◌, subst, true, false, ⊎_elim, length-take, get_or-take, if◌then◌else◌}
-use Rattle.std.specs.Prelude.{Some, None, Option, slice_get, IsSome, is_some}
+use Rattle.std.specs.Prelude.{Some, None, Option, slice_get, IsSome, is_some, unwrap_or}
 use Rattle.std.specs.Ordering.{nat_cmp, is_eq}
 use Rattle.std.specs.Cmp.Lexicographic.{slice_cmp}
 use Rattle.std.specs.BTreeMap.{get, is_at, Updates, btree_map_len}
@@ -18,7 +18,7 @@ use Rattle.board_core.specs.Kept.{IsKept}
 use Rattle.board_core.specs.Key.{key_of}
 use Rattle.cert_check.specs.declared.places.Places.{Places}
 use Rattle.cert_text.specs.Certificate.{AreApart}
-use Rattle.cert_check.specs.Places.{key_cmp, StandsAt, ArePlacesOf, IsPlace, IsWith}
+use Rattle.cert_check.specs.Places.{key_cmp, StandsAt, ArePlacesOf, IsPlace, IsPlaceOrNext, IsWith}
 
 -- keys are found as one exactly where their words are the same
 same_words : (a k : Key) → is_at (key_cmp a) k ≡ true → a.0 ≡ k.0
@@ -87,6 +87,29 @@ one_more old new key p place o positions words kept updates none more places las
   count = count_after _ _ o positions p none more places.count;
 }
 
+-- the places after a position's place was written again
+right_again : (old new : Places) (key : Key) (p : Board) (place : ℕ) (positions : List Board) → key.0 ≡ key_of p
+    → Updates key_cmp old.by_key new.by_key key (Some place) → ArePlacesOf old positions → slice_get positions place ≡ Some p
+    → (k : Key) (q : ℕ) → get key_cmp new.by_key k ≡ Some q → StandsAt positions q k
+right_again old new key p place positions words updates places there k q h =
+    ⊎_elim
+    (λ (yes : is_at (key_cmp key) k ≡ true).
+    let same = same_place place q (sym (written key_cmp old.by_key new.by_key key place updates k yes) ∙ h) in
+    record { position = p; there = subst (λ (n : ℕ). slice_get positions n ≡ Some p) same there; has_key = sym words ∙ same_words key k yes })
+    (λ (other : is_at (key_cmp key) k ≡ false).
+    places.right k q (sym (unwritten key_cmp old.by_key new.by_key key place updates k other) ∙ h))
+    (cases_Bool (is_at (key_cmp key) k))
+
+all_again : (old new : Places) (key : Key) (place : ℕ) (positions : List Board)
+    → Updates key_cmp old.by_key new.by_key key (Some place) → ArePlacesOf old positions
+    → (k : Key) (b : Board) → Contains positions b → key_of b ≡ k.0 → IsSome (get key_cmp new.by_key k)
+all_again old new key place positions updates places k b there has =
+    ⊎_elim
+    (λ (yes : is_at (key_cmp key) k ≡ true). some_from _ place (written key_cmp old.by_key new.by_key key place updates k yes))
+    (λ (other : is_at (key_cmp key) k ≡ false).
+    subst (λ (o : Option ℕ). IsSome o) (sym (unwritten key_cmp old.by_key new.by_key key place updates k other)) (places.all k b there has))
+    (cases_Bool (is_at (key_cmp key) k))
+
 -- what is listed isn't listed again
 pub with_listed : (positions : List Board) (p : Board) (longer : List Board) → Contains positions p → IsWith positions p longer → longer ≡ positions
 with_listed positions p longer there (inl old) = old.1
@@ -126,9 +149,28 @@ found places key p (Some place) positions words injective e known =
     let kept = known.kept s.position (place, inside, get_or_from_slice_get positions place s.position s.position s.there) in
     s.there ∙ ap (λ (b : Board). Some b) (injective s.position kept s.has_key)
 
--- what the places come to where the position is found
-pub kept_listed : (places new : Places) (p : Board) (place : ℕ) (positions longer : List Board) → new ≡ places → slice_get positions place ≡ Some p
-    → ArePlacesOf places positions → IsWith positions p longer → ArePlacesOf new longer
-kept_listed places new p place positions longer same at known with =
-    subst (λ (x : Places). ArePlacesOf x longer) (sym same)
-    (subst (ArePlacesOf places) (sym (with_listed positions p longer (contained positions place p at) with)) known)
+-- what the places come to where the position's place is written, the one that is known or the next
+pub after_entry : (old new : Places) (key : Key) (p : Board) (o : Option ℕ) (next place : ℕ) (positions longer : List Board)
+    → key.0 ≡ key_of p → IsKept p → IsPlace positions p o → place ≡ unwrap_or o next
+    → Updates key_cmp old.by_key new.by_key key (Some place)
+    → btree_map_len new.by_key ≡ btree_map_len old.by_key + (if is_some o then 0 else 1) → next ≡ btree_map_len old.by_key
+    → ArePlacesOf old positions → IsWith positions p longer → ArePlacesOf new longer
+after_entry old new key p None next place positions longer words kept absent same updates more last places with =
+    subst (ArePlacesOf new) (sym (with_new positions p longer absent with))
+    (one_more old new key p place None positions words kept updates refl more places (same ∙ (last ∙ places.count)) absent)
+after_entry old new key p (Some known) next place positions longer words kept at same updates more last places with =
+    let there = subst (λ (n : ℕ). slice_get positions n ≡ Some p) (sym same) at in
+    subst (ArePlacesOf new) (sym (with_listed positions p longer (contained positions known p at) with))
+    (record {
+      apart = places.apart;
+      kept = places.kept;
+      right = right_again old new key p place positions words updates places there;
+      all = all_again old new key place positions updates places;
+      count = omega (arith, more, places.count);
+    })
+
+-- that place is the position's, or the next
+pub place_of_entry : (positions : List Board) (p : Board) (o : Option ℕ) (next place : ℕ) → IsPlace positions p o → place ≡ unwrap_or o next
+    → next ≡ length positions → IsPlaceOrNext positions p place
+place_of_entry positions p None next place absent same last = inr (absent, same ∙ last)
+place_of_entry positions p (Some known) next place at same last = inl (subst (λ (n : ℕ). slice_get positions n ≡ Some p) (sym same) at)

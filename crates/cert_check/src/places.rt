@@ -32,12 +32,8 @@ impl Places {
         ensures added { OnOk result ((positions longer : List Board) → ArePlacesOf self.old positions → IsWith positions position.now longer → ArePlacesOf self.new longer) }
         ensures unchanged { OnErr result ((positions : List Board) → ArePlacesOf self.old positions → ArePlacesOf self.new positions) }
     {
-        let key = key(position);
-        if let Some(place) = self.by_key.get(&key).copied() {
-            return Ok(place);
-        }
-        let place = self.by_key.len();
-        self.by_key.insert(key, place)?;
+        let next = self.by_key.len();
+        let place = *self.by_key.entry(key(position))?.or_insert(next);
         Ok(place)
     }
 
