@@ -8,7 +8,7 @@ use Illegal::{
     BadPromotion, Blocked, DeadDrop, KingLeft, NoStep, NotInHand, NotThere, Occupied, OwnPiece,
     PawnMate, TwoPawns,
 };
-use board_core::Side;
+use board_core::{Move, Side};
 use letters::{by, named, position};
 use std::process::Abort;
 use std::test::Fail;
@@ -99,7 +99,7 @@ fn each_move_is_made_or_refused_by_the_first_reason(rt: HostRuntime) {
 }
 
 #[test]
-fn promotion_is_by_the_zone_and_forced_at_the_end(rt: HostRuntime) {
+fn promotion_is_forced_where_the_piece_could_never_move(rt: HostRuntime) {
     judge(
         &rt,
         &[
@@ -135,6 +135,15 @@ fn promotion_is_by_the_zone_and_forced_at_the_end(rt: HostRuntime) {
                 Ok("9/9/9/9/9/9/9/l8/8K b -"),
             ),
             ("k8/8P/9/9/9/9/9/9/9 b -", "1b1a", Err(BadPromotion)),
+        ],
+    );
+}
+
+#[test]
+fn promotion_is_by_a_move_from_or_into_the_zone(rt: HostRuntime) {
+    judge(
+        &rt,
+        &[
             // Starting in the zone, ending in it, and outside it: of either side.
             (
                 "8k/9/4S4/9/9/9/9/9/9 b -",
@@ -158,6 +167,15 @@ fn promotion_is_by_the_zone_and_forced_at_the_end(rt: HostRuntime) {
                 Ok("9/9/9/9/9/9/4+s4/9/8K b -"),
             ),
             ("9/9/9/9/4s4/9/9/9/8K w -", "5e5f+", Err(BadPromotion)),
+        ],
+    );
+}
+
+#[test]
+fn a_gold_a_king_and_a_promoted_piece_never_promote(rt: HostRuntime) {
+    judge(
+        &rt,
+        &[
             // A gold and a king never, no piece twice; also where the mover's king would be attacked.
             ("8k/9/4G4/9/9/9/9/9/9 b -", "5c5b+", Err(BadPromotion)),
             ("2k6/6K2/9/9/9/9/9/9/9 w S", "7a7b+", Err(BadPromotion)),
@@ -263,24 +281,57 @@ fn a_dropped_pawn_may_check_and_not_mate(rt: HostRuntime) {
     );
 }
 
-// A problem; its checks if no move is given, else the evasions to that move; in order.
-type Listed<'a> = (&'a str, &'a str, &'a str);
+// The moves are those of a text, in its order.
+fn is_listed(rt: &impl Abort, moves: &[Move], want: &str, of: &str) {
+    for (place, word) in want.split_whitespace().enumerate() {
+        assert_eq!(rt; moves.get(place), Some(&by(rt, word)), "{word} of {of}");
+    }
+    assert_eq!(rt; moves.len(), want.split_whitespace().count(), "of {of}");
+}
 
+// A problem, and its checks in order.
 #[test]
-fn checks_and_evasions_are_listed_whole_and_in_order(rt: HostRuntime) -> Result<(), Fail> {
-    let rows: &[Listed] = &[
-        ("8k/9/6NG1/9/9/9/9/9/9 b P", "", "2c1b 2c2b 3c2a+"),
-        ("4k4/9/4P4/9/9/9/9/9/9 b P", "", "5c5b 5c5b+"),
+fn checks_are_listed_whole_and_in_order(rt: HostRuntime) -> Result<(), Fail> {
+    let rows = [
+        ("8k/9/6NG1/9/9/9/9/9/9 b P", "2c1b 2c2b 3c2a+"),
+        ("4k4/9/4P4/9/9/9/9/9/9 b P", "5c5b 5c5b+"),
         (
             "9/9/9/9/9/9/4p4/9/4K4 w g",
-            "",
             "5g5h 5g5h+ G*4h G*4i G*5h G*6h G*6i",
         ),
         // The attacker's own king is in check: no check parries; his king's steps uncover the rook.
-        ("4k4/9/4P4/9/9/9/9/9/4K3r b G", "", ""),
-        ("4k4/9/9/9/9/9/r3K4/9/4R4 b -", "", "5g4f 5g4h 5g6f 5g6h"),
+        ("4k4/9/4P4/9/9/9/9/9/4K3r b G", ""),
+        ("4k4/9/9/9/9/9/r3K4/9/4R4 b -", "5g4f 5g4h 5g6f 5g6h"),
         // By the rook alone or by the knight too.
-        ("4k4/9/9/9/4N4/9/9/9/4R4 b g", "", "5e4c 5e4c+ 5e6c 5e6c+"),
+        ("4k4/9/9/9/4N4/9/9/9/4R4 b g", "5e4c 5e4c+ 5e6c 5e6c+"),
+        // From an independent program.
+        (
+            "9/k8/9/S8/2P6/9/9/9/9 b GNp",
+            "9d8c 9d8c+ 9d9c 9d9c+ N*8d G*8b G*8c G*9a G*9c",
+        ),
+        ("9/7lK/9/9/9/9/9/9/8k w Bl", "L*1a"),
+        (
+            "9/9/3g1k3/9/9/5P1S1/9/9/9 b GS",
+            "S*3b S*3d S*4d S*5b S*5d G*3c G*3d G*4b G*4d G*5c G*5d",
+        ),
+        (
+            "3G5/6L2/3g2K1p/5l1r1/5ln2/9/k8/9/7+n1 w Gbp",
+            "2d2c 2d3d B*1a B*2b B*4b B*5a",
+        ),
+    ];
+    for (text, want) in rows.iter() {
+        let problem = problem(&rt, text)?;
+        let moves = trial_checks(rt.alloc(), &problem, &problem.position)?;
+        is_listed(&rt, moves.as_slice(), want, text);
+    }
+    Ok(())
+}
+
+// A problem, a check, and the evasions to it in order.
+#[test]
+fn evasions_are_listed_whole_and_in_order(rt: HostRuntime) -> Result<(), Fail> {
+    let rows = [
+        // To the rook alone, and to the knight too.
         ("4k4/9/9/9/4N4/9/9/9/4R4 b g", "5e4c", "5a4a 5a4b 5a6a 5a6b"),
         (
             "4k4/9/9/9/4N4/9/9/9/4R4 b g",
@@ -294,22 +345,6 @@ fn checks_and_evasions_are_listed_whole_and_in_order(rt: HostRuntime) -> Result<
         ),
         // From an independent program.
         (
-            "9/k8/9/S8/2P6/9/9/9/9 b GNp",
-            "",
-            "9d8c 9d8c+ 9d9c 9d9c+ N*8d G*8b G*8c G*9a G*9c",
-        ),
-        ("9/7lK/9/9/9/9/9/9/8k w Bl", "", "L*1a"),
-        (
-            "9/9/3g1k3/9/9/5P1S1/9/9/9 b GS",
-            "",
-            "S*3b S*3d S*4d S*5b S*5d G*3c G*3d G*4b G*4d G*5c G*5d",
-        ),
-        (
-            "3G5/6L2/3g2K1p/5l1r1/5ln2/9/k8/9/7+n1 w Gbp",
-            "",
-            "2d2c 2d3d B*1a B*2b B*4b B*5a",
-        ),
-        (
             "9/5L3/5b3/5Pn2/9/2b4k1/9/5r3/8+l b GN",
             "N*1h",
             "1i1h 2f1e 2f1f 2f1g 2f2e 2f2g 2f3e 2f3f 2f3g 4h1h 4h1h+",
@@ -322,17 +357,10 @@ fn checks_and_evasions_are_listed_whole_and_in_order(rt: HostRuntime) -> Result<
     ];
     for (text, word, want) in rows.iter() {
         let problem = problem(&rt, text)?;
-        let moves = if word.is_empty() {
-            trial_checks(rt.alloc(), &problem, &problem.position)?
-        } else {
-            let check = by(&rt, word);
-            assert!(rt; legal(&problem.position, check).is_ok(), "{word} of {text}");
-            trial_evasions(rt.alloc(), &problem, &apply(&problem.position, check))?
-        };
-        for (place, word) in want.split_whitespace().enumerate() {
-            assert_eq!(rt; moves.get(place), Some(&by(&rt, word)), "{word} of {text}");
-        }
-        assert_eq!(rt; moves.len(), want.split_whitespace().count(), "of {text}");
+        let check = by(&rt, word);
+        assert!(rt; legal(&problem.position, check).is_ok(), "{word} of {text}");
+        let moves = trial_evasions(rt.alloc(), &problem, &apply(&problem.position, check))?;
+        is_listed(&rt, moves.as_slice(), want, text);
     }
     Ok(())
 }
