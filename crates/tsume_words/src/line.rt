@@ -2,7 +2,7 @@
 ghost use Rattle.std.specs.Prelude.{◌≡◌, IfOk, false};
 ghost use Rattle.clap.specs.Words.{app_of, rule_of};
 ghost use Rattle.clap.specs.declared.builder.command.Command.TheViews.{out-Command as fields_of};
-ghost use Rattle.tsume_words.specs.Line.{number_option, workers_option, rest_flag, solve_line};
+ghost use Rattle.tsume_words.specs.Line.{number_option, workers_option, expansions_option, room_option, rows_option, shards_option, rest_flag, solve_line};
 ghost use Rattle.tsume_words.specs.Line.{check_line, tsume_line};
 
 use crate::settings::{LEAST_ROWS, MOST_ROOM, MOST_ROWS, MOST_SHARDS, MOST_WORKERS};
@@ -39,6 +39,63 @@ fn workers_option<'a>(alloc: Global, help: &'a str) -> Arg<'a>
     number_option(alloc, "workers", 1, MOST_WORKERS, "1", help)
 }
 
+fn expansions_option<'a>(alloc: Global) -> Arg<'a>
+    ensures rule { rule_of result ≡ expansions_option }
+    ensures local { result.global ≡ false }
+{
+    number_option(
+        alloc,
+        "expansions",
+        1,
+        MOST_EXPANSIONS,
+        "1000000",
+        "Positions whose moves may be generated before giving up (1 to 1000000000)",
+    )
+}
+
+fn room_option<'a>(alloc: Global) -> Arg<'a>
+    ensures rule { rule_of result ≡ room_option }
+    ensures local { result.global ≡ false }
+{
+    number_option(
+        alloc,
+        "room",
+        1,
+        MOST_ROOM,
+        "1048576",
+        "Facts that a certificate may be made of (1 to 1400000)",
+    )
+}
+
+fn rows_option<'a>(alloc: Global) -> Arg<'a>
+    ensures rule { rule_of result ≡ rows_option }
+    ensures local { result.global ≡ false }
+{
+    number_option(
+        alloc,
+        "rows",
+        LEAST_ROWS,
+        MOST_ROWS,
+        "16384",
+        "Rows of the transposition table, a power of two (16 to 1048576)",
+    )
+}
+
+fn shards_option<'a>(alloc: Global) -> Arg<'a>
+    ensures rule { rule_of result ≡ shards_option }
+    ensures local { result.global ≡ false }
+{
+    number_option(
+        alloc,
+        "shards",
+        1,
+        MOST_SHARDS,
+        "16",
+        "Parts of the transposition table that are locked each by itself, a power of two (1 to 64), at most the \
+         rows",
+    )
+}
+
 fn rest_flag<'a>(alloc: Global) -> Arg<'a>
     ensures rule { rule_of result ≡ rest_flag }
     ensures local { result.global ≡ false }
@@ -56,40 +113,6 @@ fn solve_command<'a>(alloc: Global) -> Result<Command<'a>, AllocError>
     ensures app { IfOk result (λ command. app_of command ≡ solve_line) }
     ensures local { IfOk result (λ command. (fields_of command).has_globals ≡ false) }
 {
-    let workers = workers_option(alloc, "Threads that search (1 to 64)");
-    let expansions = number_option(
-        alloc,
-        "expansions",
-        1,
-        MOST_EXPANSIONS,
-        "1000000",
-        "Positions whose moves may be generated before giving up (1 to 1000000000)",
-    );
-    let room = number_option(
-        alloc,
-        "room",
-        1,
-        MOST_ROOM,
-        "1048576",
-        "Facts that a certificate may be made of (1 to 1400000)",
-    );
-    let rows = number_option(
-        alloc,
-        "rows",
-        LEAST_ROWS,
-        MOST_ROWS,
-        "16384",
-        "Rows of the transposition table, a power of two (16 to 1048576)",
-    );
-    let shards = number_option(
-        alloc,
-        "shards",
-        1,
-        MOST_SHARDS,
-        "16",
-        "Parts of the transposition table that are locked each by itself, a power of two (1 to 64), at most the \
-         rows",
-    );
     Command::new(alloc, "solve")
         .about(
             "Reads a tsume-shogi problem (SFEN) from standard input and prints a mate or no mate with its certificate",
@@ -98,11 +121,11 @@ fn solve_command<'a>(alloc: Global) -> Result<Command<'a>, AllocError>
             "Today's search runs on one thread, and --expansions is its one limit: the other four numbers are checked and not \
              used yet.\n\nExample:\n  echo '4k4/9/4P4/9/9/9/9/9/9 b G 1' | tsume solve --expansions 100000",
         )
-        .arg(workers)?
-        .arg(expansions)?
-        .arg(room)?
-        .arg(rows)?
-        .arg(shards)?
+        .arg(workers_option(alloc, "Threads that search (1 to 64)"))?
+        .arg(expansions_option(alloc))?
+        .arg(room_option(alloc))?
+        .arg(rows_option(alloc))?
+        .arg(shards_option(alloc))?
         .arg(rest_flag(alloc))
 }
 

@@ -7,11 +7,11 @@ use Rattle.tsume_words.proofs.line.solve_command.Goals as goal
 pub returns : goal.returns
 returns c =
     let bare = same_app_after _ _ _ c.after_help.ensures ∙ (same_app _ _ _ c.about.ensures ∙ c.new.ensures.app) in
-    let w = c.workers_option-workers.ensures in
-    let e = c.number_option-expansions.ensures in
-    let n = c.number_option-room.ensures in
-    let r = c.number_option-rows.ensures in
-    let s = c.number_option-shards.ensures in
+    let w = c.workers_option.ensures in
+    let e = c.expansions_option.ensures in
+    let n = c.room_option.ensures in
+    let r = c.rows_option.ensures in
+    let s = c.shards_option.ensures in
     let one = c.in_ok-arg.ensures.shape w.local ∙ ap₂ with_rule bare w.rule in
     let two = c.in_ok-arg-2.ensures.shape e.local ∙ ap₂ with_rule one e.rule in
     let three = c.in_ok-arg-3.ensures.shape n.local ∙ ap₂ with_rule two n.rule in
