@@ -3,11 +3,13 @@
 
 usage: plain_search.py [--rest] [--expansions N] < PROBLEM
 
-Written from the rules of shogi and from docs/formats.md alone, and not from the program, so that its answers can be the stored runs
-that the program is compared with. It takes right problems only, and says nothing of faults. Some hundred expansions a second.
+Written from the rules of shogi and the description of the search in docs/formats.md, without the program's sources or its output,
+so that its answers can be stored for the program to be compared with. Its own were the same as 48 of another program written so. It
+takes right problems only, and says nothing of faults. It makes some hundred expansions a second.
 
-A square is 9 * (file - 1) + (rank - 1). A cell is 0, or a letter of PLNSGBRK and `+` behind it where it is promoted, small for White.
-A position is (cells, hands, side): 81 cells, the counts of P L N S G B R for Black and for White, and 0 for Black to move, 1 for White.
+A square is 9 * (file - 1) + (rank - 1). A cell is 0, or a letter of PLNSGBRK and `+` behind it where it is promoted, small for
+White. A position is (cells, hands, side): 81 cells, the counts of P L N S G B R for Black and for White, and 0 for Black to move, 1
+for White.
 """
 import argparse, sys
 
@@ -84,7 +86,8 @@ def attacked(cells, square, by):
     """Whether a piece of this side reaches the square."""
     if any(cells[here] == cell for here, cell in STEPS_FROM[by, square]):
         return True
-    return any(cells[here] == cell and not any(cells[place] for place in between) for here, cell, between in SLIDES_FROM[by, square])
+    return any(cells[here] == cell and not any(cells[place] for place in between)
+               for here, cell, between in SLIDES_FROM[by, square])
 
 
 def in_check(cells, side):
@@ -245,7 +248,8 @@ class Search:
         """The greatest set of listed attacker's positions each check from which has a listed evasion back into it."""
         left = {place for place in self.known if place[2] == self.attacker}
         while True:
-            held = {place for place in self.known if place[2] != self.attacker and any(after in left for _, after in self.known[place])}
+            held = {place for place, moves in self.known.items()
+                    if place[2] != self.attacker and any(after in left for _, after in moves)}
             kept = {place for place in left if all(after in held for _, after in self.known[place])}
             if kept == left:
                 return left

@@ -1,5 +1,6 @@
 -- This project's; the USI protocol for the answer.
 pub mod Answer
+pub mod Exit
 pub mod FaultText
 pub mod Headline
 pub mod Input

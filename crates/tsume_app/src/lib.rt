@@ -6,6 +6,7 @@
 
 mod answer;
 mod ended;
+mod exit;
 mod fault;
 mod input;
 mod judgement;
@@ -16,6 +17,7 @@ mod text;
 
 pub use answer::{Answer, Cause, Judgement, MainLine, Solution};
 pub use ended::Ended;
+pub use exit::Exit;
 pub use fault::{Fault, ProblemFault};
 pub use input::{Input, MOST_CERTIFICATE_BYTES, MOST_PROBLEM_BYTES};
 pub use program::run;

@@ -5,6 +5,7 @@ ghost use Rattle.tsume_app.specs.Outside.{shown};
 ghost use Rattle.tsume_app.specs.Told.{told_text, IsTold, IsToldRun};
 
 use crate::ended::Ended;
+use crate::exit::Exit;
 use crate::fault::Fault;
 use crate::input::Input;
 use crate::program::run;
@@ -87,15 +88,15 @@ fn fault_of(error: &io::Error) -> Fault {
 }
 
 /// The program over the words of the command line, the standard input and output, and a writer for what the user is told: see
-/// [`run_and_tell`]. Words that are no UTF-8 are refused. What comes back is the exit status.
+/// [`run_and_tell`]. Words that are no UTF-8 are refused. What comes back ends the process with the exit status.
 pub fn start<R: Env + io::Input + Print + AllocGlobal, W: io::Write + Drop>(
     rt: &R,
     errors: W,
-) -> u8 {
+) -> Exit {
     let mut source = StdSource::new(rt.reader());
     let mut sink = StdSink::new(io::writer(rt));
     let mut errors = StdSink::new(errors);
-    match words(rt) {
+    let status = match words(rt) {
         Ok(words) => run_and_tell(
             rt.alloc(),
             words,
@@ -109,5 +110,6 @@ pub fn start<R: Env + io::Input + Print + AllocGlobal, W: io::Write + Drop>(
             tell(rt.alloc(), &ended, &mut errors);
             ended.status()
         }
-    }
+    };
+    Exit { status }
 }
