@@ -1,13 +1,14 @@
 use Rattle.std.proofs.Common.{◌≡◌, ◌≢◌, ◌<◌, ◌≤◌, ◌+◌, ℕ, List, Option, false, arith, ◌∙◌}
-use Rattle.board_core.specs.declared.piece.Piece.{Piece}
-use Rattle.board_core.specs.declared.piece.Kind.{Kind}
-use Rattle.board_core.specs.declared.piece.Kind.TheVariants.{King}
-use Rattle.board_core.specs.declared.piece.Side.{Side}
-use Rattle.board_core.specs.declared.piece.Side.TheVariants.{Black, White}
+use Rattle.bit_boards.specs.declared.piece.Piece.{Piece}
+use Rattle.bit_boards.specs.declared.piece.Kind.{Kind}
+use Rattle.bit_boards.specs.declared.piece.Kind.TheVariants.{King}
+use Rattle.bit_boards.specs.declared.piece.Side.{Side}
+use Rattle.bit_boards.specs.declared.piece.Side.TheVariants.{Black, White}
 use Rattle.board_core.specs.declared.build.BadPosition.{BadPosition}
 use Rattle.board_core.specs.declared.build.BadPosition.TheVariants.{TooMany, NoDefenderKing, TwoKings, DeadPiece, TwoPawns}
-use Rattle.board_core.specs.Kind.{other, place_of, total_of}
-use Rattle.board_core.specs.Board.{Board, piece_at, is_dead, count_of, kings_of}
+use Rattle.bit_boards.specs.Kind.{other, place_of, total_of}
+use Rattle.bit_boards.specs.Piece.{is_dead}
+use Rattle.board_core.specs.Board.{Board, piece_at, count_of, kings_of}
 use Rattle.board_core.specs.Kept.{TwoPawnsOn}
 use Rattle.board_core.specs.Build.{HasFault, fault_order}
 use Rattle.board_core.proofs.EachKind.{each_side, place_below}

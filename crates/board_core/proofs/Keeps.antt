@@ -1,12 +1,13 @@
 use Rattle.std.proofs.Common.{◌≡◌, ◌≢◌, ◌<◌, ◌≤◌, ◌⊎◌, inl, inr, ℕ, List, Option, Some, None, Bool, true, false, length, slice_set, arith, ap, sym, refl, ◌∙◌, subst}
 use Rattle.std.proofs.lemmas.Bool.{cases_eq, cases_Bool, and_parts}
-use Rattle.board_core.specs.declared.piece.Piece.{Piece}
-use Rattle.board_core.specs.declared.piece.Kind.{Kind}
-use Rattle.board_core.specs.declared.piece.Kind.TheVariants.{King}
-use Rattle.board_core.specs.declared.piece.Side.{Side}
-use Rattle.board_core.specs.Square.{file_of}
-use Rattle.board_core.specs.Kind.{same_kind, total_of}
-use Rattle.board_core.specs.Board.{Board, piece_at, is_of_kind, is_king_of, is_pawn_of, is_dead, count_of, kings_of, with_cell, one_if}
+use Rattle.bit_boards.specs.declared.piece.Piece.{Piece}
+use Rattle.bit_boards.specs.declared.piece.Kind.{Kind}
+use Rattle.bit_boards.specs.declared.piece.Kind.TheVariants.{King}
+use Rattle.bit_boards.specs.declared.piece.Side.{Side}
+use Rattle.bit_boards.specs.Square.{file_of}
+use Rattle.bit_boards.specs.Kind.{same_kind, total_of}
+use Rattle.bit_boards.specs.Piece.{is_dead}
+use Rattle.board_core.specs.Board.{Board, piece_at, is_of_kind, is_king_of, is_pawn_of, count_of, kings_of, with_cell, one_if}
 use Rattle.board_core.specs.Kept.{IsKept, TwoPawnsOn}
 use Rattle.board_core.proofs.EachKind.{same_kind_is, same_side_is}
 use Rattle.board_core.proofs.Cells.{piece_at-set_same, piece_at-set_other, count_by-set, length-set}

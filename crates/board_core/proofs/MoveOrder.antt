@@ -4,18 +4,18 @@ use Rattle.std.specs.declared.cmp.Ordering.TheVariants.{Less, Equal, Greater}
 use Rattle.std.specs.Ordering.{nat_cmp, bool_cmp, ordering_then, is_eq}
 use Rattle.std.specs.Cmp.{nat_cmp_is, unsigned_tied}
 use Rattle.std.proofs.lemmas.Bool.{cases_order}
-use Rattle.board_core.specs.declared.piece.Kind.{Kind}
-use Rattle.board_core.specs.declared.piece.Kind.TheVariants.{Pawn, Lance, Knight, Silver, Gold, Bishop, Rook, King}
-use Rattle.board_core.specs.declared.square.Square.{Square}
+use Rattle.bit_boards.specs.declared.piece.Kind.{Kind}
+use Rattle.bit_boards.specs.declared.piece.Kind.TheVariants.{Pawn, Lance, Knight, Silver, Gold, Bishop, Rook, King}
+use Rattle.bit_boards.specs.declared.square.Square.{Square}
 use Rattle.board_core.specs.declared.moves.Move.{Move}
 use Rattle.board_core.specs.declared.moves.Move.TheVariants as moves
 use Rattle.board_core.specs.contracts.moves.MoveOrd.TheImpl as move_order
-use Rattle.board_core.specs.contracts.piece.KindOrd.TheImpl as kind_order
+use Rattle.bit_boards.specs.contracts.piece.KindOrd.TheImpl as kind_order
 use Rattle.board_core.specs.contracts.moves.MovePartialEq.TheImpl as move_same
 use Rattle.board_core.specs.contracts.moves.MoveOrd.TheImpl.Laws as move_laws
 use mathlib.Core.HLevel.{is_prop→PathP}
 use Rattle.std.proofs.Math.Bridge.{le_prop}
-use Rattle.board_core.specs.Kind.{place_of}
+use Rattle.bit_boards.specs.Kind.{place_of}
 use Rattle.board_core.specs.Order.{order_of, bit_of}
 use Rattle.board_core.proofs.EachKind.{of_each, same_place, place_within}
 

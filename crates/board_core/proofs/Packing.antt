@@ -1,11 +1,11 @@
 use Rattle.std.proofs.Common.{◌≡◌, ◌<◌, ◌≤◌, ◌+◌, ◌-◌, ◌*◌, ◌%◌, ◌^◌, ℕ, zero, suc, List, [], ◌∷◌, Option, Some, None, Bool, true, false, length, take, drop, arith, refl, ap, sym, subst, ◌∙◌, drop-cons, add-one, length-drop}
 use Rattle.std.proofs.lemmas.Nat.{pow_pos, pow-add}
 use Rattle.std.proofs.lemmas.List.{length-take, take_all}
-use Rattle.board_core.specs.declared.piece.Piece.{Piece}
-use Rattle.board_core.specs.declared.piece.Kind.{Kind}
-use Rattle.board_core.specs.declared.piece.Kind.TheVariants.{Pawn, Lance, Knight, Silver, Gold, Bishop, Rook, King}
-use Rattle.board_core.specs.declared.piece.Side.{Side}
-use Rattle.board_core.specs.declared.piece.Side.TheVariants.{Black, White}
+use Rattle.bit_boards.specs.declared.piece.Piece.{Piece}
+use Rattle.bit_boards.specs.declared.piece.Kind.{Kind}
+use Rattle.bit_boards.specs.declared.piece.Kind.TheVariants.{Pawn, Lance, Knight, Silver, Gold, Bishop, Rook, King}
+use Rattle.bit_boards.specs.declared.piece.Side.{Side}
+use Rattle.bit_boards.specs.declared.piece.Side.TheVariants.{Black, White}
 use Rattle.board_core.specs.Board.{piece_at}
 use Rattle.board_core.specs.Key.{kind_code, side_code, code_of, packed_cells}
 use Rattle.board_core.proofs.Cells.{piece_at-get_or}

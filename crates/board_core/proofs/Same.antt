@@ -9,17 +9,17 @@ use Rattle.std.proofs.lemmas.Cmp.{lists_equiv, nat_eq_equiv}
 use Rattle.std.specs.Cmp.Lexicographic.{options_equiv}
 use Rattle.std.specs.Prelude.{nat_eq}
 use Rattle.board_core.specs.Board.{Board}
-use Rattle.board_core.specs.contracts.piece.SideEq.TheImpl.Laws as side_laws
+use Rattle.bit_boards.specs.contracts.piece.SideEq.TheImpl.Laws as side_laws
 use Rattle.std.proofs.Math.Bool.{Bool-set}
 use mathlib.Core.HLevel.{is_prop→PathP}
-use Rattle.board_core.specs.declared.piece.Piece.{Piece}
-use Rattle.board_core.specs.declared.piece.Kind.{Kind}
-use Rattle.board_core.specs.declared.piece.Side.{Side}
-use Rattle.board_core.specs.contracts.piece.Kind.{the_type as kind_type}
-use Rattle.board_core.specs.contracts.piece.Side.{the_type as side_type}
-use Rattle.board_core.specs.Kind.{can_promote}
-use Rattle.board_core.specs.contracts.piece.PiecePartialEq.TheImpl as piece_same
-use Rattle.board_core.specs.contracts.piece.PieceEq.TheImpl.Laws as piece_laws
+use Rattle.bit_boards.specs.declared.piece.Piece.{Piece}
+use Rattle.bit_boards.specs.declared.piece.Kind.{Kind}
+use Rattle.bit_boards.specs.declared.piece.Side.{Side}
+use Rattle.bit_boards.specs.contracts.piece.Kind.{the_type as kind_type}
+use Rattle.bit_boards.specs.contracts.piece.Side.{the_type as side_type}
+use Rattle.bit_boards.specs.Kind.{can_promote}
+use Rattle.bit_boards.specs.contracts.piece.PiecePartialEq.TheImpl as piece_same
+use Rattle.bit_boards.specs.contracts.piece.PieceEq.TheImpl.Laws as piece_laws
 
 beq_exact : (p q : Bool) → beq p q ≡ true → p ≡ q
 beq_exact true true h = refl

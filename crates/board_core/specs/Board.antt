@@ -1,12 +1,12 @@
 use Rattle.std.specs.Prelude.{◌≡◌, ◌≢◌, ◌<◌, ◌+◌, ◌-◌, ◌&&◌, ℕ, List, Option, Some, None, Bool, true, false, not, slice_get, slice_set, slice_index, count_by, nat_lt}
 use Rattle.std.proofs.lemmas.Bool.{false≢true}
-use Rattle.board_core.specs.declared.piece.Kind.{Kind}
-use Rattle.board_core.specs.declared.piece.Kind.TheVariants.{Pawn, King}
-use Rattle.board_core.specs.declared.piece.Side.{Side}
-use Rattle.board_core.specs.declared.piece.Side.TheVariants.{Black, White}
-use Rattle.board_core.specs.declared.piece.Piece.{Piece}
-use Rattle.board_core.specs.Kind.{other, same_side, same_kind, place_of, rows_needed}
-use Rattle.board_core.specs.Square.{height}
+use Rattle.bit_boards.specs.declared.piece.Kind.{Kind}
+use Rattle.bit_boards.specs.declared.piece.Kind.TheVariants.{Pawn, King}
+use Rattle.bit_boards.specs.declared.piece.Side.{Side}
+use Rattle.bit_boards.specs.declared.piece.Side.TheVariants.{Black, White}
+use Rattle.bit_boards.specs.declared.piece.Piece.{Piece}
+use Rattle.bit_boards.specs.Kind.{other, same_side, same_kind, place_of, rows_needed}
+use Rattle.bit_boards.specs.Square.{height}
 
 -- What contracts see of a position: 81 cells by the number of the square, the two hands by the order of the kinds, and the side to move.
 pub record Board : Type 0 where
@@ -59,15 +59,6 @@ is_king_of side (Some piece) = same_kind piece.kind King && same_side piece.side
 abbrev pub is_pawn_of : Side → Option Piece → Bool
 is_pawn_of side None = false
 is_pawn_of side (Some piece) = same_kind piece.kind Pawn && (not piece.promoted && same_side piece.side side)
-
--- A side's piece of a kind, unpromoted.
-abbrev pub plain_piece : Kind → Side → Piece
-plain_piece kind side = record { kind = kind; promoted = false; side = side; promotes = λ e. absurd (false≢true e) }
-
--- Whether a piece could never move again from a square: unpromoted, with too few rows ahead of it.
-abbrev pub is_dead : ℕ → Option Piece → Bool
-is_dead square None = false
-is_dead square (Some piece) = not piece.promoted && nat_lt 8 (height piece.side square + rows_needed piece.kind)
 
 -- How many pieces of a kind there are: on the board, promoted or not, of both sides, and in both hands.
 abbrev pub count_of : Board → Kind → ℕ

@@ -1,10 +1,11 @@
 use Rattle.std.specs.Prelude.{◌≡◌, ◌≢◌, ◌≤◌, ◌<◌, ◌+◌, ℕ, Result, Ok, Err, true}
-use Rattle.board_core.specs.declared.piece.Side.{Side}
-use Rattle.board_core.specs.declared.piece.Kind.TheVariants.{King}
+use Rattle.bit_boards.specs.declared.piece.Side.{Side}
+use Rattle.bit_boards.specs.declared.piece.Kind.TheVariants.{King}
 use Rattle.board_core.specs.declared.build.BadPosition.{BadPosition}
 use Rattle.board_core.specs.declared.build.BadPosition.TheVariants.{TooMany, NoDefenderKing, TwoKings, DeadPiece, TwoPawns}
-use Rattle.board_core.specs.Kind.{other, place_of, total_of}
-use Rattle.board_core.specs.Board.{Board, piece_at, is_dead, count_of, kings_of}
+use Rattle.bit_boards.specs.Kind.{other, place_of, total_of}
+use Rattle.bit_boards.specs.Piece.{is_dead}
+use Rattle.board_core.specs.Board.{Board, piece_at, count_of, kings_of}
 use Rattle.board_core.specs.Kept.{TwoPawnsOn}
 
 -- The fault is there: more pieces of a kind, kings aside, than a set has, no king of the side not to move, two kings of a side,

@@ -1,11 +1,12 @@
 use Rattle.std.specs.Prelude.{◌≡◌, ◌≢◌, ◌≤◌, ◌<◌, ℕ, List, Option, true, false, length}
-use Rattle.board_core.specs.declared.piece.Piece.{Piece}
-use Rattle.board_core.specs.declared.piece.Kind.{Kind}
-use Rattle.board_core.specs.declared.piece.Kind.TheVariants.{King}
-use Rattle.board_core.specs.declared.piece.Side.{Side}
-use Rattle.board_core.specs.Square.{file_of}
-use Rattle.board_core.specs.Kind.{total_of}
-use Rattle.board_core.specs.Board.{Board, piece_at, is_pawn_of, is_dead, count_of, kings_of}
+use Rattle.bit_boards.specs.declared.piece.Piece.{Piece}
+use Rattle.bit_boards.specs.declared.piece.Kind.{Kind}
+use Rattle.bit_boards.specs.declared.piece.Kind.TheVariants.{King}
+use Rattle.bit_boards.specs.declared.piece.Side.{Side}
+use Rattle.bit_boards.specs.Square.{file_of}
+use Rattle.bit_boards.specs.Kind.{total_of}
+use Rattle.bit_boards.specs.Piece.{is_dead}
+use Rattle.board_core.specs.Board.{Board, piece_at, is_pawn_of, count_of, kings_of}
 
 -- Two unpromoted pawns of the side stand on the file.
 pub record TwoPawnsOn (cells : List (Option Piece)) (side : Side) (file : ℕ) : Type 0 where

@@ -1,6 +1,5 @@
 -- The rules of shogi; the layout of the key and the order of moves are this project's.
-pub mod Square
-pub mod Kind
+pub mod Laws
 pub mod Board
 pub mod Kept
 pub mod Build

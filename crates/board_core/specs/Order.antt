@@ -1,8 +1,8 @@
 use Rattle.std.specs.Prelude.{◌≡◌, ◌<◌, ◌+◌, ◌*◌, ◌≤◌, ℕ, List, [], ◌∷◌, Bool, true, false, Some, Contains, slice_get}
-use Rattle.board_core.specs.declared.square.Square.{Square}
+use Rattle.bit_boards.specs.declared.square.Square.{Square}
 use Rattle.board_core.specs.declared.moves.Move.{Move}
 use Rattle.board_core.specs.declared.moves.Move.TheVariants as moves
-use Rattle.board_core.specs.Kind.{place_of}
+use Rattle.bit_boards.specs.Kind.{place_of}
 
 -- 1 for yes, 0 for no.
 abbrev pub bit_of : Bool → ℕ

@@ -1,7 +1,7 @@
 use Rattle.std.specs.Prelude.{◌+◌, ◌-◌, ℕ, List, [], ◌∷◌}
-use Rattle.board_core.specs.declared.piece.Kind.{Kind}
-use Rattle.board_core.specs.declared.piece.Kind.TheVariants.{Pawn, Lance, Knight, Silver, Gold, Bishop, Rook}
-use Rattle.board_core.specs.Kind.{other, total_of}
+use Rattle.bit_boards.specs.declared.piece.Kind.{Kind}
+use Rattle.bit_boards.specs.declared.piece.Kind.TheVariants.{Pawn, Lance, Knight, Silver, Gold, Bishop, Rook}
+use Rattle.bit_boards.specs.Kind.{other, total_of}
 use Rattle.board_core.specs.Board.{Board, hand_count, hand_of, with_hand, count_of}
 
 -- How many pieces of a kind a set has beside those on the board and in the hands.

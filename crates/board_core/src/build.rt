@@ -1,13 +1,13 @@
 // Positions from their parts.
 ghost use Rattle.std.specs.Prelude.{◌≡◌, ◌≢◌, ◌<◌, ◌≤◌, ◌↔◌, ℕ, None, IsTrue, IfSome, IfOk};
-ghost use Rattle.board_core.specs.Kind.{place_of, total_of};
+ghost use Rattle.bit_boards.specs.Kind.{place_of, total_of};
 ghost use Rattle.board_core.specs.Board.{Board, count_of, HasDefender};
 ghost use Rattle.board_core.specs.Kept.{TwoPawnsOn};
 ghost use Rattle.board_core.specs.Build.{IsBuilt};
-ghost use Rattle.board_core.specs.declared.piece.Kind.{Kind};
-ghost use Rattle.board_core.specs.declared.piece.Kind.TheVariants.{King};
-ghost use Rattle.board_core.specs.declared.piece.Side.{Side};
-ghost use Rattle.board_core.specs.declared.piece.Side.TheVariants.{Black};
+ghost use Rattle.bit_boards.specs.declared.piece.Kind.{Kind};
+ghost use Rattle.bit_boards.specs.declared.piece.Kind.TheVariants.{King};
+ghost use Rattle.bit_boards.specs.declared.piece.Side.{Side};
+ghost use Rattle.bit_boards.specs.declared.piece.Side.TheVariants.{Black};
 
 use crate::scan::{count_kind, count_kings, first_dead, first_pawn};
 use crate::{Hand, Kind, Piece, Position, Side, Square};

@@ -1,8 +1,8 @@
 // The pieces that a side holds.
 ghost use Rattle.std.specs.Prelude.{◌≡◌, ◌≢◌, ◌<◌, ◌≤◌, length, replicate};
-ghost use Rattle.board_core.specs.Kind.{place_of};
+ghost use Rattle.bit_boards.specs.Kind.{place_of};
 ghost use Rattle.board_core.specs.Board.{hand_count, with_more, with_less};
-ghost use Rattle.board_core.specs.declared.piece.Kind.TheVariants.{King};
+ghost use Rattle.bit_boards.specs.declared.piece.Kind.TheVariants.{King};
 
 use crate::Kind;
 use std::marker::Model;

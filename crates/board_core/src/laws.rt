@@ -1,7 +1,7 @@
 // What is true of all squares, kinds and moves: each law is the clause of a call that does nothing.
-ghost use Rattle.board_core.specs.Square.{SquaresApart};
-ghost use Rattle.board_core.specs.Kind.{PlacesApart, PlacesInHand};
-ghost use Rattle.board_core.specs.Text.{LettersApart};
+ghost use Rattle.board_core.specs.Laws.{SquaresApart};
+ghost use Rattle.board_core.specs.Laws.{PlacesApart, PlacesInHand};
+ghost use Rattle.board_core.specs.Laws.{LettersApart};
 ghost use Rattle.board_core.specs.Order.{OrdersApart, OrdersByOrigin, OrdersWithin, PlacesInOrder};
 
 /// Laws about squares and kinds: no two squares have one number, and no two kinds one place in their order or one letter; those

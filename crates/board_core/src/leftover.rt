@@ -1,10 +1,10 @@
 // What a set has left, in the defender's hand.
 ghost use Rattle.std.specs.Prelude.{◌≡◌, ◌≢◌};
-ghost use Rattle.board_core.specs.Kind.{total_of};
+ghost use Rattle.bit_boards.specs.Kind.{total_of};
 ghost use Rattle.board_core.specs.Board.{count_of, HasDefender};
 ghost use Rattle.board_core.specs.Rest.{count_with_rest, hand_with_rest, board_with_rest};
-ghost use Rattle.board_core.specs.declared.piece.Kind.{Kind};
-ghost use Rattle.board_core.specs.declared.piece.Kind.TheVariants.{King};
+ghost use Rattle.bit_boards.specs.declared.piece.Kind.{Kind};
+ghost use Rattle.bit_boards.specs.declared.piece.Kind.TheVariants.{King};
 
 use crate::scan::count_kind;
 use crate::{Hand, Kind, Position, Side};

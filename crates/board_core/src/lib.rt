@@ -1,4 +1,4 @@
-//! The board of shogi: sides, kinds, pieces, squares, hands, moves and positions, as plain values.
+//! Positions of shogi, hands and moves, as plain values. Squares and pieces are those of `bit_boards`, offered here again.
 //!
 //! A [`Position`] is small, of fixed size and copied as its bytes. It keeps that no kind has more pieces than a set of
 //! shogi, that a side has at most one king, that no piece stands where it could never move again, and that no side has
@@ -12,13 +12,12 @@ mod laws;
 mod leftover;
 mod moves;
 mod pack;
-mod piece;
 mod position;
 mod scan;
-mod square;
 #[cfg(test)]
 mod tests;
 
+pub use bit_boards::{Kind, Piece, Side, Square};
 pub use build::BadPosition;
 pub use hand::Hand;
 pub use keys::Key;
@@ -26,6 +25,4 @@ pub use laws::{order_laws, value_laws};
 pub use leftover::rest;
 pub use moves::Move;
 pub use pack::{key, same_key};
-pub use piece::{Kind, Piece, Side};
 pub use position::Position;
-pub use square::Square;

@@ -1,11 +1,12 @@
 // Positions: what can be asked of them, and the changes that moves are made of.
 ghost use Rattle.std.specs.Prelude.{◌≡◌, ◌≢◌, ◌<◌, ◌+◌, ℕ, None, Some, false, true, ◌↔◌, IfSome, IsNone, IsSome, IsTrue};
-ghost use Rattle.board_core.specs.Square.{file_of};
-ghost use Rattle.board_core.specs.Kind.{total_of, same_kind};
-ghost use Rattle.board_core.specs.Board.{piece_at, hand_count, hand_of, with_more, with_less, is_pawn_of, plain_piece, is_dead, count_of, kings_of, with_cell, with_hand, with_turn_passed, one_if, ChangesCell, is_king_of};
+ghost use Rattle.bit_boards.specs.Square.{file_of};
+ghost use Rattle.bit_boards.specs.Kind.{total_of, same_kind};
+ghost use Rattle.bit_boards.specs.Piece.{plain_piece, is_dead};
+ghost use Rattle.board_core.specs.Board.{piece_at, hand_count, hand_of, with_more, with_less, is_pawn_of, count_of, kings_of, with_cell, with_hand, with_turn_passed, one_if, ChangesCell, is_king_of};
 ghost use Rattle.board_core.specs.Kept.{IsKept};
-ghost use Rattle.board_core.specs.declared.piece.Kind.{Kind};
-ghost use Rattle.board_core.specs.declared.piece.Kind.TheVariants.{King};
+ghost use Rattle.bit_boards.specs.declared.piece.Kind.{Kind};
+ghost use Rattle.bit_boards.specs.declared.piece.Kind.TheVariants.{King};
 
 use crate::scan::first_king;
 use crate::{Hand, Kind, Piece, Side, Square};
@@ -42,27 +43,6 @@ impl Model for Position {
     ghost invariant = { λ p. IsKept (record { cells = p.cells; black = p.black; white = p.white; side = p.side }) };
 
     ghost inverse = { λ b. record { cells = b.cells; black = b.black; white = b.white; side = b.side } };
-}
-
-impl Piece {
-    /// A side's piece of a kind, unpromoted.
-    pub fn plain(kind: Kind, side: Side) -> Piece
-        ensures { result ≡ plain_piece kind side }
-    {
-        Piece {
-            kind,
-            promoted: false,
-            side,
-        }
-    }
-
-    /// Whether it could never move again from the square: an unpromoted pawn or lance on its last row, an unpromoted
-    /// knight on its last two (rules of shogi: forced promotion, and drops without a move).
-    pub fn is_dead_on(self, square: Square) -> bool
-        ensures { result ≡ is_dead square.number (Some self) }
-    {
-        !self.promoted && square.height(self.side) + self.kind.rows_needed() > 8
-    }
 }
 
 impl Position {

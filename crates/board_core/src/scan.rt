@@ -1,7 +1,8 @@
 // Looks through the 81 cells of a board.
 ghost use Rattle.std.specs.Prelude.{◌≡◌, ◌<◌, ◌≤◌, ℕ, None, IfSome, count_by, true, false};
-ghost use Rattle.board_core.specs.Kind.{same_kind, same_side};
-ghost use Rattle.board_core.specs.Board.{piece_at, is_of_kind, is_king_of, is_pawn_of, is_dead};
+ghost use Rattle.bit_boards.specs.Kind.{same_kind, same_side};
+ghost use Rattle.bit_boards.specs.Piece.{is_dead};
+ghost use Rattle.board_core.specs.Board.{piece_at, is_of_kind, is_king_of, is_pawn_of};
 
 use crate::{Kind, Piece, Side, Square};
 

@@ -1,6 +1,6 @@
 -- Why a certificate is refused: what may be wrong with it, and which of several reasons is named.
 use Rattle.std.specs.Prelude.{◌≡◌, ◌<◌, ◌+◌, ◌⊎◌, ℕ, zero, suc, List, Option, Some, None, Contains, slice_get, IsSomeAnd}
-use Rattle.board_core.specs.declared.piece.Side.{Side}
+use Rattle.bit_boards.specs.declared.piece.Side.{Side}
 use Rattle.board_core.specs.declared.moves.Move.{Move}
 use Rattle.cert_text.specs.declared.entry.MateEntry.{MateEntry}
 use Rattle.board_core.specs.Board.{Board}

@@ -1,6 +1,6 @@
 -- When a certificate is valid for a position, and what it then shows.
 use Rattle.std.specs.Prelude.{◌≡◌, ◌<◌, ℕ, List, [], Contains}
-use Rattle.board_core.specs.declared.piece.Side.{Side}
+use Rattle.bit_boards.specs.declared.piece.Side.{Side}
 use Rattle.board_core.specs.declared.moves.Move.{Move}
 use Rattle.cert_text.specs.declared.entry.MateEntry.{MateEntry}
 use Rattle.board_core.specs.Board.{Board}

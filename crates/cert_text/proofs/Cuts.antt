@@ -13,12 +13,12 @@ use Rattle.std.proofs.lemmas.List.{take_more}
 use Rattle.std.proofs.lemmas.Bool.Decides.{eqb_tells}
 use Rattle.board_core.specs.declared.moves.Move.{Move}
 use Rattle.board_core.specs.declared.moves.Move.TheVariants as moves
-use Rattle.board_core.specs.declared.piece.Kind.{Kind}
-use Rattle.board_core.specs.declared.piece.Kind.TheVariants.{Pawn, Lance, Knight, Silver, Gold, Bishop, Rook, King}
-use Rattle.board_core.specs.Square.{file_of}
+use Rattle.bit_boards.specs.declared.piece.Kind.{Kind}
+use Rattle.bit_boards.specs.declared.piece.Kind.TheVariants.{Pawn, Lance, Knight, Silver, Gold, Bishop, Rook, King}
+use Rattle.bit_boards.specs.Square.{file_of}
 use Rattle.board_core.specs.Board.{Board}
 use Rattle.board_core.specs.Kept.{IsKept}
-use Rattle.board_core.specs.Text.{kind_letter}
+use Rattle.bit_boards.specs.Text.{kind_letter}
 use Rattle.usi_text.specs.MoveText.{move_text, promotion_text}
 use Rattle.sfen_text.specs.Spelling.{sfen_of}
 use Rattle.sfen_text.specs.Laws.{TextsHaveBytes, TextsAreLines}

@@ -1,5 +1,5 @@
 use Rattle.std.proofs.Common.{◌≤◌, ℕ, zero, suc, List, [], Contains, arith}
-use Rattle.board_core.specs.declared.piece.Side.{Side}
+use Rattle.bit_boards.specs.declared.piece.Side.{Side}
 use Rattle.board_core.specs.Board.{Board}
 use Rattle.list_laws.proofs.Standing.{in_first}
 use Rattle.mate_def.specs.Mate.{after_both, RankAtMost, IsMate, IsClosed, Escapes, MateInOne}

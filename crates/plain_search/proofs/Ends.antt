@@ -3,7 +3,7 @@ use Rattle.std.proofs.Common.{◌≡◌, ◌<◌, ◌≤◌, ◌+◌, inl, inr, 
 use Rattle.std.specs.Prelude.{Some, slice_get, min}
 use Rattle.std.proofs.lemmas.Bool.{cases_eq}
 use Rattle.std.proofs.lemmas.Option.{same_Some, slice_get_within}
-use Rattle.board_core.specs.declared.piece.Side.{Side}
+use Rattle.bit_boards.specs.declared.piece.Side.{Side}
 use Rattle.board_core.specs.declared.moves.Move.{Move}
 use Rattle.board_core.specs.Board.{Board}
 use Rattle.board_core.specs.Order.{order_of, RisesFrom, OrdersApart}

@@ -5,7 +5,7 @@ use Rattle.std.specs.Global.{Global}
 use Rattle.std.proofs.lemmas.Bool.{cases_eq}
 use Rattle.std.proofs.lemmas.Option.{slice_get-get_or, same_Some}
 use Rattle.board_core.specs.Board.{Board}
-use Rattle.board_core.specs.declared.piece.Side.{Side}
+use Rattle.bit_boards.specs.declared.piece.Side.{Side}
 use Rattle.plain_search.specs.Queue.{IsQueue, IsWithAll}
 use Rattle.plain_search.specs.Graph.{IsKeptQueue, AreSteps, IsGraph, moves_of, steps_at, expansions_of, positions_met}
 use Rattle.plain_search.specs.declared.graph.Step.{Step}

@@ -3,11 +3,11 @@ use Rattle.std.proofs.Common.{◌≡◌, ◌<◌, ◌≤◌, ◌+◌, ◌⊎◌,
 use Rattle.std.specs.Prelude.{Some, Option, Bool, slice_get}
 use Rattle.std.proofs.lemmas.Option.{same_Some, slice_get_cases, slice_get_within, slice_get_read, slice_get-get_or}
 use Rattle.std.proofs.lemmas.List.{length_push}
-use Rattle.board_core.specs.declared.piece.Side.{Side}
-use Rattle.board_core.specs.declared.piece.Side.TheVariants.{Black, White}
+use Rattle.bit_boards.specs.declared.piece.Side.{Side}
+use Rattle.bit_boards.specs.declared.piece.Side.TheVariants.{Black, White}
 use Rattle.board_core.specs.declared.moves.Move.{Move}
 use Rattle.cert_text.specs.declared.entry.MateEntry.{MateEntry}
-use Rattle.board_core.specs.Kind.{other}
+use Rattle.bit_boards.specs.Kind.{other}
 use Rattle.board_core.specs.Board.{Board, kings_of}
 use Rattle.board_core.specs.Kept.{IsKept}
 use Rattle.board_core.specs.Order.{RisesFrom}

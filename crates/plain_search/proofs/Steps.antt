@@ -6,11 +6,11 @@ use Rattle.std.proofs.lemmas.List.Elements.{Contains-push_cases}
 use Rattle.board_core.specs.declared.moves.Move.{Move}
 use Rattle.board_core.specs.declared.moves.Move.TheVariants as moves
 use Rattle.board_core.specs.Board.{Board, kings_of}
-use Rattle.board_core.specs.Kind.{other}
+use Rattle.bit_boards.specs.Kind.{other}
 use Rattle.board_core.specs.Order.{Lists}
 use Rattle.board_core.specs.Text.{HasText}
-use Rattle.board_core.specs.declared.piece.Side.{Side}
-use Rattle.board_core.specs.declared.piece.Side.TheVariants.{Black, White}
+use Rattle.bit_boards.specs.declared.piece.Side.{Side}
+use Rattle.bit_boards.specs.declared.piece.Side.TheVariants.{Black, White}
 use Rattle.shogi_rules.specs.Tsume.{IsCheck, IsEvasion}
 use Rattle.shogi_rules.specs.Rules.{IsLegal, IsQuiet, after}
 use Rattle.cert_check.specs.Places.{IsWith}

@@ -2,9 +2,9 @@
 use Rattle.std.proofs.Common.{◌≡◌, ◌<◌, inl, inr, ℕ, zero, suc, true, false, List, take, length, Contains, arith, ap, sym, refl, ◌∙◌, subst, length-take, get_or-take}
 use Rattle.std.specs.Prelude.{Bool, Some, None, slice_get}
 use Rattle.std.proofs.lemmas.Option.{slice_get_read, slice_get_within}
-use Rattle.board_core.specs.declared.piece.Side.{Side}
+use Rattle.bit_boards.specs.declared.piece.Side.{Side}
 use Rattle.board_core.specs.declared.moves.Move.{Move}
-use Rattle.board_core.specs.Kind.{other}
+use Rattle.bit_boards.specs.Kind.{other}
 use Rattle.board_core.specs.Board.{Board}
 use Rattle.shogi_rules.specs.Rules.{after}
 use Rattle.shogi_rules.specs.Tsume.{IsCheck, IsEvasion}

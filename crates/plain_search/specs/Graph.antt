@@ -2,9 +2,9 @@
 -- first of them.
 use Rattle.std.specs.Prelude.{◌≡◌, ◌<◌, ◌≤◌, ℕ, List, [], Option, Some, None, Contains, Vec, map, length, slice_get, vec_len}
 use Rattle.std.specs.Global.{Global}
-use Rattle.board_core.specs.declared.piece.Side.{Side}
+use Rattle.bit_boards.specs.declared.piece.Side.{Side}
 use Rattle.board_core.specs.declared.moves.Move.{Move}
-use Rattle.board_core.specs.Kind.{other}
+use Rattle.bit_boards.specs.Kind.{other}
 use Rattle.board_core.specs.Board.{Board, kings_of}
 use Rattle.board_core.specs.Order.{Lists}
 use Rattle.board_core.specs.Text.{HasText}

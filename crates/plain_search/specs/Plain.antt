@@ -1,7 +1,7 @@
 -- What a plain search comes to, exactly. Of a mate: the certificate with the least ranks that the known positions tell and the
 -- first moves of these ranks. Of an escape: that with the first evasions. And nothing more than they lead to.
 use Rattle.std.specs.Prelude.{◌≡◌, ◌≤◌, ◌<◌, ℕ, zero, suc, List, Contains, length, min, take}
-use Rattle.board_core.specs.declared.piece.Side.{Side}
+use Rattle.bit_boards.specs.declared.piece.Side.{Side}
 use Rattle.board_core.specs.declared.moves.Move.{Move}
 use Rattle.cert_text.specs.declared.entry.MateEntry.{MateEntry}
 use Rattle.board_core.specs.Board.{Board}

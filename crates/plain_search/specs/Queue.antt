@@ -1,7 +1,7 @@
 -- The order in which a plain search meets positions: a queue that begins with the problem, and behind which the successors of
 -- each position in turn are put, in the order of moves, those that aren't in it yet.
 use Rattle.std.specs.Prelude.{◌≡◌, ◌⊎◌, ℕ, zero, suc, List, [], ◌∷◌, Some, slice_get}
-use Rattle.board_core.specs.declared.piece.Side.{Side}
+use Rattle.bit_boards.specs.declared.piece.Side.{Side}
 use Rattle.board_core.specs.declared.moves.Move.{Move}
 use Rattle.board_core.specs.Board.{Board}
 use Rattle.board_core.specs.Order.{Lists}

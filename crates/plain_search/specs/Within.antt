@@ -1,6 +1,6 @@
 -- What can be told of a position from some known positions alone, those whose steps were listed.
 use Rattle.std.specs.Prelude.{◌≡◌, ℕ, zero, suc, List, Contains, take}
-use Rattle.board_core.specs.declared.piece.Side.{Side}
+use Rattle.bit_boards.specs.declared.piece.Side.{Side}
 use Rattle.board_core.specs.declared.moves.Move.{Move}
 use Rattle.board_core.specs.Board.{Board}
 use Rattle.shogi_rules.specs.Rules.{after}

@@ -1,7 +1,7 @@
 -- The evasion that lasts longest, among the first of them.
 use Rattle.std.proofs.Common.{◌≡◌, ◌<◌, ◌≤◌, ◌+◌, inl, inr, ℕ, List, get_or, length, arith, ap, sym, ◌∙◌, subst}
 use Rattle.std.specs.Prelude.{Some, None, Option}
-use Rattle.board_core.specs.declared.piece.Side.{Side}
+use Rattle.bit_boards.specs.declared.piece.Side.{Side}
 use Rattle.board_core.specs.declared.moves.Move.{Move}
 use Rattle.board_core.specs.Board.{Board}
 use Rattle.board_core.specs.Order.{order_of, Lists, PlacesInOrder}

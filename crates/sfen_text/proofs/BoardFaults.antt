@@ -2,13 +2,13 @@
 use Rattle.std.proofs.Common.{◌≡◌, ◌⊎◌, inl, inr, ℕ, zero, suc, ◌+◌, ◌-◌, ◌*◌, ◌<◌, ◌≤◌, Bool, true, false, cond, List, [], ◌∷◌, ◌++◌, length, map, get_or, Option, Some, None, Result, Ok, Err, refl, sym, ap, subst, ◌∙◌, append_assoc, arith}
 use Rattle.std.specs.Prelude.{replicate, nat_le, nat_lt, ◌&&◌, ◌==◌}
 use Rattle.std.specs.List.{flat_map, range_with_len}
-use Rattle.board_core.specs.Square.{square_on}
+use Rattle.bit_boards.specs.Square.{square_on}
 use Rattle.board_core.specs.Board.{piece_at}
 use Rattle.std.proofs.lemmas.List.FromFn.{get_or-map-range_with_len}
 use Rattle.std.proofs.lemmas.Bool.{and_parts, lt-ltb, cases_Bool}
 use Rattle.std.proofs.lemmas.Bool.Decides.{eqb_tells, nat_tests}
 use Rattle.std.proofs.lemmas.List.{append-nil, get_or_append_left, get_or-append_right, ext_get_or, length-append, length-replicate, flat_map_more}
-use Rattle.board_core.specs.declared.piece.Piece.{Piece}
+use Rattle.bit_boards.specs.declared.piece.Piece.{Piece}
 use Rattle.sfen_text.specs.declared.fault.TextFault.{TextFault}
 use Rattle.sfen_text.specs.declared.fault.TextFault.TheVariants as faults
 use Rattle.sfen_text.specs.declared.squares.Sign.{Sign}

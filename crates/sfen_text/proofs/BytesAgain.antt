@@ -3,10 +3,10 @@ use Rattle.std.proofs.Common.{◌≡◌, ◌≢◌, ℕ, zero, suc, ◌+◌, ◌
 use Rattle.std.specs.List.{flat_map, range_with_len}
 use Rattle.std.proofs.lemmas.Bool.{ltb-true}
 use Rattle.std.proofs.lemmas.List.{length-append}
-use Rattle.board_core.specs.declared.piece.Kind.{Kind}
-use Rattle.board_core.specs.declared.piece.Side.{Side}
-use Rattle.board_core.specs.declared.piece.Piece.{Piece}
-use Rattle.board_core.specs.declared.piece.Kind.TheVariants.{King, Rook, Bishop, Gold, Silver, Knight, Lance, Pawn}
+use Rattle.bit_boards.specs.declared.piece.Kind.{Kind}
+use Rattle.bit_boards.specs.declared.piece.Side.{Side}
+use Rattle.bit_boards.specs.declared.piece.Piece.{Piece}
+use Rattle.bit_boards.specs.declared.piece.Kind.TheVariants.{King, Rook, Bishop, Gold, Silver, Knight, Lance, Pawn}
 use Rattle.board_core.specs.Board.{hand_count}
 use Rattle.sfen_text.specs.Pieces.{letter_of, plus_text, piece_text}
 use Rattle.sfen_text.specs.Spelling.{cells_of_row, run_text, row_text, slashed_row, board_text, count_text, held_text, hand_text}

@@ -1,7 +1,7 @@
 -- Fields one after the other.
 use Rattle.std.proofs.Common.{◌≡◌, ℕ, List, Option, Ok, Err, refl}
-use Rattle.board_core.specs.declared.piece.Piece.{Piece}
-use Rattle.board_core.specs.declared.piece.Side.{Side}
+use Rattle.bit_boards.specs.declared.piece.Piece.{Piece}
+use Rattle.bit_boards.specs.declared.piece.Side.{Side}
 use Rattle.sfen_text.specs.declared.fault.TextFault.{TextFault}
 use Rattle.sfen_text.specs.Hands.{hands_of}
 use Rattle.sfen_text.specs.Reading.{field_of, next_of, cells_at, side_at, end_outcome, fields_at}

@@ -6,8 +6,8 @@ use Rattle.std.proofs.lemmas.Bool.{and_parts, and_from}
 use Rattle.std.proofs.lemmas.Bool.Decides.{eqb_tells, nat_tests}
 use Rattle.std.proofs.lemmas.List.{append-nil, length-append, length-replicate, length-reverse, reverse-append, reverse-reverse, take_at, drop_at}
 use Rattle.std.proofs.lemmas.List.Folds.{list_all-append}
-use Rattle.board_core.specs.Kind.{PlacesInHand}
-use Rattle.board_core.specs.declared.piece.Piece.{Piece}
+use Rattle.board_core.specs.Laws.{PlacesInHand}
+use Rattle.bit_boards.specs.declared.piece.Piece.{Piece}
 use Rattle.board_core.specs.Board.{Board}
 use Rattle.sfen_text.specs.Spelling.{side_letter}
 use Rattle.sfen_text.specs.Spells.{Stretch, empty, one, stretch_text, stretch_squares, row_squares, row_behind_slash, BoardSpells, HandsSpell, IsGap, IsNumber, IsEnd, hand_item_text}

@@ -7,15 +7,16 @@ use Rattle.std.proofs.lemmas.Bool.{and_parts, cases_Bool}
 use Rattle.std.proofs.lemmas.Bool.Decides.{nat_tests}
 use Rattle.std.proofs.lemmas.List.{length-set}
 use Rattle.std.proofs.lemmas.List.FromFn.{length-map-range_with_len}
-use Rattle.board_core.specs.declared.piece.Kind.{Kind}
-use Rattle.board_core.specs.declared.piece.Side.{Side}
-use Rattle.board_core.specs.declared.piece.Side.TheVariants.{Black, White}
-use Rattle.board_core.specs.declared.piece.Piece.{Piece}
-use Rattle.board_core.specs.declared.square.Square.{Square}
+use Rattle.bit_boards.specs.declared.piece.Kind.{Kind}
+use Rattle.bit_boards.specs.declared.piece.Side.{Side}
+use Rattle.bit_boards.specs.declared.piece.Side.TheVariants.{Black, White}
+use Rattle.bit_boards.specs.declared.piece.Piece.{Piece}
+use Rattle.bit_boards.specs.declared.square.Square.{Square}
 use Rattle.board_core.specs.declared.build.BadPosition.{BadPosition as Bad}
 use Rattle.board_core.specs.declared.build.BadPosition.TheVariants as bad
-use Rattle.board_core.specs.Square.{SquaresApart}
-use Rattle.board_core.specs.Kind.{place_of, PlacesApart, PlacesInHand}
+use Rattle.board_core.specs.Laws.{SquaresApart}
+use Rattle.board_core.specs.Laws.{PlacesApart, PlacesInHand}
+use Rattle.bit_boards.specs.Kind.{place_of}
 use Rattle.board_core.specs.Board.{Board, piece_at, hand_count}
 use Rattle.board_core.specs.Kept.{IsKept}
 use Rattle.board_core.specs.Build.{HasFault, fault_order, IsBuilt}

@@ -2,14 +2,14 @@
 use Rattle.std.proofs.Common.{◌≡◌, ◌≢◌, inr, ℕ, ◌+◌, ◌≤◌, Bool, true, false, List, [], ◌∷◌, ◌++◌, length, Some, refl, sym, subst, ◌∙◌, arith}
 use mathlib.Core.HLevel.{is_prop→PathP}
 use Rattle.std.proofs.Math.Bool.{Bool-set}
-use Rattle.board_core.specs.declared.piece.Kind.{Kind}
-use Rattle.board_core.specs.declared.piece.Kind.TheVariants.{Pawn, Lance, Knight, Silver, Gold, Bishop, Rook, King}
-use Rattle.board_core.specs.declared.piece.Side.{Side}
-use Rattle.board_core.specs.declared.piece.Side.TheVariants.{Black, White}
-use Rattle.board_core.specs.declared.piece.Piece.{Piece}
-use Rattle.board_core.specs.Kind.{can_promote}
+use Rattle.bit_boards.specs.declared.piece.Kind.{Kind}
+use Rattle.bit_boards.specs.declared.piece.Kind.TheVariants.{Pawn, Lance, Knight, Silver, Gold, Bishop, Rook, King}
+use Rattle.bit_boards.specs.declared.piece.Side.{Side}
+use Rattle.bit_boards.specs.declared.piece.Side.TheVariants.{Black, White}
+use Rattle.bit_boards.specs.declared.piece.Piece.{Piece}
+use Rattle.bit_boards.specs.Kind.{can_promote}
 use Rattle.sfen_text.specs.declared.squares.Sign.TheVariants.{Stands}
-use Rattle.board_core.specs.Board.{plain_piece}
+use Rattle.bit_boards.specs.Piece.{plain_piece}
 use Rattle.sfen_text.specs.Pieces.{letter_of, plus_text, piece_text, promoted_piece, piece_of, promoted_of}
 use Rattle.sfen_text.specs.Signs.{plain_sign, sign_of_piece, sign, signs}
 use Rattle.sfen_text.proofs.Filling.{signs_one}

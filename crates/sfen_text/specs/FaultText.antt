@@ -3,8 +3,8 @@ use Rattle.std.specs.Prelude.{◌+◌, ℕ, List, [], ◌∷◌, ◌++◌, codes
 use Rattle.std.specs.Fmt.{decimal}
 use Rattle.board_core.specs.declared.build.BadPosition.{BadPosition}
 use Rattle.board_core.specs.declared.build.BadPosition.TheVariants.{TooMany, NoDefenderKing, TwoKings, DeadPiece, TwoPawns}
-use Rattle.board_core.specs.Square.{file_of, row_of}
-use Rattle.board_core.specs.Text.{kind_letter}
+use Rattle.bit_boards.specs.Square.{file_of, row_of}
+use Rattle.bit_boards.specs.Text.{kind_letter}
 use Rattle.sfen_text.specs.declared.fault.TextFault.{TextFault}
 use Rattle.sfen_text.specs.declared.fault.TextFault.TheVariants.{BadRow, BadPiece, BadSide, BadHand, HandTwice, Trailing, BadPosition as NoPosition}
 

@@ -1,11 +1,11 @@
 -- Serves private functions alone: how the hands field of an SFEN text is read.
 use Rattle.std.specs.Prelude.{◌≡◌, ◌+◌, ◌-◌, ◌*◌, ◌==◌, ◌&&◌, ℕ, List, [], ◌∷◌, length, slice_set, Bool, false, Option, Some, None, Result, Ok, Err, nat_le, nat_lt, unwrap_or, if◌then◌else◌, ◌≤◌}
-use Rattle.board_core.specs.declared.piece.Kind.{Kind}
-use Rattle.board_core.specs.declared.piece.Kind.TheVariants.{Pawn, King}
-use Rattle.board_core.specs.declared.piece.Side.{Side}
-use Rattle.board_core.specs.declared.piece.Side.TheVariants.{Black, White}
-use Rattle.board_core.specs.declared.piece.Piece.{Piece}
-use Rattle.board_core.specs.Kind.{place_of, same_kind, total_of}
+use Rattle.bit_boards.specs.declared.piece.Kind.{Kind}
+use Rattle.bit_boards.specs.declared.piece.Kind.TheVariants.{Pawn, King}
+use Rattle.bit_boards.specs.declared.piece.Side.{Side}
+use Rattle.bit_boards.specs.declared.piece.Side.TheVariants.{Black, White}
+use Rattle.bit_boards.specs.declared.piece.Piece.{Piece}
+use Rattle.bit_boards.specs.Kind.{place_of, same_kind, total_of}
 use Rattle.board_core.specs.Board.{hand_count}
 use Rattle.sfen_text.specs.declared.fault.TextFault.{TextFault}
 use Rattle.sfen_text.specs.declared.fault.TextFault.TheVariants.{BadHand, HandTwice}

@@ -1,9 +1,9 @@
 -- Serves private functions alone: how an SFEN text is read.
 use Rattle.std.specs.Prelude.{◌≡◌, ◌+◌, ◌-◌, ◌==◌, ◌&&◌, ℕ, List, length, take, drop, reverse, take_while, codes, Bool, not, Option, Result, Ok, Err, nat_eq, nat_le, if◌then◌else◌}
 use Rattle.std.specs.List.{list_all, starts_with}
-use Rattle.board_core.specs.declared.piece.Side.{Side}
-use Rattle.board_core.specs.declared.piece.Side.TheVariants.{Black, White}
-use Rattle.board_core.specs.declared.piece.Piece.{Piece}
+use Rattle.bit_boards.specs.declared.piece.Side.{Side}
+use Rattle.bit_boards.specs.declared.piece.Side.TheVariants.{Black, White}
+use Rattle.bit_boards.specs.declared.piece.Piece.{Piece}
 use Rattle.board_core.specs.Board.{Board}
 use Rattle.board_core.specs.Build.{IsBuilt}
 use Rattle.sfen_text.specs.declared.fault.TextFault.{TextFault}

@@ -1,6 +1,6 @@
 // What is wrong with a text.
 ghost use Rattle.std.specs.Prelude.{◌≡◌, ◌+◌, Some};
-ghost use Rattle.board_core.specs.Square.{row_of};
+ghost use Rattle.bit_boards.specs.Square.{row_of};
 ghost use Rattle.sfen_text.specs.FaultText.{fault_text};
 
 use board_core::{BadPosition, Square};

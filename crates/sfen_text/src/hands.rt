@@ -1,7 +1,7 @@
 // The hands field of a text.
 ghost use Rattle.std.specs.Prelude.{◌≡◌, ◌≢◌, ◌≤◌, ◌<◌, ◌+◌, ◌^◌, length, slice_set, IsTrue, false};
-ghost use Rattle.board_core.specs.Kind.{place_of};
-ghost use Rattle.board_core.specs.declared.piece.Kind.TheVariants.{King};
+ghost use Rattle.bit_boards.specs.Kind.{place_of};
+ghost use Rattle.bit_boards.specs.declared.piece.Kind.TheVariants.{King};
 ghost use Rattle.sfen_text.specs.Hands.{items, hands_with, hands_of, empty_hand, IsCountSoFar, IsItemRead};
 ghost use Rattle.sfen_text.specs.Reading.{Gives};
 ghost use Rattle.sfen_text.specs.Bytes.{is_digit};

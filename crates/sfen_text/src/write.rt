@@ -2,8 +2,8 @@
 ghost use Rattle.std.specs.Prelude.{◌≡◌, ◌≢◌, ◌≤◌, ◌<◌, ◌+◌, ◌++◌, ◌∷◌, [], List, ℕ, IfOk, OnOk};
 ghost use Rattle.board_core.specs.Board.{Board, hand_count, hand_of};
 ghost use Rattle.board_core.specs.Kept.{IsKept};
-ghost use Rattle.board_core.specs.declared.piece.Kind.TheVariants.{King};
-ghost use Rattle.board_core.specs.declared.piece.Side.TheVariants.{Black, White};
+ghost use Rattle.bit_boards.specs.declared.piece.Kind.TheVariants.{King};
+ghost use Rattle.bit_boards.specs.declared.piece.Side.TheVariants.{Black, White};
 ghost use Rattle.sfen_text.specs.Pieces.{letter_of, piece_text};
 ghost use Rattle.sfen_text.specs.Spelling.{cells_of_row, run_text, row_text, slashed_row, board_text, side_letter, count_text, held_text, hand_text, hands_text, sfen_of};
 

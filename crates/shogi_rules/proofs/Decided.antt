@@ -1,11 +1,12 @@
 -- What isn't refused holds: each test of the rules can be decided.
 use Rattle.std.proofs.Common.{◌≡◌, ℕ, Option, Some, None, Bool, true, false, List, refl, IsTrue}
 use Rattle.std.specs.Prelude.{IsSomeAnd}
-use Rattle.board_core.specs.declared.piece.Piece.{Piece}
-use Rattle.board_core.specs.declared.piece.Side.{Side}
-use Rattle.board_core.specs.declared.piece.Side.TheVariants.{Black, White}
+use Rattle.bit_boards.specs.declared.piece.Piece.{Piece}
+use Rattle.bit_boards.specs.declared.piece.Side.{Side}
+use Rattle.bit_boards.specs.declared.piece.Side.TheVariants.{Black, White}
 use Rattle.board_core.specs.Board.{Board, piece_at}
-use Rattle.shogi_rules.specs.Rules.{fits, promotion_fits, IsOwn, Fits, PromotionFits, IsClear}
+use Rattle.bit_boards.specs.Movement.{fits}
+use Rattle.shogi_rules.specs.Rules.{promotion_fits, IsOwn, Fits, PromotionFits, IsClear}
 
 side_decided : (a b : Side) → ¬ ¬ (a ≡ b) → a ≡ b
 side_decided Black Black h = refl

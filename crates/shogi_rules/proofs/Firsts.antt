@@ -1,6 +1,6 @@
 -- The first reason that holds, from tests made in order.
 use Rattle.std.proofs.Common.{◌<◌, ℕ, Bool, arith}
-use Rattle.board_core.specs.declared.piece.Kind.{Kind}
+use Rattle.bit_boards.specs.declared.piece.Kind.{Kind}
 use Rattle.board_core.specs.Board.{Board}
 use Rattle.shogi_rules.specs.declared.illegal.Illegal.{Illegal}
 use Rattle.shogi_rules.specs.declared.illegal.Illegal.TheVariants.{NotThere, OwnPiece, NoStep, Blocked, BadPromotion, Occupied, NotInHand, DeadDrop, TwoPawns, KingLeft, PawnMate}

@@ -1,7 +1,8 @@
 use Rattle.std.proofs.Common.{◌≡◌, ◌<◌, ◌≤◌, ◌+◌, ◌-◌, ◌*◌, ◌/◌, ◌%◌, ◌↔◌, inl, inr, ℕ, List, Option, None, arith, sym, subst}
-use Rattle.board_core.specs.declared.piece.Piece.{Piece}
+use Rattle.bit_boards.specs.declared.piece.Piece.{Piece}
 use Rattle.board_core.specs.Board.{piece_at}
-use Rattle.shogi_rules.specs.Rules.{IsInside, IsBetween, IsClear}
+use Rattle.bit_boards.specs.Movement.{IsInside, IsBetween}
+use Rattle.shogi_rules.specs.Rules.{IsClear}
 use Rattle.shogi_rules.specs.Scan.{IsEmptyAlong}
 
 -- m is some number of steps above low, below count

@@ -2,12 +2,13 @@
 use Rattle.std.proofs.Common.{◌≡◌, ◌<◌, ◌≤◌, ◌+◌, ◌*◌, inl, inr, ℕ, suc, List, [], ◌∷◌, ◌++◌, Contains, arith, refl, sym, ◌∙◌, subst}
 use Rattle.std.proofs.lemmas.Bool.{cases_eq, cases_lt}
 use Rattle.std.proofs.lemmas.List.Elements.{Contains-push, Contains-push_cases, Contains-append_left}
-use Rattle.board_core.specs.declared.piece.Kind.{Kind}
+use Rattle.bit_boards.specs.declared.piece.Kind.{Kind}
 use Rattle.board_core.specs.declared.moves.Move.{Move}
 use Rattle.board_core.specs.declared.moves.Move.TheVariants as moves
-use Rattle.board_core.specs.Kind.{place_of, PlacesApart}
+use Rattle.board_core.specs.Laws.{PlacesApart}
+use Rattle.bit_boards.specs.Kind.{place_of}
 use Rattle.board_core.specs.Order.{order_of, RisesFrom, Lists, OrdersApart, OrdersByOrigin}
-use Rattle.board_core.specs.declared.piece.Side.{Side}
+use Rattle.bit_boards.specs.declared.piece.Side.{Side}
 use Rattle.board_core.specs.Board.{Board, hand_count, hand_of}
 use Rattle.shogi_rules.specs.declared.illegal.Illegal.TheVariants.{NotThere, NotInHand}
 use Rattle.shogi_rules.specs.declared.trial.Wanted.{Wanted}

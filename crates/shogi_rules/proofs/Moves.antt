@@ -3,16 +3,17 @@ use Rattle.std.proofs.Common.{◌≡◌, ◌≢◌, ◌<◌, ◌≤◌, ◌+◌,
 use Rattle.std.specs.Prelude.{not}
 use Rattle.std.proofs.lemmas.Bool.{cases_eq, cases_order, eq-eqb}
 use Rattle.std.proofs.lemmas.Bool.Decides.{eqb_tells}
-use Rattle.board_core.specs.declared.piece.Piece.{Piece}
-use Rattle.board_core.specs.declared.piece.Kind.{Kind}
-use Rattle.board_core.specs.declared.piece.Kind.TheVariants.{Pawn, Lance, Knight, Silver, Gold, Bishop, Rook, King}
-use Rattle.board_core.specs.declared.piece.Side.{Side}
-use Rattle.board_core.specs.declared.piece.Side.TheVariants.{Black, White}
-use Rattle.board_core.specs.Square.{file_of}
-use Rattle.board_core.specs.Kind.{other, same_kind, same_side, total_of, can_promote, place_of}
+use Rattle.bit_boards.specs.declared.piece.Piece.{Piece}
+use Rattle.bit_boards.specs.declared.piece.Kind.{Kind}
+use Rattle.bit_boards.specs.declared.piece.Kind.TheVariants.{Pawn, Lance, Knight, Silver, Gold, Bishop, Rook, King}
+use Rattle.bit_boards.specs.declared.piece.Side.{Side}
+use Rattle.bit_boards.specs.declared.piece.Side.TheVariants.{Black, White}
+use Rattle.bit_boards.specs.Square.{file_of}
+use Rattle.bit_boards.specs.Kind.{other, same_kind, same_side, total_of, can_promote, place_of}
 use Rattle.board_core.specs.Board.{Board, piece_at, is_of_kind, is_king_of, is_pawn_of, count_of, kings_of, with_cell, with_hand, with_turn_passed, hand_of, one_if, ChangesCell}
 use Rattle.board_core.specs.Kept.{IsKept, TwoPawnsOn}
-use Rattle.shogi_rules.specs.Rules.{fits, distance, landed_piece, hand_with_capture, after_board, IsClear, IsQuiet, IsOwn}
+use Rattle.bit_boards.specs.Movement.{fits, distance}
+use Rattle.shogi_rules.specs.Rules.{landed_piece, hand_with_capture, after_board, IsClear, IsQuiet, IsOwn}
 
 pub true_or_false : (b : Bool) → (b ≡ true) ⊎ (b ≡ false)
 true_or_false true = inl refl

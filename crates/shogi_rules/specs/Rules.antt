@@ -2,93 +2,21 @@
 -- promotion, check, why a move may not be made, and the mate by a dropped pawn.
 use Rattle.std.specs.Prelude.{◌≡◌, ◌≢◌, ◌<◌, ◌+◌, ◌-◌, ◌/◌, ◌%◌, ◌&&◌, ◌||◌, ◌==◌, ◌⊎◌, ℕ, List, Option, Some, None, Bool, true, false, not, Result, Ok, Err, nat_le, nat_lt, IsTrue, IsSome, IsSomeAnd, refl}
 use Rattle.std.specs.Option.{option_map}
-use Rattle.board_core.specs.declared.piece.Kind.{Kind}
-use Rattle.board_core.specs.declared.piece.Kind.TheVariants.{Pawn, Lance, Knight, Silver, Gold, Bishop, Rook, King}
-use Rattle.board_core.specs.declared.piece.Side.{Side}
-use Rattle.board_core.specs.declared.piece.Piece.{Piece}
+use Rattle.bit_boards.specs.declared.piece.Kind.{Kind}
+use Rattle.bit_boards.specs.declared.piece.Kind.TheVariants.{Pawn, Lance, Knight, Silver, Gold, Bishop, Rook, King}
+use Rattle.bit_boards.specs.declared.piece.Side.{Side}
+use Rattle.bit_boards.specs.declared.piece.Piece.{Piece}
 use Rattle.board_core.specs.declared.moves.Move.{Move}
 use Rattle.board_core.specs.declared.moves.Move.TheVariants as moves
-use Rattle.board_core.specs.Square.{height}
-use Rattle.board_core.specs.Kind.{other, can_promote}
-use Rattle.board_core.specs.Board.{Board, piece_at, hand_count, hand_of, with_more, with_less, is_king_of, is_pawn_of, is_dead, plain_piece, with_cell, with_hand, with_turn_passed}
+use Rattle.bit_boards.specs.Square.{height}
+use Rattle.bit_boards.specs.Kind.{other, can_promote}
+use Rattle.bit_boards.specs.Piece.{is_dead, plain_piece}
+use Rattle.bit_boards.specs.Movement.{fits, IsBetween}
+use Rattle.board_core.specs.Board.{Board, piece_at, hand_count, hand_of, with_more, with_less, is_king_of, is_pawn_of, with_cell, with_hand, with_turn_passed}
 use Rattle.shogi_rules.specs.declared.illegal.Illegal.{Illegal}
 use Rattle.shogi_rules.specs.declared.illegal.Illegal.TheVariants.{NotThere, OwnPiece, NoStep, Blocked, BadPromotion, Occupied, NotInHand, DeadDrop, TwoPawns, KingLeft, PawnMate}
 
--- 1. MOVEMENT. What a piece may do is said by how many files aside it goes, and between which heights.
-
--- How far apart two numbers are.
-abbrev pub distance : ℕ → ℕ → ℕ
-distance a b = (a - b) + (b - a)
-
--- A gold steps one up, straight or aside; one aside; or one straight down.
-abbrev pub gold_steps : ℕ → ℕ → ℕ → Bool
-gold_steps aside low high =
-    (nat_le aside 1 && (high == low + 1)) || ((aside == 1) && (high == low)) || ((aside == 0) && (low == high + 1))
-
--- The single steps of a piece, promoted or not. A knight jumps two up and one aside. A silver steps one up, straight or
--- aside, or one down aside. A king steps to any neighbour. A promoted pawn, lance, knight or silver steps as a gold does.
--- A promoted bishop steps one along a file or a row besides its slides, a promoted rook one diagonally.
-abbrev pub steps : Kind → Bool → ℕ → ℕ → ℕ → Bool
-steps Pawn false aside low high = (aside == 0) && (high == low + 1)
-steps Pawn true aside low high = gold_steps aside low high
-steps Lance false aside low high = false
-steps Lance true aside low high = gold_steps aside low high
-steps Knight false aside low high = (aside == 1) && (high == low + 2)
-steps Knight true aside low high = gold_steps aside low high
-steps Silver false aside low high = (nat_le aside 1 && (high == low + 1)) || ((aside == 1) && (low == high + 1))
-steps Silver true aside low high = gold_steps aside low high
-steps Gold promoted aside low high = gold_steps aside low high
-steps Bishop false aside low high = false
-steps Bishop true aside low high = (aside + distance low high) == 1
-steps Rook false aside low high = false
-steps Rook true aside low high = (aside == 1) && (distance low high == 1)
-steps King promoted aside low high = nat_le aside 1 && nat_le (distance low high) 1 && nat_le 1 (aside + distance low high)
-
--- The slides of a piece, any distance as far as the squares between are empty: a lance straight up, a bishop along a
--- diagonal, a rook along a file or a row. A promoted bishop and a promoted rook keep their slides; a promoted lance doesn't.
-abbrev pub slides : Kind → Bool → ℕ → ℕ → ℕ → Bool
-slides Pawn promoted aside low high = false
-slides Lance false aside low high = (aside == 0) && nat_lt low high
-slides Lance true aside low high = false
-slides Knight promoted aside low high = false
-slides Silver promoted aside low high = false
-slides Gold promoted aside low high = false
-slides Bishop promoted aside low high = nat_le 1 aside && (aside == distance low high)
-slides Rook promoted aside low high = ((aside == 0) && nat_le 1 (distance low high)) || (nat_le 1 aside && (low == high))
-slides King promoted aside low high = false
-
--- On an empty board the piece goes from the one square to the other, by a step or a slide.
-abbrev pub fits : Piece → ℕ → ℕ → Bool
-fits piece from to =
-    steps piece.kind piece.promoted (distance (from / 9) (to / 9)) (height piece.side from) (height piece.side to)
-    || slides piece.kind piece.promoted (distance (from / 9) (to / 9)) (height piece.side from) (height piece.side to)
-
--- The number y lies strictly between x and z, whichever of these is the greater.
-abbrev pub IsInside : ℕ → ℕ → ℕ → Type 0
-IsInside x y z = ((x < y) × (y < z)) ⊎ ((z < y) × (y < x))
-
--- The square m lies strictly between a and b on one file.
-pub record IsOnFile (a m b : ℕ) : Type 0 where
-  pub here : a / 9 ≡ m / 9
-  pub there : b / 9 ≡ m / 9
-  pub inside : IsInside (a % 9) (m % 9) (b % 9)
-
--- The square m lies strictly between a and b on one row.
-pub record IsOnRow (a m b : ℕ) : Type 0 where
-  pub here : a % 9 ≡ m % 9
-  pub there : b % 9 ≡ m % 9
-  pub inside : IsInside (a / 9) (m / 9) (b / 9)
-
--- The square m lies strictly between a and b on one diagonal.
-pub record IsOnDiagonal (a m b : ℕ) : Type 0 where
-  pub here : distance (a / 9) (m / 9) ≡ distance (a % 9) (m % 9)
-  pub there : distance (a / 9) (b / 9) ≡ distance (a % 9) (b % 9)
-  pub files : IsInside (a / 9) (m / 9) (b / 9)
-  pub rows : IsInside (a % 9) (m % 9) (b % 9)
-
--- The square m lies strictly between a and b, on one file, row or diagonal. Nothing lies between a knight and its square.
-abbrev pub IsBetween : ℕ → ℕ → ℕ → Type 0
-IsBetween a m b = IsOnFile a m b ⊎ IsOnRow a m b ⊎ IsOnDiagonal a m b
+-- 1. MOVEMENT. How a piece moves on an empty board is said in `bit_boards`; here, over what stands between.
 
 -- Every square strictly between the two is empty.
 abbrev pub IsClear : List (Option Piece) → ℕ → ℕ → Type 0

@@ -1,9 +1,9 @@
 -- What the loops look for, a square at a time: it serves private functions alone.
 use Rattle.std.specs.Prelude.{◌≡◌, ◌<◌, ◌+◌, ◌*◌, ◌⊎◌, ℕ, List, Option, None, true, false}
-use Rattle.board_core.specs.declared.piece.Piece.{Piece}
+use Rattle.bit_boards.specs.declared.piece.Piece.{Piece}
 use Rattle.board_core.specs.Board.{Board, piece_at}
-use Rattle.board_core.specs.declared.piece.Kind.{Kind}
-use Rattle.board_core.specs.declared.piece.Kind.TheVariants.{Pawn}
+use Rattle.bit_boards.specs.declared.piece.Kind.{Kind}
+use Rattle.bit_boards.specs.declared.piece.Kind.TheVariants.{Pawn}
 use Rattle.shogi_rules.specs.Rules.{RefusesBoard, BoardMove, IsInCheck}
 use Rattle.shogi_rules.specs.declared.illegal.Illegal.{Illegal}
 

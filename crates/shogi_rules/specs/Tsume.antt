@@ -1,8 +1,8 @@
 -- The tsume rule: the attacker may only give check, the defender may make any legal move.
 use Rattle.std.specs.Prelude.{◌≡◌}
-use Rattle.board_core.specs.declared.piece.Side.{Side}
+use Rattle.bit_boards.specs.declared.piece.Side.{Side}
 use Rattle.board_core.specs.declared.moves.Move.{Move}
-use Rattle.board_core.specs.Kind.{other}
+use Rattle.bit_boards.specs.Kind.{other}
 use Rattle.board_core.specs.Board.{Board, HasDefender}
 use Rattle.shogi_rules.specs.Rules.{IsInCheck, IsQuiet, IsLegal, after}
 

@@ -1,6 +1,6 @@
 // Which moves are legal, and why the others aren't.
 ghost use Rattle.std.specs.Prelude.{◌≡◌, ◌≢◌, ◌<◌, ◌↔◌, IsTrue, OnOk};
-ghost use Rattle.board_core.specs.declared.piece.Kind.TheVariants.{King};
+ghost use Rattle.bit_boards.specs.declared.piece.Kind.TheVariants.{King};
 ghost use Rattle.board_core.specs.Board.{piece_at, hand_count, hand_of, is_pawn_of};
 ghost use Rattle.board_core.specs.Text.{HasText};
 ghost use Rattle.shogi_rules.specs.Rules.{is_in_zone, promotion_fits, IsOwn, Fits, PromotionFits, HasPawnOnFile, BoardMove, IsFirst, RefusesBoard, RefusesDrop, IsLegalOutcome, IsQuiet};
@@ -9,8 +9,9 @@ ghost use Rattle.shogi_rules.specs.Scan.{GoesTo, GoesFrom, IsStuck};
 
 use crate::checking::in_check;
 use crate::illegal::Illegal;
-use crate::movement::{Cells, at, fits, is_clear};
+use crate::movement::{Cells, at, is_clear};
 use crate::moving::{drop_piece, move_piece};
+use bit_boards::fits;
 use board_core::{Kind, Move, Piece, Position, Side, Square};
 
 pub(crate) fn owns(position: &Position, square: Square) -> bool

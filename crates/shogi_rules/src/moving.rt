@@ -1,14 +1,14 @@
 // What moves do.
 ghost use Rattle.std.specs.Prelude.{◌≡◌, ◌≢◌, ◌<◌, ◌+◌, Some};
-ghost use Rattle.board_core.specs.declared.piece.Piece.{Piece};
-ghost use Rattle.board_core.specs.declared.piece.Kind.{Kind};
-ghost use Rattle.board_core.specs.declared.piece.Side.{Side};
-ghost use Rattle.board_core.specs.declared.piece.Kind.TheVariants.{King};
-ghost use Rattle.board_core.specs.Kind.{total_of, other};
+ghost use Rattle.bit_boards.specs.declared.piece.Piece.{Piece};
+ghost use Rattle.bit_boards.specs.declared.piece.Kind.{Kind};
+ghost use Rattle.bit_boards.specs.declared.piece.Side.{Side};
+ghost use Rattle.bit_boards.specs.declared.piece.Kind.TheVariants.{King};
+ghost use Rattle.bit_boards.specs.Kind.{total_of, other};
 ghost use Rattle.board_core.specs.Text.{HasText};
 ghost use Rattle.board_core.specs.Board.{hand_of, with_hand, is_of_kind, count_of, kings_of, one_if};
 ghost use Rattle.shogi_rules.specs.Rules.{landed_piece, hand_with_capture, after_board, after_drop, IsQuiet, IsOwn, Fits, IsClear, PromotionFits, RefusesDrop, IsLegal, IsDropped, after};
-ghost use Rattle.board_core.specs.declared.square.Square.{Square};
+ghost use Rattle.bit_boards.specs.declared.square.Square.{Square};
 ghost use Rattle.board_core.specs.declared.moves.Move.TheVariants.{Drop};
 ghost use Rattle.shogi_rules.specs.declared.illegal.Illegal.TheVariants.{Occupied, NotInHand, DeadDrop, TwoPawns};
 

@@ -1,6 +1,6 @@
 // Problems of tsume-shogi.
 ghost use Rattle.std.specs.Prelude.{◌≡◌, ◌↔◌, IfOk, IsErr};
-ghost use Rattle.board_core.specs.Kind.{other};
+ghost use Rattle.bit_boards.specs.Kind.{other};
 ghost use Rattle.board_core.specs.Board.{HasDefender};
 ghost use Rattle.shogi_rules.specs.Rules.{IsInCheck};
 ghost use Rattle.shogi_rules.specs.Tsume.{IsProblem};

@@ -1,7 +1,7 @@
 //! The plain lists of moves: every move is tried by the rules. Slow and simple, they stay as the yardstick that faster
 //! lists are compared with.
 ghost use Rattle.std.specs.Prelude.{◌≡◌, ◌<◌, ◌+◌, ◌*◌, ◌↔◌, IsTrue, IfOk, OnOk};
-ghost use Rattle.board_core.specs.Kind.{place_of};
+ghost use Rattle.bit_boards.specs.Kind.{place_of};
 ghost use Rattle.board_core.specs.Order.{order_of, Lists};
 ghost use Rattle.shogi_rules.specs.Rules.{IsQuiet};
 ghost use Rattle.shogi_rules.specs.Tsume.{IsCheck, IsEvasion};

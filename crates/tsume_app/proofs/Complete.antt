@@ -1,6 +1,6 @@
 -- A well posed input ends with an answer, unless the outside fails or memory is wanted.
 use Rattle.std.proofs.Common.{◌≡◌, ◌⊎◌, inl, inr, ℕ, List, Bool, Option, Some, None, Ok, Err, arith, refl, sym, subst, ◌∙◌}
-use Rattle.board_core.specs.Kind.{other}
+use Rattle.bit_boards.specs.Kind.{other}
 use Rattle.board_core.specs.Board.{Board}
 use Rattle.shogi_rules.specs.Rules.{IsInCheck}
 use Rattle.tsume_io.specs.Faults.{Rose}

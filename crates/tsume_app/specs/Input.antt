@@ -1,6 +1,6 @@
 -- What the bytes of an input stand for.
 use Rattle.std.specs.Prelude.{◌≡◌, ℕ, List, Bool, true, false, Result, Ok, Err}
-use Rattle.board_core.specs.Kind.{other}
+use Rattle.bit_boards.specs.Kind.{other}
 use Rattle.board_core.specs.Board.{Board}
 use Rattle.board_core.specs.Rest.{board_with_rest}
 use Rattle.shogi_rules.specs.Rules.{IsInCheck}

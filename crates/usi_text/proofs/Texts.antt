@@ -1,10 +1,12 @@
 -- No two moves have one text.
 use Rattle.std.proofs.Common.{Option, Some, None, ◌≡◌, ◌≢◌, ◌+◌, ℕ, List, [], ◌∷◌, Bool, true, false, arith, ap, sym, refl, ◌∙◌}
-use Rattle.board_core.specs.declared.square.Square.{Square}
+use Rattle.bit_boards.specs.declared.square.Square.{Square}
 use Rattle.board_core.specs.declared.moves.Move.{Move}
 use Rattle.board_core.specs.declared.moves.Move.TheVariants as moves
-use Rattle.board_core.specs.Square.{file_of, row_of, SquaresApart}
-use Rattle.board_core.specs.Text.{HasText, LettersApart}
+use Rattle.board_core.specs.Laws.{SquaresApart}
+use Rattle.bit_boards.specs.Square.{file_of, row_of}
+use Rattle.board_core.specs.Laws.{LettersApart}
+use Rattle.board_core.specs.Text.{HasText}
 use Rattle.usi_text.specs.MoveText.{square_text, promotion_text, move_text, IsRead}
 
 pub square_apart : SquaresApart → (a b : Square) → 48 + file_of a.number ≡ 48 + file_of b.number → 96 + row_of a.number ≡ 96 + row_of b.number

@@ -1,7 +1,8 @@
 -- The texts of squares and moves (USI protocol: moves).
 use Rattle.std.specs.Prelude.{◌≡◌, ◌+◌, ℕ, List, [], ◌∷◌, ◌++◌, Bool, true, false, Option, Some, None}
-use Rattle.board_core.specs.Square.{file_of, row_of}
-use Rattle.board_core.specs.Text.{kind_letter, HasText}
+use Rattle.bit_boards.specs.Square.{file_of, row_of}
+use Rattle.bit_boards.specs.Text.{kind_letter}
+use Rattle.board_core.specs.Text.{HasText}
 use Rattle.board_core.specs.declared.moves.Move.{Move}
 use Rattle.board_core.specs.declared.moves.Move.TheVariants as moves
 

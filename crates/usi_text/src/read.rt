@@ -1,10 +1,11 @@
 // Texts as moves.
 ghost use Rattle.std.specs.Prelude.{◌≡◌, ◌≢◌, ℕ, List, [], ◌∷◌, Some, IfSome, IfNone, false};
 ghost use Rattle.board_core.specs.declared.moves.Move.{Move};
-ghost use Rattle.board_core.specs.declared.square.Square.{Square};
-ghost use Rattle.board_core.specs.declared.piece.Kind.{Kind};
-ghost use Rattle.board_core.specs.declared.piece.Kind.TheVariants.{King};
-ghost use Rattle.board_core.specs.Text.{kind_letter, HasText};
+ghost use Rattle.bit_boards.specs.declared.square.Square.{Square};
+ghost use Rattle.bit_boards.specs.declared.piece.Kind.{Kind};
+ghost use Rattle.bit_boards.specs.declared.piece.Kind.TheVariants.{King};
+ghost use Rattle.bit_boards.specs.Text.{kind_letter};
+ghost use Rattle.board_core.specs.Text.{HasText};
 ghost use Rattle.usi_text.specs.MoveText.{square_text, promotion_text, move_text, IsRead};
 
 use board_core::{Kind, Move, Square, value_laws};

@@ -1,6 +1,6 @@
 // Moves as texts.
 ghost use Rattle.std.specs.Prelude.{◌≡◌, ◌≢◌, ◌≤◌, ◌+◌, List, ℕ, [], ◌∷◌, length};
-ghost use Rattle.board_core.specs.Square.{file_of, row_of};
+ghost use Rattle.bit_boards.specs.Square.{file_of, row_of};
 ghost use Rattle.board_core.specs.declared.moves.Move.{Move};
 ghost use Rattle.usi_text.specs.MoveText.{move_text};
 

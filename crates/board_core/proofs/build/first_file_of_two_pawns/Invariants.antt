@@ -1,5 +1,5 @@
 use Rattle.std.proofs.Common.{◌<◌, ℕ}
-use Rattle.board_core.specs.declared.piece.Side.{Side}
+use Rattle.bit_boards.specs.declared.piece.Side.{Side}
 use Rattle.board_core.specs.Kept.{TwoPawnsOn}
 use Rattle.board_core.proofs.build.first_file_of_two_pawns.Given as goal
 

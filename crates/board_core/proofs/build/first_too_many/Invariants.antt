@@ -1,7 +1,7 @@
 use Rattle.std.proofs.Common.{◌<◌, ◌≤◌}
-use Rattle.board_core.specs.declared.piece.Kind.{Kind}
-use Rattle.board_core.specs.declared.piece.Side.TheVariants.{Black}
-use Rattle.board_core.specs.Kind.{place_of, total_of}
+use Rattle.bit_boards.specs.declared.piece.Kind.{Kind}
+use Rattle.bit_boards.specs.declared.piece.Side.TheVariants.{Black}
+use Rattle.bit_boards.specs.Kind.{place_of, total_of}
 use Rattle.board_core.specs.Board.{count_of}
 use Rattle.board_core.proofs.build.first_too_many.Given as goal
 

@@ -1,6 +1,6 @@
 use Rattle.std.proofs.Common.{◌≡◌, sym, subst, ◌∙◌}
-use Rattle.board_core.specs.declared.piece.Side.TheVariants.{Black, White}
-use Rattle.board_core.specs.Kind.{total_of}
+use Rattle.bit_boards.specs.declared.piece.Side.TheVariants.{Black, White}
+use Rattle.bit_boards.specs.Kind.{total_of}
 use Rattle.board_core.specs.Board.{Board, count_of}
 use Rattle.board_core.specs.Kept.{IsKept}
 use Rattle.board_core.proofs.RestKept.{rest_total, rest_kept, rest_parts}

@@ -1,6 +1,6 @@
 use Rattle.sfen_text.specs.Spelling.{hand_text}
 use Rattle.sfen_text.proofs.Writing.{dash_for_none, no_dash_for_some}
-use Rattle.board_core.specs.declared.piece.Side.TheVariants.{Black, White}
+use Rattle.bit_boards.specs.declared.piece.Side.TheVariants.{Black, White}
 use Rattle.std.proofs.Common.{◌++◌, ◌∙◌, arith}
 use Rattle.sfen_text.proofs.write.put_hands.Goals as goal
 

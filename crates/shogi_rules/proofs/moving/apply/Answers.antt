@@ -1,5 +1,5 @@
 use Rattle.std.proofs.Common.{◌≡◌, ◌∙◌, sym, subst}
-use Rattle.board_core.specs.declared.square.Square.{Square}
+use Rattle.bit_boards.specs.declared.square.Square.{Square}
 use Rattle.board_core.specs.declared.moves.Move.TheVariants.{Drop}
 use Rattle.shogi_rules.specs.Rules.{IsDropped}
 use Rattle.shogi_rules.specs.declared.illegal.Illegal.TheVariants.{NotThere, OwnPiece, NoStep, Blocked, BadPromotion, Occupied, NotInHand, DeadDrop, TwoPawns, KingLeft}

@@ -1,6 +1,6 @@
 use Rattle.std.proofs.Common.{◌≡◌, None, refl}
 use Rattle.board_core.specs.Board.{piece_at, kings_of}
-use Rattle.board_core.specs.Board.{plain_piece}
+use Rattle.bit_boards.specs.Piece.{plain_piece}
 use Rattle.shogi_rules.proofs.Moves.{empty_there, kings_dropped}
 use Rattle.shogi_rules.proofs.moving.drop_piece.Goals as goal
 

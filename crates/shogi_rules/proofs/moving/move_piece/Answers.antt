@@ -1,6 +1,6 @@
 use Rattle.std.proofs.Common.{◌≡◌, ◌+◌, ◌∙◌, Some, IsTrue, sym, refl}
 use Rattle.board_core.specs.Board.{piece_at, is_of_kind, is_king_of, count_of, kings_of, one_if}
-use Rattle.shogi_rules.specs.Rules.{fits}
+use Rattle.bit_boards.specs.Movement.{fits}
 use Rattle.shogi_rules.proofs.Moves.{king_gone, pawn_alone, goes_elsewhere, no_king_taken, taken_left, moved_is, conserves, no_king_there, kings_stay}
 use Rattle.shogi_rules.proofs.moving.move_piece.Goals as goal
 

@@ -1,5 +1,5 @@
 use Rattle.std.proofs.Common.{◌+◌, ◌*◌}
-use Rattle.board_core.specs.Kind.{place_of}
+use Rattle.bit_boards.specs.Kind.{place_of}
 use Rattle.board_core.specs.Order.{Lists}
 use Rattle.shogi_rules.specs.Trial.{IsWantedBefore}
 use Rattle.shogi_rules.proofs.trial.add_drops.Given as goal

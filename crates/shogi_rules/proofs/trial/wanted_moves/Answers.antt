@@ -1,7 +1,7 @@
 use Rattle.std.proofs.Common.{◌≡◌, ◌<◌, ◌+◌, ◌*◌, ℕ, zero, suc, [], ◌∷◌, slice_index_or, arith, ap, sym, refl, ◌∙◌}
-use Rattle.board_core.specs.declared.piece.Kind.{Kind}
-use Rattle.board_core.specs.declared.piece.Kind.TheVariants.{Pawn, Lance, Knight, Silver, Gold, Bishop, Rook, King}
-use Rattle.board_core.specs.Kind.{place_of}
+use Rattle.bit_boards.specs.declared.piece.Kind.{Kind}
+use Rattle.bit_boards.specs.declared.piece.Kind.TheVariants.{Pawn, Lance, Knight, Silver, Gold, Bishop, Rook, King}
+use Rattle.bit_boards.specs.Kind.{place_of}
 use Rattle.shogi_rules.proofs.Listing.{lists_whole, at_order}
 use Rattle.shogi_rules.proofs.trial.wanted_moves.Goals as goal
 

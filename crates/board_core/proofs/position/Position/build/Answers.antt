@@ -1,7 +1,7 @@
 use Rattle.std.proofs.Common.{◌≤◌, ℕ, List, Option, arith, rules}
-use Rattle.board_core.specs.declared.piece.Piece.{Piece}
-use Rattle.board_core.specs.declared.piece.Side.{Side}
-use Rattle.board_core.specs.declared.piece.Side.TheVariants.{Black, White}
+use Rattle.bit_boards.specs.declared.piece.Piece.{Piece}
+use Rattle.bit_boards.specs.declared.piece.Side.{Side}
+use Rattle.bit_boards.specs.declared.piece.Side.TheVariants.{Black, White}
 use Rattle.board_core.specs.Board.{Board, kings_of}
 use Rattle.board_core.proofs.EachKind.{each_side}
 use Rattle.board_core.proofs.Faults.{clear_totals, clear_defender, clear_to_kings, clear_dead, clear_pawns, clear_all, some_defender}

@@ -1,6 +1,6 @@
 use Rattle.std.proofs.Common.{◌≡◌, ◌+◌, ◌<◌, sym, subst}
-use Rattle.board_core.specs.declared.piece.Side.TheVariants.{Black, White}
-use Rattle.board_core.specs.Kind.{same_kind}
+use Rattle.bit_boards.specs.declared.piece.Side.TheVariants.{Black, White}
+use Rattle.bit_boards.specs.Kind.{same_kind}
 use Rattle.board_core.specs.Board.{Board, hand_count, hand_of, with_hand, with_less, count_of, one_if}
 use Rattle.board_core.proofs.Hands.{count_of-less, held_less, no_king_held}
 use Rattle.board_core.proofs.position.Position.spend.Goals as goal

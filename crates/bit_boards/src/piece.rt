@@ -1,8 +1,8 @@
 // Sides, kinds and pieces.
 ghost use Rattle.std.specs.Prelude.{◌≡◌, ◌≢◌, ◌≤◌, IfSome, IfNone, true};
-ghost use Rattle.board_core.specs.Kind.{can_promote, other, place_of, total_of, rows_needed};
-ghost use Rattle.board_core.specs.Text.{kind_letter, kind_of_letter};
-ghost use Rattle.board_core.specs.declared.piece.Kind.{Kind};
+ghost use Rattle.bit_boards.specs.Kind.{can_promote, other, place_of, total_of, rows_needed};
+ghost use Rattle.bit_boards.specs.Text.{kind_letter, kind_of_letter};
+ghost use Rattle.bit_boards.specs.declared.piece.Kind.{Kind};
 
 /// The two sides. Black (sente) moves towards row a, White (gote) towards row i.
 #[derive(Clone, Copy, PartialEq, Eq, PartialOrd, Ord, Hash, Debug)]

@@ -1,8 +1,8 @@
-use Rattle.std.specs.Prelude.{◌≡◌, ◌≢◌, ◌<◌, ◌==◌, ℕ, Bool, true, false}
-use Rattle.board_core.specs.declared.piece.Kind.{Kind}
-use Rattle.board_core.specs.declared.piece.Kind.TheVariants.{Pawn, Lance, Knight, Silver, Gold, Bishop, Rook, King}
-use Rattle.board_core.specs.declared.piece.Side.{Side}
-use Rattle.board_core.specs.declared.piece.Side.TheVariants.{Black, White}
+use Rattle.std.specs.Prelude.{◌==◌, ℕ, Bool, true, false}
+use Rattle.bit_boards.specs.declared.piece.Kind.{Kind}
+use Rattle.bit_boards.specs.declared.piece.Kind.TheVariants.{Pawn, Lance, Knight, Silver, Gold, Bishop, Rook, King}
+use Rattle.bit_boards.specs.declared.piece.Side.{Side}
+use Rattle.bit_boards.specs.declared.piece.Side.TheVariants.{Black, White}
 
 -- The other side.
 abbrev pub other : Side → Side
@@ -63,11 +63,3 @@ rows_needed Gold = 0
 rows_needed Bishop = 0
 rows_needed Rook = 0
 rows_needed King = 0
-
--- A law: no two kinds have one place.
-abbrev pub PlacesApart : Type 0
-PlacesApart = (k l : Kind) → place_of k ≡ place_of l → k ≡ l
-
--- A law: the kinds that can stand in a hand have the first seven places.
-abbrev pub PlacesInHand : Type 0
-PlacesInHand = (k : Kind) → k ≢ King → place_of k < 7

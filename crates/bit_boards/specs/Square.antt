@@ -1,7 +1,6 @@
-use Rattle.std.specs.Prelude.{◌≡◌, ◌+◌, ◌-◌, ◌*◌, ◌/◌, ◌%◌, ℕ}
-use Rattle.board_core.specs.declared.square.Square.{Square}
-use Rattle.board_core.specs.declared.piece.Side.{Side}
-use Rattle.board_core.specs.declared.piece.Side.TheVariants.{Black, White}
+use Rattle.std.specs.Prelude.{◌+◌, ◌-◌, ◌*◌, ◌/◌, ◌%◌, ℕ}
+use Rattle.bit_boards.specs.declared.piece.Side.{Side}
+use Rattle.bit_boards.specs.declared.piece.Side.TheVariants.{Black, White}
 
 -- The file of a square: 1 to 9, from right to left as Black sees the board.
 abbrev pub file_of : ℕ → ℕ
@@ -20,7 +19,3 @@ square_on file row = 9 * (file - 1) + (row - 1)
 abbrev pub height : Side → ℕ → ℕ
 height Black square = 8 - square % 9
 height White square = square % 9
-
--- A law: no two squares have one number.
-abbrev pub SquaresApart : Type 0
-SquaresApart = (a b : Square) → a.number ≡ b.number → a ≡ b

@@ -13,7 +13,7 @@ pub struct Square {
 }
 
 impl Square {
-    ghost use Rattle.board_core.specs.Square.{file_of, row_of, square_on, height};
+    ghost use Rattle.bit_boards.specs.Square.{file_of, row_of, square_on, height};
 
     /// The square on a file and a row, each from 1 to 9.
     pub fn on(file: u8, row: u8) -> Square
