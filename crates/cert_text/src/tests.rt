@@ -1,4 +1,5 @@
 use crate::{CertEnd, append_cert, read_cert, write_cert};
+use std::alloc::{AllocError, Global};
 use std::process::Abort;
 use std::test::Fail;
 
@@ -63,51 +64,41 @@ fn a_text_is_written_behind_the_line_in_front(rt: HostRuntime) {
     assert!(rt; again.count() == 1);
 }
 
-fn refused(rt: &impl Abort, found: &str, wanted: &str, text: &str) {
-    assert!(rt; found == wanted, "{text}");
+// A text that is no certificate's, and its first fault.
+fn refused(alloc: Global, rt: &impl Abort, text: &str, wanted: &str) -> Result<(), AllocError> {
+    let end = read_cert(alloc, text.as_bytes()).err();
+    match end.expect(rt, "a fault") {
+        CertEnd::Fault(fault) => {
+            let found = format!(in alloc; "{fault}")?;
+            assert!(rt; found.as_str() == wanted, "{text}");
+        }
+        CertEnd::NoMemory => panic!(rt; "no memory: {text}"),
+    }
+    Ok(())
 }
 
-// Texts that are no certificate's, and the first fault of each.
 #[test]
-fn the_first_fault_is_named(rt: HostRuntime) -> Result<(), Fail> {
-    let table = [
-        ("", "bad head"),
-        (
-            "checkmate\ncertificate 1 mate 1\nproblem 8k/6P2/8S/9/9/9/9/9/9 b B2GPp\n1 G*1b 8k/6P2/8S/9/9/9/9/9/9 b B2GPp\nend\n",
-            "bad head",
-        ),
-        (
-            "checkmate nomate\ncertificate 1 mate 1\nproblem 8k/6P2/8S/9/9/9/9/9/9 b B2GPp\n1 G*1b 8k/6P2/8S/9/9/9/9/9/9 b B2GPp\nend\n",
-            "bad head",
-        ),
-        (
-            "checkmate 1a1a\ncertificate 1 mate 1\nproblem 8k/6P2/8S/9/9/9/9/9/9 b B2GPp\n",
-            "bad head",
-        ),
-        (
-            "certificate 1 mate 01\nproblem 8k/6P2/8S/9/9/9/9/9/9 b B2GPp\nend\n",
-            "bad head",
-        ),
-        (
-            "certificate 1 mate 0\nproblem 8k/6P2/8S/9/9/9/9/9/9 b B2GPp\nend\n",
-            "bad head",
-        ),
-        (
-            "certificate 1 mate 1400001\nproblem 8k/6P2/8S/9/9/9/9/9/9 b B2GPp\nend\n",
-            "bad head",
-        ),
-        (
-            "certificate 1 mate 1\nproblem 8k/6P2/8S/9/9/9/9/9/9 b B2GPp",
-            "bad head",
-        ),
-        (
-            "certificate 1 mate 1\nproblem 8k/6P2/8S/9/9/9/9/9/9 b B2GPp 1\nend\n",
-            "bad head",
-        ),
-        (
-            "certificate 1 mate 1\r\nproblem 8k/6P2/8S/9/9/9/9/9/9 b B2GPp\nend\n",
-            "bad head",
-        ),
+fn a_bad_head_is_named(rt: HostRuntime) -> Result<(), Fail> {
+    for text in [
+        "",
+        "checkmate\ncertificate 1 mate 1\nproblem 8k/6P2/8S/9/9/9/9/9/9 b B2GPp\n1 G*1b 8k/6P2/8S/9/9/9/9/9/9 b B2GPp\nend\n",
+        "checkmate nomate\ncertificate 1 mate 1\nproblem 8k/6P2/8S/9/9/9/9/9/9 b B2GPp\n1 G*1b 8k/6P2/8S/9/9/9/9/9/9 b B2GPp\nend\n",
+        "checkmate 1a1a\ncertificate 1 mate 1\nproblem 8k/6P2/8S/9/9/9/9/9/9 b B2GPp\n",
+        "certificate 1 mate 01\nproblem 8k/6P2/8S/9/9/9/9/9/9 b B2GPp\nend\n",
+        "certificate 1 mate 0\nproblem 8k/6P2/8S/9/9/9/9/9/9 b B2GPp\nend\n",
+        "certificate 1 mate 1400001\nproblem 8k/6P2/8S/9/9/9/9/9/9 b B2GPp\nend\n",
+        "certificate 1 mate 1\nproblem 8k/6P2/8S/9/9/9/9/9/9 b B2GPp",
+        "certificate 1 mate 1\nproblem 8k/6P2/8S/9/9/9/9/9/9 b B2GPp 1\nend\n",
+        "certificate 1 mate 1\r\nproblem 8k/6P2/8S/9/9/9/9/9/9 b B2GPp\nend\n",
+    ] {
+        refused(rt.alloc(), &rt, text, "bad head")?;
+    }
+    Ok(())
+}
+
+#[test]
+fn the_first_line_that_is_bad_or_does_not_rise_is_named(rt: HostRuntime) -> Result<(), Fail> {
+    for (text, wanted) in [
         (
             "certificate 1 mate 1\nproblem 8k/6P2/8S/9/9/9/9/9/9 b B2GPp\n1 G*1b 8k/6P2/8S/9/9/9/9/9/9 b B2GPp\nen7\n",
             "bad line 2",
@@ -132,6 +123,15 @@ fn the_first_fault_is_named(rt: HostRuntime) -> Result<(), Fail> {
             "certificate 1 escape 2\nproblem 4k4/9/4P4/9/9/9/9/9/9 b P\n9/4k4/9/9/9/9/9/9/9 b Pp\n4k4/9/4P4/9/9/9/9/9/9 b P\nend\n",
             "not rising 2",
         ),
+    ] {
+        refused(rt.alloc(), &rt, text, wanted)?;
+    }
+    Ok(())
+}
+
+#[test]
+fn a_wrong_count_and_a_missing_end_are_named(rt: HostRuntime) -> Result<(), Fail> {
+    for (text, wanted) in [
         (
             "certificate 1 mate 3\nproblem 8k/6P2/8S/9/9/9/9/9/9 b B2GPp\n1 G*1b 8k/6P2/8S/9/9/9/9/9/9 b B2GPp\nend\n",
             "wrong count",
@@ -152,18 +152,8 @@ fn the_first_fault_is_named(rt: HostRuntime) -> Result<(), Fail> {
             "certificate 1 mate 3\nproblem k8/2S6/9/9/9/9/9/9/9 b 2RBNPp\nend\n1 R*9c k8/1pS6/2B6/9/9/9/9/9/9 b 2RNP\n",
             "no end",
         ),
-    ];
-    for (text, wanted) in table {
-        match read_cert(rt.alloc(), text.as_bytes())
-            .err()
-            .expect(&rt, "a fault")
-        {
-            CertEnd::Fault(fault) => {
-                let found = format!(in rt.alloc(); "{fault}")?;
-                refused(&rt, found.as_str(), wanted, text);
-            }
-            CertEnd::NoMemory => refused(&rt, "no memory", wanted, text),
-        }
+    ] {
+        refused(rt.alloc(), &rt, text, wanted)?;
     }
     Ok(())
 }
