@@ -1,12 +1,10 @@
-use Rattle.std.specs.Prelude.{◌≡◌, ◌≢◌, ◌<◌, ◌+◌, ◌-◌, ◌&&◌, ℕ, List, Option, Some, None, Bool, true, false, not, slice_get, slice_set, slice_index, count_by, nat_lt}
-use Rattle.std.proofs.lemmas.Bool.{false≢true}
+use Rattle.std.specs.Prelude.{◌≡◌, ◌≢◌, ◌<◌, ◌+◌, ◌-◌, ◌&&◌, ℕ, List, Option, Some, None, Bool, true, false, not, slice_get, slice_set, slice_index, count_by}
 use Rattle.bit_boards.specs.declared.piece.Kind.{Kind}
 use Rattle.bit_boards.specs.declared.piece.Kind.TheVariants.{Pawn, King}
 use Rattle.bit_boards.specs.declared.piece.Side.{Side}
 use Rattle.bit_boards.specs.declared.piece.Side.TheVariants.{Black, White}
 use Rattle.bit_boards.specs.declared.piece.Piece.{Piece}
-use Rattle.bit_boards.specs.Kind.{other, same_side, same_kind, place_of, rows_needed}
-use Rattle.bit_boards.specs.Square.{height}
+use Rattle.bit_boards.specs.Kind.{other, same_side, same_kind, place_of}
 
 -- What contracts see of a position: 81 cells by the number of the square, the two hands by the order of the kinds, and the side to move.
 pub record Board : Type 0 where

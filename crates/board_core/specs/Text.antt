@@ -1,7 +1,6 @@
 -- What has a text in the USI protocol.
-use Rattle.std.specs.Prelude.{◌≡◌, ◌≢◌, ◌==◌, ℕ, Option, Some, None, if◌then◌else◌}
-use Rattle.bit_boards.specs.declared.piece.Kind.{Kind}
-use Rattle.bit_boards.specs.declared.piece.Kind.TheVariants.{Pawn, Lance, Knight, Silver, Gold, Bishop, Rook, King}
+use Rattle.std.specs.Prelude.{◌≢◌}
+use Rattle.bit_boards.specs.declared.piece.Kind.TheVariants.{King}
 use Rattle.board_core.specs.declared.moves.Move.{Move}
 use Rattle.board_core.specs.declared.moves.Move.TheVariants as moves
 

@@ -1,9 +1,9 @@
 -- The rules of shogi, in the order in which one learns them: how the pieces move, what a move on the board and a drop do,
 -- promotion, check, why a move may not be made, and the mate by a dropped pawn.
-use Rattle.std.specs.Prelude.{◌≡◌, ◌≢◌, ◌<◌, ◌+◌, ◌-◌, ◌/◌, ◌%◌, ◌&&◌, ◌||◌, ◌==◌, ◌⊎◌, ℕ, List, Option, Some, None, Bool, true, false, not, Result, Ok, Err, nat_le, nat_lt, IsTrue, IsSome, IsSomeAnd, refl}
+use Rattle.std.specs.Prelude.{◌≡◌, ◌≢◌, ◌<◌, ◌+◌, ◌/◌, ◌&&◌, ◌||◌, ℕ, List, Option, Some, None, Bool, true, false, not, Result, Ok, Err, nat_le, IsTrue, IsSome, IsSomeAnd, refl}
 use Rattle.std.specs.Option.{option_map}
 use Rattle.bit_boards.specs.declared.piece.Kind.{Kind}
-use Rattle.bit_boards.specs.declared.piece.Kind.TheVariants.{Pawn, Lance, Knight, Silver, Gold, Bishop, Rook, King}
+use Rattle.bit_boards.specs.declared.piece.Kind.TheVariants.{Pawn}
 use Rattle.bit_boards.specs.declared.piece.Side.{Side}
 use Rattle.bit_boards.specs.declared.piece.Piece.{Piece}
 use Rattle.board_core.specs.declared.moves.Move.{Move}
