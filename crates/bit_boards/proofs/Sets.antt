@@ -1,11 +1,10 @@
 -- How many squares a set has, and sets by what they hold.
-use Rattle.std.proofs.Common.{◌≡◌, ℕ, ◌+◌, ◌<◌, ◌≤◌, ◌==◌, ◌^◌, ◌&&◌, not, sym, ap, ◌∙◌}
+use Rattle.std.proofs.Common.{Bool, ◌≡◌, ℕ, ◌+◌, ◌<◌, ◌≤◌, ◌==◌, ◌^◌, ◌&&◌, not, sym, ap, ◌∙◌}
 use Rattle.std.specs.Prelude.{count_ones}
 use mathlib.Core.HLevel.{is_prop→PathP}
 use Rattle.std.proofs.Math.Bridge.{le_prop}
 use Rattle.std.proofs.lemmas.Bool.{lt-ltb}
 use Rattle.bit_boards.specs.declared.mask.Mask.{Mask}
-use Rattle.bit_boards.specs.declared.square.Square.{Square}
 use Rattle.bit_boards.specs.Mask.{holds, Holds, count}
 use Rattle.bit_boards.proofs.Bits.{set, same_sets, set_within}
 use Rattle.bit_boards.proofs.Masked.{bits_where, bits_where-at, bits_where-lt, ones_where, count_small, count_falls}
@@ -38,5 +37,11 @@ pub apart : (a b : Mask) → ((square : ℕ) → square < 81 → holds a square 
 unfolding holds
 apart a b h = same_mask a b (same_sets a.bits b.bits a.on_board b.on_board h)
 
-pub square_exact : (a b : Square) → a.number ≡ b.number → a ≡ b
-square_exact a b h = λ i. record { number = h i; on_board = is_prop→PathP (λ j. h j < 81) (λ j. le_prop) a.on_board b.on_board i }
+-- the set of the squares that pass a test
+pub mask_where : (ℕ → Bool) → Mask
+mask_where test = record { bits = bits_where test; on_board = bits_where-lt test }
+
+-- a set whose squares are those that pass a test
+pub mask_back : (mask : Mask) (test : ℕ → Bool) → ((s : ℕ) → holds mask s ≡ test s) → mask_where test ≡ mask
+unfolding holds mask_where
+mask_back mask test h = apart (mask_where test) mask (λ s within. bits_where-at test s ∙ (ap (λ b. b && test s) (lt-ltb s 81 within) ∙ sym (h s)))

@@ -1,6 +1,6 @@
 -- The tables of steps are what the movement of the pieces says, and steps read backwards are those of the other side's piece.
-use Rattle.std.proofs.Common.{◌≡◌, ℕ, ◌+◌, ◌-◌, ◌*◌, ◌<◌, ◌%◌, ◌/◌, ◌||◌, Bool, true, false, not, [], get_or, refl, sym, ap, ◌∙◌, arith}
-use Rattle.std.proofs.lemmas.Bool.{agree_below_at}
+use Rattle.std.proofs.Common.{◌≡◌, ℕ, ◌+◌, ◌-◌, ◌*◌, ◌<◌, ◌%◌, ◌/◌, ◌||◌, ◌&&◌, Bool, true, false, not, [], get_or, refl, sym, ap, ◌∙◌, arith}
+use Rattle.std.proofs.lemmas.Bool.{agree_below_at, and_parts}
 use Rattle.bit_boards.specs.declared.piece.Kind.{Kind}
 use Rattle.bit_boards.specs.declared.piece.Kind.TheVariants.{Pawn, Lance, Knight, Silver, Gold, Bishop, Rook, King}
 use Rattle.bit_boards.specs.declared.piece.Side.{Side}
@@ -9,7 +9,7 @@ use Rattle.bit_boards.specs.declared.piece.Piece.{Piece}
 use Rattle.bit_boards.specs.declared.tables.TheConstants.{STEPS}
 use Rattle.bit_boards.specs.Gait.{gait_of, row_of_gait, row_of_side}
 use Rattle.bit_boards.specs.Kind.{other}
-use Rattle.bit_boards.specs.Movement.{steps, slides, fits, distance, on_line, in_reach, share_line, are_near}
+use Rattle.bit_boards.specs.Movement.{steps, slides, goes_by_step, goes_by_slide, distance, on_line, in_reach, share_line, are_near}
 use Rattle.bit_boards.specs.Square.{height}
 use Rattle.bit_boards.proofs.Masked.{bits_where, for_each_square, each_at}
 
@@ -106,7 +106,7 @@ kept_near k p n =
     let aside = n / 81 in
     let low = n / 9 % 9 in
     let high = n % 9 in
-    not (steps k p aside low high || slides k p aside low high) || (on_line aside (distance low high) || in_reach aside (distance low high))
+    (not (steps k p aside low high) || in_reach aside (distance low high)) && (not (slides k p aside low high) || on_line aside (distance low high))
 
 near_at : (k : Kind) (p : Bool) (n : ℕ) → n < 729 → kept_near k p n ≡ true
 near_at Pawn false n h = agree_below_at (kept_near Pawn false) (λ _. true) 729 n refl h
@@ -131,14 +131,14 @@ implied true b h a = h
 implied false b h a = absurd (cc)
 
 near_by : (k : Kind) (p : Bool) (n aside low high : ℕ) → n / 81 ≡ aside → n / 9 % 9 ≡ low → n % 9 ≡ high → kept_near k p n ≡ true
-    → (not (steps k p aside low high || slides k p aside low high) || (on_line aside (distance low high) || in_reach aside (distance low high))) ≡ true
+    → ((not (steps k p aside low high) || in_reach aside (distance low high)) && (not (slides k p aside low high) || on_line aside (distance low high))) ≡ true
 near_by k p n aside low high x y z e = rw (x, y, z) at e
 
 near_of : (k : Kind) (p : Bool) (aside low high : ℕ) → aside < 9 → low < 9 → high < 9
-    → (steps k p aside low high || slides k p aside low high) ≡ true → (on_line aside (distance low high) || in_reach aside (distance low high)) ≡ true
+    → ((not (steps k p aside low high) || in_reach aside (distance low high)) ≡ true) × ((not (slides k p aside low high) || on_line aside (distance low high)) ≡ true)
 near_of k p aside low high h i j =
     let n : ℕ = 81 * aside + 9 * low + high in
-    implied _ _ (near_by k p n aside low high (omega arith) (omega arith) (omega arith) (near_at k p n (omega arith)))
+    and_parts _ _ (near_by k p n aside low high (omega arith) (omega arith) (omega arith) (near_at k p n (omega arith)))
 
 height_small : (s : Side) (n : ℕ) → height s n < 9
 height_small Black n = omega arith
@@ -148,9 +148,16 @@ heights_apart : (s : Side) (a b : ℕ) → distance (height s a) (height s b) �
 heights_apart Black a b = omega arith
 heights_apart White a b = omega arith
 
-pub fits_within : (piece : Piece) (from to : ℕ) → from < 81 → to < 81 → fits piece from to ≡ true → (share_line from to || are_near from to) ≡ true
-fits_within piece from to h i fit =
+pub steps_near : (piece : Piece) (from to : ℕ) → from < 81 → to < 81 → goes_by_step piece from to ≡ true → are_near from to ≡ true
+steps_near piece from to h i goes =
     let aside : ℕ = distance (from / 9) (to / 9) in
-    ap (λ along. on_line aside along || in_reach aside along) (sym (heights_apart piece.side from to))
-    ∙ near_of piece.kind piece.promoted aside (height piece.side from) (height piece.side to)
-    (omega arith) (height_small piece.side from) (height_small piece.side to) fit
+    ap (λ along. in_reach aside along) (sym (heights_apart piece.side from to))
+    ∙ implied _ _ (near_of piece.kind piece.promoted aside (height piece.side from) (height piece.side to)
+    (omega arith) (height_small piece.side from) (height_small piece.side to)).0 goes
+
+pub slides_lined : (piece : Piece) (from to : ℕ) → from < 81 → to < 81 → goes_by_slide piece from to ≡ true → share_line from to ≡ true
+slides_lined piece from to h i goes =
+    let aside : ℕ = distance (from / 9) (to / 9) in
+    ap (λ along. on_line aside along) (sym (heights_apart piece.side from to))
+    ∙ implied _ _ (near_of piece.kind piece.promoted aside (height piece.side from) (height piece.side to)
+    (omega arith) (height_small piece.side from) (height_small piece.side to)).1 goes

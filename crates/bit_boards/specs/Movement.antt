@@ -83,7 +83,7 @@ pub record IsOnDiagonal (a m b : ℕ) : Type 0 where
   pub files : IsInside (a / 9) (m / 9) (b / 9)
   pub rows : IsInside (a % 9) (m % 9) (b % 9)
 
--- The square m lies strictly between a and b, on one file, row or diagonal. Nothing lies between a knight and its square.
+-- The square m lies strictly between a and b, on one file, row or diagonal. Nothing lies between a knight and a square that it jumps to.
 abbrev pub IsBetween : ℕ → ℕ → ℕ → Type 0
 IsBetween a m b = IsOnFile a m b ⊎ IsOnRow a m b ⊎ IsOnDiagonal a m b
 
@@ -103,7 +103,10 @@ share_line a b = on_line (distance (a / 9) (b / 9)) (distance (a % 9) (b % 9))
 abbrev pub are_near : ℕ → ℕ → Bool
 are_near a b = in_reach (distance (a / 9) (b / 9)) (distance (a % 9) (b % 9))
 
--- A law: where a piece goes from one square of the board to another on an empty board, these share a line or are near.
-abbrev pub FitsWithin : Type 0
-FitsWithin = (piece : Piece) (from to : ℕ) → from < 81 → to < 81 → IsTrue (fits piece from to)
-    → IsTrue (share_line from to || are_near from to)
+-- A law: where a piece steps or jumps from one square of the board to another, these are near.
+abbrev pub StepsAreNear : Type 0
+StepsAreNear = (piece : Piece) (from to : ℕ) → from < 81 → to < 81 → IsTrue (goes_by_step piece from to) → IsTrue (are_near from to)
+
+-- A law: where it slides there over an empty board, they share a line.
+abbrev pub SlidesShareLine : Type 0
+SlidesShareLine = (piece : Piece) (from to : ℕ) → from < 81 → to < 81 → IsTrue (goes_by_slide piece from to) → IsTrue (share_line from to)

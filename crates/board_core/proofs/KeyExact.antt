@@ -36,7 +36,7 @@ no_king : {P : Type 0} → Promotes true King → P
 no_king h = let e = h refl in absurd (cc)
 
 -- what holds of each code that a piece can have
-of_each : (P : Bool → Kind → Type 0) → P false Pawn → P false Lance → P false Knight → P false Silver → P false Gold → P false Bishop
+pub of_each : (P : Bool → Kind → Type 0) → P false Pawn → P false Lance → P false Knight → P false Silver → P false Gold → P false Bishop
     → P false Rook → P false King → P true Pawn → P true Lance → P true Knight → P true Silver → P true Bishop → P true Rook
     → (t : Bool) (k : Kind) → Promotes t k → P t k
 of_each P a b c d e f g h i j k l m n false Pawn promotes = a
@@ -78,7 +78,7 @@ side_in Black White a b p q l m e = absurd (omega arith)
 side_in White Black a b p q l m e = absurd (omega arith)
 side_in White White a b p q l m e = (omega arith, refl)
 
-piece_exact : (a b : Piece) → a.kind ≡ b.kind → a.promoted ≡ b.promoted → a.side ≡ b.side → a ≡ b
+pub piece_exact : (a b : Piece) → a.kind ≡ b.kind → a.promoted ≡ b.promoted → a.side ≡ b.side → a ≡ b
 piece_exact a b of_kind turned owner = λ i. record {
   kind = of_kind i;
   promoted = turned i;
@@ -97,7 +97,7 @@ piece_code_exact a b e =
     both.1
 
 -- no two cells have one code
-cell_exact : (x y : Option Piece) → code_of x ≡ code_of y → x ≡ y
+pub cell_exact : (x y : Option Piece) → code_of x ≡ code_of y → x ≡ y
 cell_exact None None e = refl
 cell_exact None (Some b) e = absurd (omega (arith, some_code b.promoted b.kind b.promotes))
 cell_exact (Some a) None e = absurd (omega (arith, some_code a.promoted a.kind a.promotes))
@@ -139,7 +139,7 @@ cells_exact xs ys long as_long e0 e1 e2 e3 e4 e5 e6 =
 abbrev pub Modest : List ℕ → Type 0
 Modest hand = (k : Kind) → k ≢ King → hand_count hand k ≤ total_of k
 
-seven : (hand : List ℕ) → length hand ≡ 7
+pub seven : (hand : List ℕ) → length hand ≡ 7
     → hand ≡ get_or hand 0 0 ∷ get_or hand 1 0 ∷ get_or hand 2 0 ∷ get_or hand 3 0 ∷ get_or hand 4 0 ∷ get_or hand 5 0 ∷ get_or hand 6 0 ∷ []
 seven [] h = absurd (omega arith)
 seven (a ∷ []) h = absurd (omega arith)
@@ -172,7 +172,7 @@ hand_exact g h long as_long few less e =
     let b1 = b.1 in
     cc
 
-hand_small : (h : List ℕ) → Modest h → hand_code h < 2097152
+pub hand_small : (h : List ℕ) → Modest h → hand_code h < 2097152
 unfolding hand_code
 hand_small h few = omega (
   arith,
@@ -185,10 +185,10 @@ hand_small h few = omega (
   few Rook (λ q. absurd (cc)),
 )
 
-modest_black : (b : Board) → IsKept b → Modest b.black
+pub modest_black : (b : Board) → IsKept b → Modest b.black
 modest_black b kept k not = omega (arith, kept.totals k not)
 
-modest_white : (b : Board) → IsKept b → Modest b.white
+pub modest_white : (b : Board) → IsKept b → Modest b.white
 modest_white b kept k not = omega (arith, kept.totals k not)
 
 side_exact : (s r : Side) → side_bit s ≡ side_bit r → s ≡ r

@@ -10,4 +10,8 @@ pub mod Letters
 pub mod Same
 pub mod Packing
 pub mod KeyExact
+pub mod KeyChanges
 pub mod RestKept
+pub mod Squares
+pub mod Packed
+pub mod Changed

@@ -38,7 +38,7 @@ code_small None = omega arith
 code_small (Some piece) = omega (arith, kind_code_small piece.promoted piece.kind, side_code_small piece.side)
 
 -- five bits more
-five_more : (n : ℕ) → 2 ^ (5 * suc n) ≡ 32 * 2 ^ (5 * n)
+pub five_more : (n : ℕ) → 2 ^ (5 * suc n) ≡ 32 * 2 ^ (5 * n)
 five_more n = ap (λ (m : ℕ). 2 ^ m) five ∙ pow-add 2 5 (5 * n)
   where
     five : 5 * suc n ≡ 5 + 5 * n

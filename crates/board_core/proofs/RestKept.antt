@@ -1,6 +1,5 @@
-use Rattle.std.proofs.Common.{◌≡◌, ◌≢◌, ◌≤◌, ◌+◌, ◌-◌, ℕ, List, Option, length, arith, refl, ◌∙◌}
+use Rattle.std.proofs.Common.{◌≡◌, ◌≢◌, ◌≤◌, ◌+◌, ◌-◌, ℕ, List, length, arith, refl}
 use Rattle.std.specs.List.{count_by}
-use Rattle.bit_boards.specs.declared.piece.Piece.{Piece}
 use Rattle.bit_boards.specs.declared.piece.Kind.{Kind}
 use Rattle.bit_boards.specs.declared.piece.Kind.TheVariants.{King}
 use Rattle.bit_boards.specs.declared.piece.Side.{Side}
@@ -45,16 +44,3 @@ rest_kept b kept = record {
 }
 
 -- the parts of what is made, where the side to move is known
-pub rest_parts : (b : Board) (s : Side) (cells : List (Option Piece)) (black white : List ℕ) → cells ≡ b.cells
-    → black ≡ by_side (other s) (hand_with_rest b) b.black → white ≡ by_side (other s) b.white (hand_with_rest b) → s ≡ b.side
-    → record { cells = cells; black = black; white = white; side = s } ≡ board_with_rest b
-rest_parts b s cells black white of_cells of_black of_white e =
-    let first : record { cells = cells; black = black; white = white; side = s }
-    ≡ record { cells = b.cells; black = by_side (other s) (hand_with_rest b) b.black; white = by_side (other s) b.white (hand_with_rest b); side = s }
-    = λ i. record { cells = of_cells i; black = of_black i; white = of_white i; side = s } in
-    first ∙ (λ i. record {
-      cells = b.cells;
-      black = by_side (other (e i)) (hand_with_rest b) b.black;
-      white = by_side (other (e i)) b.white (hand_with_rest b);
-      side = e i;
-    })

@@ -55,13 +55,32 @@ unfoldable pub hand_code : List ℕ → ℕ
 hand_code hand = low_and_high 5 (hand_count hand Pawn) (low_and_high 3 (hand_count hand Lance) (low_and_high 3 (hand_count hand Knight) (low_and_high 3 (hand_count hand Silver)
     (low_and_high 3 (hand_count hand Gold) (low_and_high 2 (hand_count hand Bishop) (hand_count hand Rook))))))
 
+-- What one piece of a kind adds to the code of a hand. A king is in no hand.
+abbrev pub one_code : Kind → ℕ
+one_code Pawn = 1
+one_code Lance = 2 ^ 5
+one_code Knight = 2 ^ 8
+one_code Silver = 2 ^ 11
+one_code Gold = 2 ^ 14
+one_code Bishop = 2 ^ 17
+one_code Rook = 2 ^ 19
+one_code King = 0
+
+-- What one piece of a kind in a side's hand adds to the last word of a key, where Black's hand has the lowest 21 bits.
+abbrev pub one_in_hand : Side → Kind → ℕ
+one_in_hand Black kind = one_code kind
+one_in_hand White kind = 2 ^ 21 * one_code kind
+
 -- 1 where White is to move, else 0.
 abbrev pub side_bit : Side → ℕ
 side_bit Black = 0
 side_bit White = 1
 
--- The eight words of a board's key: seven of twelve squares each, and one of Black's hand in 21 bits, White's hand in the next 21,
--- and the side to move in the bit above them.
+-- The last word of a key: Black's hand in 21 bits, White's hand in the next 21, and the side to move in the bit above them.
+abbrev pub hands_word : Board → ℕ
+hands_word b = low_and_high 21 (hand_code b.black) (low_and_high 21 (hand_code b.white) (side_bit b.side))
+
+-- The eight words of a board's key: seven of twelve squares each, and one of the hands and the side to move.
 unfoldable pub key_of : Board → List ℕ
 key_of b = key_word b.cells 0 ∷ key_word b.cells 1 ∷ key_word b.cells 2 ∷ key_word b.cells 3 ∷ key_word b.cells 4 ∷ key_word b.cells 5
-    ∷ key_word b.cells 6 ∷ low_and_high 21 (hand_code b.black) (low_and_high 21 (hand_code b.white) (side_bit b.side)) ∷ []
+    ∷ key_word b.cells 6 ∷ hands_word b ∷ []

@@ -6,4 +6,7 @@ pub mod Build
 pub mod Order
 pub mod Text
 pub mod Key
+pub mod Code
+pub mod Sets
+pub mod Packed
 pub mod Rest

@@ -6,6 +6,9 @@
 #![tactic(auto)]
 
 mod build;
+mod changing;
+mod code;
+mod coding;
 mod hand;
 mod keys;
 mod laws;
@@ -14,6 +17,7 @@ mod moves;
 mod pack;
 mod position;
 mod scan;
+mod sets;
 #[cfg(test)]
 mod tests;
 

@@ -1,87 +1,81 @@
 // How a position is packed into its key.
-ghost use Rattle.std.specs.Prelude.{true, false, ◌≡◌, ◌<◌, ◌≤◌, ◌+◌, ◌-◌, ◌↔◌, IsTrue, take, drop};
+ghost use Rattle.std.specs.Prelude.{true, false, ◌≡◌, ◌<◌, ◌≤◌, ◌+◌, ◌-◌, ◌↔◌, ℕ, List, Option, IsTrue, length, take, drop, slice_set};
+ghost use Rattle.bit_boards.specs.declared.piece.Piece.{Piece};
 ghost use Rattle.board_core.specs.Board.{Board, piece_at};
 ghost use Rattle.board_core.specs.Kept.{IsKept};
-ghost use Rattle.board_core.specs.Key.{kind_code, side_code, code_of, side_bit, low_and_high, packed_cells, hand_code, key_of};
+ghost use Rattle.board_core.specs.Code.{cells_of};
+ghost use Rattle.board_core.specs.Key.{code_of, side_bit, packed_cells, hand_code, one_code, one_in_hand, hands_word, key_of};
 
+use crate::code::Code;
+use crate::coding::Codes;
 use crate::{Hand, Key, Kind, Piece, Position, Side};
-
-// How much more the code of the promoted side is than that of the kind.
-fn promotion(kind: Kind) -> u64
-    ensures added { kind_code true kind ≡ kind_code false kind + result }
-    ensures small { result ≤ 8 }
-{
-    match kind {
-        Kind::Gold | Kind::King => 0,
-        Kind::Bishop | Kind::Rook => 7,
-        _ => 8,
-    }
-}
-
-// The code of a kind, or of its promoted side, as Black's.
-fn kind_code(promoted: bool, kind: Kind) -> u64
-    ensures code { result ≡ kind_code promoted kind }
-    ensures small { result ≤ 16 }
-{
-    let plain = own_code(kind);
-    if promoted {
-        plain + promotion(kind)
-    } else {
-        plain
-    }
-}
-
-// The code of a kind, as Black's.
-fn own_code(kind: Kind) -> u64
-    ensures code { result ≡ kind_code false kind }
-    ensures small { result ≤ 8 }
-{
-    u64::from(kind.place()) + 1
-}
-
-// How much more than Black's code a side's code is.
-fn side_code(side: Side) -> u64
-    ensures code { result ≡ side_code side }
-    ensures small { result ≤ 14 }
-{
-    match side {
-        Side::Black => 0,
-        Side::White => 14,
-    }
-}
 
 // The code of what a square holds.
 fn code(cell: Option<Piece>) -> u64
     ensures code { result ≡ code_of cell }
     ensures small { result < 32 }
 {
-    match cell {
-        None => 0,
-        Some(piece) => kind_code(piece.promoted, piece.kind) + side_code(piece.side),
-    }
+    u64::from(Code::of(cell).number)
 }
 
 // The code of what a square holds, by its number.
-fn code_at(cells: &[Option<Piece>; 81], square: usize) -> u64
+fn code_at(codes: &Codes, square: usize) -> u64
     requires { square < 81 }
-    ensures code { result ≡ code_of (piece_at cells.now square) }
+    ensures code { result ≡ code_of (piece_at (cells_of codes.now) square) }
     ensures small { result < 32 }
 {
-    code(cells[square])
+    u64::from(codes[square].number)
 }
 
 // The squares from one on and before another in a word, at most twelve: five bits for each, the first in the lowest.
-fn word(cells: &[Option<Piece>; 81], from: usize, to: usize) -> u64
+fn word(codes: &Codes, from: usize, to: usize) -> u64
     requires from { from ≤ to }
     requires to { to ≤ 81 }
     requires twelve { to - from ≤ 12 }
-    ensures { result ≡ packed_cells (take (to - from) (drop from cells.now)) }
+    ensures { result ≡ packed_cells (take (to - from) (drop from (cells_of codes.now))) }
 {
     let mut word = 0;
     for step in 0..to - from {
-        word = code_at(cells, to - 1 - step) + (word << 5);
+        word = code_at(codes, to - 1 - step) + (word << 5);
     }
     word
+}
+
+// The word of at most twelve squares once one of them, by its place in the word, holds something else.
+pub(crate) fn changed_word(word: u64, place: u8, taken: Option<Piece>, put: Option<Piece>) -> u64
+    requires { place < 12 }
+    ensures { (cells : List (Option Piece)) → length cells ≤ 12 → place < length cells → word ≡ packed_cells cells → piece_at cells place ≡ taken → result ≡ packed_cells (slice_set cells place put) }
+{
+    let lowest = 5 * place;
+    word.wrapping_add(code(put) << lowest)
+        .wrapping_sub(code(taken) << lowest)
+}
+
+// What one of a kind in hand adds to a hand's bits: the lowest of the kind's. A king is in no hand.
+fn one_code(kind: Kind) -> u64
+    ensures code { result ≡ one_code kind }
+    ensures small { result ≤ 524288 }
+{
+    match kind {
+        Kind::Pawn => 1,
+        Kind::Lance => 1 << 5,
+        Kind::Knight => 1 << 8,
+        Kind::Silver => 1 << 11,
+        Kind::Gold => 1 << 14,
+        Kind::Bishop => 1 << 17,
+        Kind::Rook => 1 << 19,
+        Kind::King => 0,
+    }
+}
+
+// What one of a kind in a side's hand adds to the word of the hands.
+pub(crate) fn one_in_hand(side: Side, kind: Kind) -> u64
+    ensures { result ≡ one_in_hand side kind }
+{
+    match side {
+        Side::Black => one_code(kind),
+        Side::White => one_code(kind) << 21,
+    }
 }
 
 // A hand in 21 bits.
@@ -120,15 +114,15 @@ pub fn key(position: &Position) -> Key
     ensures kept { IsKept position.now }
     ensures injective { (b : Board) → IsKept b → key_of b ≡ result.0 → b ≡ position.now }
 {
-    let cells = position.cells();
+    let codes = position.codes();
     Key([
-        word(cells, 0, 12),
-        word(cells, 12, 24),
-        word(cells, 24, 36),
-        word(cells, 36, 48),
-        word(cells, 48, 60),
-        word(cells, 60, 72),
-        word(cells, 72, 81),
+        word(codes, 0, 12),
+        word(codes, 12, 24),
+        word(codes, 24, 36),
+        word(codes, 36, 48),
+        word(codes, 48, 60),
+        word(codes, 60, 72),
+        word(codes, 72, 81),
         hands_and_side(position),
     ])
 }
@@ -142,7 +136,7 @@ pub fn same_key(one: &Position, two: &Position) -> bool
 
 // The two hands and the side to move in a word.
 fn hands_and_side(position: &Position) -> u64
-    ensures { result ≡ low_and_high 21 (hand_code position.now.black) (low_and_high 21 (hand_code position.now.white) (side_bit position.now.side)) }
+    ensures { result ≡ hands_word position.now }
 {
     let white = hand_bits(position.hand(Side::White)) + (side_bit(position.side()) << 21);
     hand_bits(position.hand(Side::Black)) + (white << 21)

@@ -1,21 +1,26 @@
 // Positions: what can be asked of them, and the changes that moves are made of.
-ghost use Rattle.std.specs.Prelude.{◌≡◌, ◌≢◌, ◌<◌, ◌+◌, ℕ, None, Some, false, true, ◌↔◌, IfSome, IsNone, IsSome, IsTrue};
+ghost use Rattle.std.specs.Prelude.{◌≡◌, ◌≢◌, ◌<◌, ◌+◌, ℕ, None, Some, false, true, ◌↔◌, IfSome, IsNone, IsSome, IsTrue, is_some};
 ghost use Rattle.bit_boards.specs.Square.{file_of};
 ghost use Rattle.bit_boards.specs.Kind.{total_of, same_kind};
 ghost use Rattle.bit_boards.specs.Piece.{plain_piece, is_dead};
 ghost use Rattle.board_core.specs.Board.{piece_at, hand_count, hand_of, with_more, with_less, is_pawn_of, count_of, kings_of, with_cell, with_hand, with_turn_passed, one_if, ChangesCell, is_king_of};
 ghost use Rattle.board_core.specs.Kept.{IsKept};
+ghost use Rattle.board_core.specs.Code.{cells_of};
+ghost use Rattle.board_core.specs.Sets.{is_of_side, is_king, is_pawn, is_slider};
+ghost use Rattle.bit_boards.specs.Mask.{holds};
 ghost use Rattle.bit_boards.specs.declared.piece.Kind.{Kind};
 ghost use Rattle.bit_boards.specs.declared.piece.Kind.TheVariants.{King};
 
-use crate::scan::first_king;
+use crate::code::Code;
+use crate::coding::{Codes, at, codes_of};
+use crate::pack::same_key;
+use crate::sets::Sets;
 use crate::{Hand, Kind, Piece, Side, Square};
+use bit_boards::Mask;
 use std::marker::Model;
 use std::mem::size_of;
 
-const _: () = prove!(size_of::<Option<Piece>>() == 4);
-
-const _: () = prove!(size_of::<Position>() <= 400);
+const _: () = prove!(size_of::<Position>() <= 192);
 
 /// A position of shogi: what stands on each square, the two hands, and the side to move. A plain value of fixed size,
 /// copied as its bytes.
@@ -23,26 +28,32 @@ const _: () = prove!(size_of::<Position>() <= 400);
 /// It keeps: no kind has more pieces than a set (18 pawns, 4 each of lance, knight, silver and gold, 2 each of bishop
 /// and rook; on the board, promoted or not, of both sides, and in both hands); each side has at most one king; no piece
 /// stands where it could never move again; no side has two unpromoted pawns on a file.
-#[derive(Clone, Copy, PartialEq, Eq, Debug)]
+#[derive(Clone, Copy, Debug)]
 pub struct Position {
-    cells: [Option<Piece>; 81],
+    codes: Codes,
     black: Hand,
     white: Hand,
     side: Side,
+    sets: Sets,
 }
 
 impl Model for Position {
-    ghost use Rattle.board_core.specs.Board.{Board};
+    ghost use Rattle.board_core.specs.Board.{Board, piece_at};
 
     ghost Value = { Board };
 
     ghost use Rattle.board_core.specs.Kept.{IsKept};
+    ghost use Rattle.board_core.specs.Code.{cells_of};
+    ghost use Rattle.board_core.specs.Sets.{AreSetsOf};
+    ghost use Rattle.board_core.specs.Packed.{codes_for, sets_for, codes_back, sets_back};
 
-    ghost view = { λ p. record { cells = p.cells; black = p.black; white = p.white; side = p.side } };
+    ghost view = { λ p. record { cells = cells_of p.codes; black = p.black; white = p.white; side = p.side } };
 
-    ghost invariant = { λ p. IsKept (record { cells = p.cells; black = p.black; white = p.white; side = p.side }) };
+    ghost invariant = { λ p. IsKept (record { cells = cells_of p.codes; black = p.black; white = p.white; side = p.side }) × AreSetsOf p.sets (piece_at (cells_of p.codes)) };
 
-    ghost inverse = { λ b. record { cells = b.cells; black = b.black; white = b.white; side = b.side } };
+    ghost inverse = { λ b. record { codes = codes_for b.cells; black = b.black; white = b.white; side = b.side; sets = sets_for b.cells } };
+
+    ghost inverse_ok = { λ p known. λ i. record { codes = codes_back p.codes i; black = p.black; white = p.white; side = p.side; sets = sets_back p.sets (cells_of p.codes) known.1 i } };
 }
 
 impl Position {
@@ -57,10 +68,11 @@ impl Position {
         ensures { result ≡ record { cells = cells.now; black = black; white = white; side = side } }
     {
         Position {
-            cells: *cells,
+            codes: codes_of(cells),
             black,
             white,
             side,
+            sets: Sets::of(cells),
         }
     }
 
@@ -68,30 +80,81 @@ impl Position {
     pub fn piece_at(&self, square: Square) -> Option<Piece>
         ensures { result ≡ piece_at self.now.cells square.number }
     {
-        self.cells[square.number as usize]
+        at(&self.codes, square)
     }
 
     /// A law: what every position keeps. Does nothing; whoever speaks of a position's board calls it to know this.
     pub fn laws(&self)
         ensures { IsKept self.now }
     {
-        let _cells = &self.cells;
+        let _codes = &self.codes;
     }
 
-    /// All 81 cells, by the number of the square; and with them what every position keeps.
-    pub fn cells(&self) -> &[Option<Piece>; 81]
-        ensures cells { result.now ≡ self.now.cells }
+    /// The codes of what stands on each square.
+    pub(crate) fn codes(&self) -> &Codes
+        ensures cells { cells_of result.now ≡ self.now.cells }
         ensures kept { IsKept self.now }
     {
-        &self.cells
+        &self.codes
     }
 
-    /// Whether two positions are one: the same piece or none on each square, the same hands, the same side to move.
-    /// `==` answers the same.
+    /// The position with this hand of a side, of which it is known that it keeps what every position keeps.
+    pub(crate) fn with_hand(&self, side: Side, hand: Hand) -> Position
+        requires { IsKept (with_hand self.now side hand) }
+        ensures { result ≡ with_hand self.now side hand }
+    {
+        let mut changed = *self;
+        match side {
+            Side::Black => changed.black = hand,
+            Side::White => changed.white = hand,
+        }
+        changed
+    }
+
+    /// The squares on which the side's pieces stand.
+    pub fn occupied(&self, side: Side) -> Mask
+        ensures { (s : ℕ) → holds result s ≡ is_of_side side (piece_at self.now.cells s) }
+    {
+        match side {
+            Side::Black => self.sets.black,
+            Side::White => self.sets.white,
+        }
+    }
+
+    /// The squares that aren't empty.
+    pub fn all_occupied(&self) -> Mask
+        ensures { (s : ℕ) → holds result s ≡ is_some (piece_at self.now.cells s) }
+    {
+        self.sets.black.or(self.sets.white)
+    }
+
+    /// The squares on which kings stand, of both sides.
+    pub fn kings(&self) -> Mask
+        ensures { (s : ℕ) → holds result s ≡ is_king (piece_at self.now.cells s) }
+    {
+        self.sets.kings
+    }
+
+    /// The squares on which unpromoted pawns stand, of both sides.
+    pub fn pawns(&self) -> Mask
+        ensures { (s : ℕ) → holds result s ≡ is_pawn (piece_at self.now.cells s) }
+    {
+        self.sets.pawns
+    }
+
+    /// The squares on which pieces stand that slide, of both sides: lances that aren't promoted, bishops and rooks, promoted or not.
+    pub fn sliders(&self) -> Mask
+        ensures { (s : ℕ) → holds result s ≡ is_slider (piece_at self.now.cells s) }
+    {
+        self.sets.sliders
+    }
+
+    /// Whether two positions are one: the same piece or none on each square, the same hands, the same side to move. By their
+    /// keys; takes no memory.
     pub fn is_same(&self, with: &Position) -> bool
         ensures { IsTrue result ↔ (self.now ≡ with.now) }
     {
-        self == with
+        same_key(self, with)
     }
 
     /// The side to move.
@@ -108,7 +171,9 @@ impl Position {
         ensures none { IsNone result ↔ (kings_of self.now side ≡ 0) }
         ensures standing { (s : ℕ) → is_king_of side (piece_at self.now.cells s) ≡ true → IsSome result }
     {
-        first_king(self.cells(), side)
+        // A side has one king at most.
+        self.laws();
+        self.kings().and(self.occupied(side)).first()
     }
 
     /// A side's hand.
@@ -126,7 +191,8 @@ impl Position {
         ensures position { self.new ≡ with_cell self.old square.number None }
         ensures changes { ChangesCell self.old self.new square.number None }
     {
-        self.cells[square.number as usize] = None;
+        self.codes[square.number as usize] = Code::of(None);
+        self.sets = self.sets.with(square, None);
     }
 
     /// Puts a piece on an empty square. The piece must be able to move from there, be no second unpromoted pawn of its
@@ -140,7 +206,8 @@ impl Position {
         ensures position { self.new ≡ with_cell self.old square.number (Some piece) }
         ensures changes { ChangesCell self.old self.new square.number (Some piece) }
     {
-        self.cells[square.number as usize] = Some(piece);
+        self.codes[square.number as usize] = Code::of(Some(piece));
+        self.sets = self.sets.with(square, Some(piece));
     }
 
     /// Gives a side one more of a kind in hand, of which the set has one left over. No king goes into a hand.

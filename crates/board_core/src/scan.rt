@@ -2,6 +2,7 @@
 ghost use Rattle.std.specs.Prelude.{◌≡◌, ◌<◌, ◌≤◌, ℕ, None, IfSome, count_by, true, false};
 ghost use Rattle.bit_boards.specs.Kind.{same_kind, same_side};
 ghost use Rattle.bit_boards.specs.Piece.{is_dead};
+ghost use Rattle.board_core.specs.Sets.{is_of_side, is_king, is_pawn, is_slider};
 ghost use Rattle.board_core.specs.Board.{piece_at, is_of_kind, is_king_of, is_pawn_of};
 
 use crate::{Kind, Piece, Side, Square};
@@ -21,7 +22,8 @@ fn same_side(one: Side, two: Side) -> bool
     }
 }
 
-fn is_of_kind(kind: Kind, cell: Option<Piece>) -> bool
+/// Whether a piece of the kind, promoted or not, of either side, stands in the cell.
+pub(crate) fn is_of_kind(kind: Kind, cell: Option<Piece>) -> bool
     ensures { result ≡ is_of_kind kind cell }
 {
     match cell {
@@ -50,6 +52,50 @@ fn is_pawn_of(side: Side, cell: Option<Piece>) -> bool
     }
 }
 
+/// Whether a piece of the side stands in the cell.
+pub(crate) fn is_of_side(side: Side, cell: Option<Piece>) -> bool
+    ensures { result ≡ is_of_side side cell }
+{
+    match cell {
+        Some(piece) => same_side(piece.side, side),
+        None => false,
+    }
+}
+
+/// Whether a king stands in the cell.
+pub(crate) fn is_king(cell: Option<Piece>) -> bool
+    ensures { result ≡ is_king cell }
+{
+    match cell {
+        Some(piece) => same_kind(piece.kind, Kind::King),
+        None => false,
+    }
+}
+
+/// Whether an unpromoted pawn stands in the cell.
+pub(crate) fn is_pawn(cell: Option<Piece>) -> bool
+    ensures { result ≡ is_pawn cell }
+{
+    match cell {
+        Some(piece) => same_kind(piece.kind, Kind::Pawn) && !piece.promoted,
+        None => false,
+    }
+}
+
+/// Whether a piece that slides stands in the cell.
+pub(crate) fn is_slider(cell: Option<Piece>) -> bool
+    ensures { result ≡ is_slider cell }
+{
+    match cell {
+        Some(piece) => {
+            same_kind(piece.kind, Kind::Lance) && !piece.promoted
+                || same_kind(piece.kind, Kind::Bishop)
+                || same_kind(piece.kind, Kind::Rook)
+        }
+        None => false,
+    }
+}
+
 fn is_dead(square: Square, cell: Option<Piece>) -> bool
     ensures { result ≡ is_dead square.number cell }
 {
@@ -59,7 +105,7 @@ fn is_dead(square: Square, cell: Option<Piece>) -> bool
     }
 }
 
-fn at(cells: &[Option<Piece>; 81], square: u8) -> Option<Piece>
+pub(crate) fn at(cells: &[Option<Piece>; 81], square: u8) -> Option<Piece>
     requires { square < 81 }
     ensures { result ≡ piece_at cells.now square }
 {
@@ -79,19 +125,6 @@ pub(crate) fn count_kings(cells: &[Option<Piece>; 81], side: Side) -> usize
     ensures { result ≡ count_by (is_king_of side) cells.now }
 {
     cells.iter().filter(|cell| is_king_of(side, **cell)).count()
-}
-
-/// The first square with a king of the side.
-pub(crate) fn first_king(cells: &[Option<Piece>; 81], side: Side) -> Option<Square>
-    ensures none { result ≡ None → (s : ℕ) → s < 81 → is_king_of side (piece_at cells.now s) ≡ false }
-    ensures some { IfSome result (λ s. is_king_of side (piece_at cells.now s.number) ≡ true) }
-{
-    for number in 0..81 {
-        if is_king_of(side, at(cells, number)) {
-            return Some(Square { number });
-        }
-    }
-    None
 }
 
 /// The first square with a piece that could never move again.

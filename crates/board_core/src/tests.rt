@@ -39,6 +39,16 @@ fn cells_of(rt: &impl Abort, pieces: &str) -> [Option<Piece>; 81] {
     cells
 }
 
+// Whether the position holds these cells.
+fn stands_as(position: &Position, cells: &[Option<Piece>; 81]) -> bool {
+    for number in 0..81 {
+        if position.piece_at(Square { number }) != cells[number as usize] {
+            return false;
+        }
+    }
+    true
+}
+
 // What stands on the board, the two hands, and who moves.
 type Stand<'a> = (&'a str, [u8; 7], [u8; 7], Side);
 
@@ -126,7 +136,7 @@ fn what_may_stand_stands(rt: HostRuntime) {
         assert_eq!(rt; position.hand(Black), Hand::of(black), "{pieces}");
         assert_eq!(rt; position.hand(White), Hand::of(white), "{pieces}");
         assert_eq!(rt; position.side(), side, "{pieces}");
-        assert!(rt; position.cells() == &cells_of(&rt, pieces), "{pieces}");
+        assert!(rt; stands_as(&position, &cells_of(&rt, pieces)), "{pieces}");
     }
 }
 
@@ -138,8 +148,8 @@ fn kings_are_found_and_positions_compared(rt: HostRuntime) -> Result<(), Fail> {
     let two = Position::build(&cells, empty, Hand::of([0, 0, 0, 0, 1, 0, 0]), Black)?;
     assert_eq!(rt; one.king_square(White), Some(Square::on(5, 1)));
     assert_eq!(rt; one.king_square(Black), None);
-    assert!(rt; one == Position::build(&cells, empty, empty, Black)?);
-    assert!(rt; one != two);
+    assert!(rt; one.is_same(&Position::build(&cells, empty, empty, Black)?));
+    assert!(rt; !one.is_same(&two));
     Ok(())
 }
 
@@ -246,6 +256,6 @@ fn the_rest_is_in_the_defenders_hand(rt: HostRuntime) {
         assert_eq!(rt; after.hand(Black), Hand::of(*black), "row {row}");
         assert_eq!(rt; after.hand(White), Hand::of(*white), "row {row}");
         assert_eq!(rt; after.side(), before.side(), "row {row}");
-        assert!(rt; after.cells() == before.cells(), "row {row}");
+        assert!(rt; stands_as(&after, &cells_of(&rt, given.0)), "row {row}");
     }
 }

@@ -17,7 +17,7 @@ use usi_text::{read_move, write_move};
 
 /// One line of a mate's certificate. What it says, and what an accepted certificate bears out: at this position of the
 /// attacker the move is a check after which each evasion leads to a position of lower rank.
-#[derive(Clone, Copy, PartialEq, Eq, Debug)]
+#[derive(Clone, Copy, Debug)]
 pub struct MateEntry {
     /// The rank: an upper bound for the number of the attacker's moves up to the mate.
     pub rank: Rank,

@@ -1,6 +1,6 @@
-pub mod Geometry
 pub mod Moves
 pub mod Firsts
 pub mod Decided
 pub mod Turns
 pub mod Listing
+pub mod Candidates

@@ -1,15 +1,10 @@
 -- What the loops look for, a square at a time: it serves private functions alone.
-use Rattle.std.specs.Prelude.{◌≡◌, ◌<◌, ◌+◌, ◌*◌, ◌⊎◌, ℕ, List, Option, None, true, false}
-use Rattle.bit_boards.specs.declared.piece.Piece.{Piece}
-use Rattle.board_core.specs.Board.{Board, piece_at}
+use Rattle.std.specs.Prelude.{◌≡◌, ◌<◌, ◌⊎◌, ℕ, true, false}
+use Rattle.board_core.specs.Board.{Board}
 use Rattle.bit_boards.specs.declared.piece.Kind.{Kind}
 use Rattle.bit_boards.specs.declared.piece.Kind.TheVariants.{Pawn}
 use Rattle.shogi_rules.specs.Rules.{RefusesBoard, BoardMove, IsInCheck}
 use Rattle.shogi_rules.specs.declared.illegal.Illegal.{Illegal}
-
--- From a square on, each square some number of equal strides further is empty, up to the one before `count` strides.
-abbrev pub IsEmptyAlong : List (Option Piece) → ℕ → ℕ → ℕ → Type 0
-IsEmptyAlong cells low stride count = (j : ℕ) → j < count → 0 < j → piece_at cells (low + j * stride) ≡ None
 
 -- Nothing speaks against the move from the one square to the other, promoting or not.
 pub record GoesTo (b : Board) (from to : ℕ) : Type 0 where

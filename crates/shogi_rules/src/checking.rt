@@ -1,25 +1,38 @@
 // Attack and check.
-ghost use Rattle.std.specs.Prelude.{◌<◌, ◌↔◌, IsTrue};
+ghost use Rattle.std.specs.Prelude.{◌<◌, ◌↔◌, ℕ, IsTrue};
+ghost use Rattle.bit_boards.specs.Mask.{Holds};
 ghost use Rattle.board_core.specs.Board.{kings_of};
 ghost use Rattle.shogi_rules.specs.Rules.{AttacksFrom, Attacks, IsInCheck};
 
-use crate::movement::{Cells, at, reaches};
+use crate::movement::reaches;
+use bit_boards::{Mask, around, lines, mask_laws};
 use board_core::{Position, Side, Square};
 
-fn attacks_from(cells: &Cells, side: Side, from: Square, to: Square) -> bool
-    ensures { IsTrue result ↔ AttacksFrom cells.now side from.number to.number }
+fn attacks_from(position: &Position, side: Side, from: Square, to: Square) -> bool
+    ensures { IsTrue result ↔ AttacksFrom position.now.cells side from.number to.number }
 {
-    match at(cells, from) {
-        Some(piece) => piece.side == side && reaches(cells, piece, from, to),
+    match position.piece_at(from) {
+        Some(piece) => piece.side == side && reaches(position, piece, from, to),
         None => false,
     }
 }
 
-fn attacks(cells: &Cells, side: Side, to: Square) -> bool
-    ensures { IsTrue result ↔ Attacks cells.now side to.number }
+// The squares from which pieces of the side may reach the square: those near it, and of pieces that slide those on its lines.
+fn candidates(position: &Position, side: Side, to: Square) -> Mask
+    ensures { (from : ℕ) → from < 81 → AttacksFrom position.now.cells side from to.number → Holds result from }
 {
-    for from in 0..81 {
-        if attacks_from(cells, side, Square { number: from }, to) {
+    // A step goes to a near square, and a slide along a line.
+    mask_laws();
+    let sliding = lines(to).and(position.sliders());
+    around(to).or(sliding).and(position.occupied(side))
+}
+
+fn attacks(position: &Position, side: Side, to: Square) -> bool
+    ensures { IsTrue result ↔ Attacks position.now.cells side to.number }
+{
+    let mut left = candidates(position, side, to);
+    while let Some(from) = left.pop_first() {
+        if attacks_from(position, side, from, to) {
             return true;
         }
     }
@@ -31,7 +44,7 @@ fn attacks(cells: &Cells, side: Side, to: Square) -> bool
 pub fn attacked(position: &Position, square: Square, by: Side) -> bool
     ensures { IsTrue result ↔ Attacks position.now.cells by square.number }
 {
-    attacks(position.cells(), by, square)
+    attacks(position, by, square)
 }
 
 /// Whether the side is in check: its king is attacked by the other side. A side without a king never is. Takes no memory.
@@ -42,9 +55,8 @@ pub fn in_check(position: &Position, side: Side) -> bool
     // A side without a king is never in check.
     ensures king { IsTrue result → 0 < kings_of position.now side }
 {
-    let cells = position.cells();
     match position.king_square(side) {
-        Some(square) => attacks(cells, side.other(), square),
+        Some(square) => attacks(position, side.other(), square),
         None => false,
     }
 }

@@ -9,9 +9,9 @@ ghost use Rattle.shogi_rules.specs.Scan.{GoesTo, GoesFrom, IsStuck};
 
 use crate::checking::in_check;
 use crate::illegal::Illegal;
-use crate::movement::{Cells, at, is_clear};
+use crate::movement::is_clear;
 use crate::moving::{drop_piece, move_piece};
-use bit_boards::fits;
+use bit_boards::{Mask, fits, mask_laws};
 use board_core::{Kind, Move, Piece, Position, Side, Square};
 
 pub(crate) fn owns(position: &Position, square: Square) -> bool
@@ -73,7 +73,7 @@ fn legal_board(position: &Position, from: Square, to: Square, promote: bool) -> 
     if !fits_there(position, from, to) {
         return Err(Illegal::NoStep);
     }
-    if !is_clear(position.cells(), from, to) {
+    if !is_clear(position, from, to) {
         return Err(Illegal::Blocked);
     }
     if !may_promote(position, from, to, promote) {
@@ -122,28 +122,13 @@ fn has_board_move(position: &Position) -> bool
     false
 }
 
-fn is_pawn_of(cells: &Cells, side: Side, square: Square) -> bool
-    ensures { result ≡ is_pawn_of side (piece_at cells.now square.number) }
+fn has_pawn_on_file(position: &Position, side: Side, to: Square) -> bool
+    ensures { IsTrue result ↔ HasPawnOnFile position.now.cells side to.number }
 {
-    match at(cells, square) {
-        Some(piece) => piece.kind == Kind::Pawn && !piece.promoted && piece.side == side,
-        None => false,
-    }
-}
-
-fn has_pawn_on_file(cells: &Cells, side: Side, to: Square) -> bool
-    ensures { IsTrue result ↔ HasPawnOnFile cells.now side to.number }
-{
-    let first = to.number / 9 * 9;
-    for row in 0..9 {
-        let square = Square {
-            number: first + row,
-        };
-        if is_pawn_of(cells, side, square) {
-            return true;
-        }
-    }
-    false
+    // Sets hold nothing but squares of the board.
+    mask_laws();
+    let pawns = position.pawns().and(position.occupied(side));
+    !pawns.and(Mask::file(to.file())).is_empty()
 }
 
 fn is_second_pawn(position: &Position, kind: Kind, to: Square) -> bool
@@ -152,7 +137,7 @@ fn is_second_pawn(position: &Position, kind: Kind, to: Square) -> bool
     if kind != Kind::Pawn {
         return false;
     }
-    has_pawn_on_file(position.cells(), position.side(), to)
+    has_pawn_on_file(position, position.side(), to)
 }
 
 pub(crate) fn has_in_hand(position: &Position, kind: Kind) -> bool

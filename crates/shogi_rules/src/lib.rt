@@ -7,6 +7,7 @@
 
 mod checking;
 mod illegal;
+mod keys;
 mod legality;
 mod movement;
 mod moving;
@@ -18,6 +19,7 @@ mod tsume;
 
 pub use checking::{attacked, in_check};
 pub use illegal::Illegal;
+pub use keys::key_after;
 pub use legality::legal;
 pub use moving::apply;
 pub use problem::{DefenderInCheck, Problem, accept_problem};

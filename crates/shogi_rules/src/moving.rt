@@ -12,10 +12,9 @@ ghost use Rattle.bit_boards.specs.declared.square.Square.{Square};
 ghost use Rattle.board_core.specs.declared.moves.Move.TheVariants.{Drop};
 ghost use Rattle.shogi_rules.specs.declared.illegal.Illegal.TheVariants.{Occupied, NotInHand, DeadDrop, TwoPawns};
 
-use crate::movement::at;
 use board_core::{Kind, Move, Piece, Position, Side, Square};
 
-fn landed_piece(piece: Piece, promote: bool) -> Piece
+pub(crate) fn landed_piece(piece: Piece, promote: bool) -> Piece
     ensures { result ≡ landed_piece promote piece }
 {
     Piece {
@@ -49,7 +48,9 @@ pub(crate) fn move_piece(position: &Position, from: Square, to: Square, promote:
     ensures kings { (side : Side) → kings_of result side ≡ kings_of position.now side }
     ensures moves { from.number ≢ to.number }
 {
-    match at(position.cells(), from) {
+    // What every position keeps holds of this one.
+    position.laws();
+    match position.piece_at(from) {
         Some(piece) => {
             let side = position.side();
             let mut next = *position;

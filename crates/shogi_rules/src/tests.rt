@@ -1,6 +1,7 @@
 // What the rules say of single moves and positions, in the letters of SFEN: expected values from the rules of shogi and
 // from an independent program.
 mod letters;
+mod wandering;
 
 use super::*;
 use crate::trial::{trial_checks, trial_evasions};
@@ -8,7 +9,7 @@ use Illegal::{
     BadPromotion, Blocked, DeadDrop, KingLeft, NoStep, NotInHand, NotThere, Occupied, OwnPiece,
     PawnMate, TwoPawns,
 };
-use board_core::{Move, Side};
+use board_core::{Move, Side, key};
 use letters::{by, named, position};
 use std::process::Abort;
 use std::test::Fail;
@@ -34,7 +35,7 @@ fn judge(rt: &impl Abort, rows: &[Verdict]) {
         match (legal(&position_now, by), want) {
             (Ok(()), Ok(next)) => {
                 assert!(rt;
-                    apply(&position_now, by) == position(rt, next),
+                    apply(&position_now, by).is_same(&position(rt, next)),
                     "{word} of {text}"
                 );
             }
@@ -279,6 +280,31 @@ fn a_dropped_pawn_may_check_and_not_mate(rt: HostRuntime) {
             ),
         ],
     );
+}
+
+#[test]
+fn the_key_after_a_move_is_that_of_the_position_after_it(rt: HostRuntime) {
+    // A plain move to another word of the key and within one; a capture of a promoted piece, without and with a
+    // promotion; a promotion; a drop from a hand of several: by each side.
+    let rows = [
+        ("8k/9/9/9/4+R4/9/9/9/9 b 2Pg", "5e4f"),
+        ("8k/9/9/9/9/9/9/4p4/8K w 2Pg", "5h5i+"),
+        ("8k/9/9/4+p4/4G4/9/9/9/9 b 3p", "5e5d"),
+        ("9/9/9/4g4/4+B4/9/9/9/8K w bP", "5d5e"),
+        ("k8/2+n6/9/2L6/9/9/9/9/9 b N", "7d7b+"),
+        ("9/9/9/9/9/4s4/9/4+L4/K8 w -", "5f5g+"),
+        ("9/9/9/9/9/9/4s4/4+L4/K8 w l", "5g5h+"),
+        ("8k/9/9/9/9/9/9/9/9 b 18P4l", "P*1i"),
+        ("9/9/9/9/9/9/9/9/8K w 2R3g", "g*9a"),
+    ];
+    for (text, word) in rows.iter() {
+        let (before, by) = (position(&rt, text), by(&rt, word));
+        let defender = before.side().other();
+        assert!(rt; !in_check(&before, defender), "not quiet: {text}");
+        assert!(rt; legal(&before, by).is_ok(), "{word} of {text}");
+        let next = key_after(&before, &key(&before), by);
+        assert!(rt; next == key(&apply(&before, by)), "{word} of {text}");
+    }
 }
 
 // The moves are those of a text, in its order.

@@ -1,16 +1,20 @@
 // The positions and moves that are measured.
+ghost use Rattle.std.specs.Prelude.{◌≡◌};
+ghost use Rattle.board_core.specs.Key.{key_of};
 ghost use Rattle.shogi_rules.specs.Rules.{IsQuiet, IsLegal};
 
-use board_core::{Move, Position, Square};
+use board_core::{Key, Move, Position, Square, key};
 use sfen_text::read_sfen;
 use shogi_rules::{Problem, accept_problem, legal};
 use std::alloc::{AllocError, Global};
 
-/// A legal move and the position before it.
+/// A legal move, and the position before it with its key.
 #[derive(Drop)]
 pub struct Turn {
     pub position: Position,
+    pub key: Key,
     pub by: Move,
+    pub ghost keyed: { key.0 ≡ key_of position },
     pub ghost quiet: { IsQuiet position },
     pub ghost legal: { IsLegal position by },
 }
@@ -51,6 +55,7 @@ fn problem(text: &str) -> Option<Problem> {
 // The legal moves on the board that don't promote, in the order of moves.
 fn turns(alloc: Global, problem: &Problem) -> Result<Vec<Turn>, AllocError> {
     let position = &problem.position;
+    let key = key(position);
     let mut turns = Vec::new(alloc);
     for from in 0..81 {
         for to in 0..81 {
@@ -62,6 +67,7 @@ fn turns(alloc: Global, problem: &Problem) -> Result<Vec<Turn>, AllocError> {
             if legal(position, by).is_ok() {
                 turns.push(Turn {
                     position: *position,
+                    key,
                     by,
                 })?;
             }

@@ -14,6 +14,7 @@ pub enum Part {
     ChecksAsAGameBegins,
     ChecksWithAGold,
     Apply,
+    KeyAfter,
     Legal,
 }
 
@@ -21,7 +22,7 @@ pub enum Part {
 pub type Row = (&'static str, &'static str, Part);
 
 /// Every part, in the order in which `all` measures them.
-pub const ROWS: [Row; 9] = [
+pub const ROWS: [Row; 10] = [
     ("build", "positions built", Part::Build),
     ("copy", "positions copied", Part::Copy),
     ("key", "keys made", Part::Key),
@@ -38,6 +39,11 @@ pub const ROWS: [Row; 9] = [
         Part::ChecksWithAGold,
     ),
     ("apply", "moves made", Part::Apply),
+    (
+        "key_after",
+        "keys made for the positions after moves",
+        Part::KeyAfter,
+    ),
     ("legal", "moves judged", Part::Legal),
 ];
 
@@ -59,6 +65,7 @@ pub fn run(part: Part, alloc: Global, boards: &Boards, rounds: u64) -> Result<Do
         Part::ChecksAsAGameBegins => rules::checks(alloc, &boards.opening, rounds),
         Part::ChecksWithAGold => rules::checks(alloc, &boards.gold_in_hand, rounds),
         Part::Apply => rules::apply(alloc, boards, rounds),
+        Part::KeyAfter => rules::key_after(alloc, boards, rounds),
         Part::Legal => rules::legal(alloc, boards, rounds),
     }
 }

@@ -1,7 +1,7 @@
 // Positions built, copied, and made into keys.
 use crate::boards::Boards;
 use crate::part::Done;
-use board_core::{Hand, Kind, Piece, Position, Side, Square, key as key_of};
+use board_core::{Hand, Key, Kind, Piece, Position, Side, Square, key as key_of};
 use std::alloc::{AllocError, Global};
 
 // How many positions stand side by side, so that no round works on what the round before it has in registers.
@@ -10,7 +10,10 @@ const RING: u64 = 64;
 /// Builds a position each round, while the pawn of 2g steps to 2f and back; the sum is how often it was built with the
 /// pawn on 2f.
 pub fn build(_alloc: Global, boards: &Boards, rounds: u64) -> Result<Done, AllocError> {
-    let mut cells = *boards.opening.position.cells();
+    let mut cells = [None; 81];
+    for number in 0..81 {
+        cells[number as usize] = boards.opening.position.piece_at(Square { number });
+    }
     let sum = build_each(&mut cells, rounds);
     Ok(Done { calls: rounds, sum })
 }
@@ -79,8 +82,13 @@ pub fn key(alloc: Global, boards: &Boards, rounds: u64) -> Result<Done, AllocErr
 
 /// The sum of the words of a position's key, what it overflows by dropped.
 pub fn sum_of_key(position: &Position) -> u64 {
+    sum_of_words(&key_of(position))
+}
+
+/// The sum of a key's words, what it overflows by dropped.
+pub fn sum_of_words(key: &Key) -> u64 {
     let mut sum: u64 = 0;
-    for word in key_of(position).0.iter() {
+    for word in key.0.iter() {
         sum = sum.wrapping_add(*word);
     }
     sum

@@ -1,11 +1,12 @@
 // What the rules say of positions: attacks, checks, legal moves, and the position after a move.
 use crate::boards::Boards;
 use crate::part::Done;
-use crate::positions::sum_of_key;
+use crate::positions::{sum_of_key, sum_of_words};
 use board_core::{Side, Square};
 use shogi_rules::trial::trial_checks;
 use shogi_rules::{
-    Problem, apply as after, attacked as is_attacked, in_check as is_in_check, legal as is_legal,
+    Problem, apply as after, attacked as is_attacked, in_check as is_in_check,
+    key_after as next_key, legal as is_legal,
 };
 use std::alloc::{AllocError, Global};
 
@@ -67,6 +68,28 @@ pub fn apply(alloc: Global, boards: &Boards, rounds: u64) -> Result<Done, AllocE
     let mut sum: u64 = 0;
     for position in made.iter() {
         sum = sum.wrapping_add(sum_of_key(position));
+    }
+    Ok(Done {
+        calls: calls(boards, rounds),
+        sum,
+    })
+}
+
+/// Makes the key of the position after each legal move as a game begins, from the key before it, all of them each round;
+/// the sum is that of the words of the last round's keys.
+pub fn key_after(alloc: Global, boards: &Boards, rounds: u64) -> Result<Done, AllocError> {
+    let mut made = Vec::new(alloc);
+    for turn in boards.turns.iter() {
+        made.push(turn.key)?;
+    }
+    for _ in 0..rounds {
+        for (turn, place) in boards.turns.iter().zip(made.iter_mut()) {
+            *place = next_key(&turn.position, &turn.key, turn.by);
+        }
+    }
+    let mut sum: u64 = 0;
+    for key in made.iter() {
+        sum = sum.wrapping_add(sum_of_words(key));
     }
     Ok(Done {
         calls: calls(boards, rounds),

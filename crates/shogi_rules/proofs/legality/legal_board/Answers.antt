@@ -9,7 +9,7 @@ returns-then-in_check-clause-first c = (
       (λ _. c.owns.ensures.0 c.if-not-owns.false)
       (λ _. λ o. let t = c.owns-2.ensures.1 o in cc)
       (λ _. c.fits_there.ensures.0 c.if-not-fits_there.false)
-      (λ _. rw c.cells.ensures.cells at (c.is_clear.ensures.0 c.if-not-is_clear.false))
+      (λ _. c.is_clear.ensures.0 c.if-not-is_clear.false)
       (λ _. c.may_promote.ensures.0 c.if-not-may_promote.false)
       (λ below. absurd (omega arith)),
 )

@@ -1,6 +1,0 @@
-use Rattle.std.proofs.Common.{◌≡◌, ◌<◌, ℕ, false}
-use Rattle.board_core.specs.Board.{piece_at, is_king_of}
-use Rattle.board_core.proofs.scan.first_king.Given as goal
-
-abbrev pub invariant-loop-number : goal.invariant-loop-number
-invariant-loop-number l = (s : ℕ) → s < l.number → is_king_of l.side (piece_at l.cells s) ≡ false
