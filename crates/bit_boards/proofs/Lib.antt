@@ -5,3 +5,4 @@ pub mod Ahead
 pub mod Looked
 pub mod Seen
 pub mod Stepping
+pub mod Walk

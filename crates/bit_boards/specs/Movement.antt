@@ -107,6 +107,6 @@ are_near a b = in_reach (distance (a / 9) (b / 9)) (distance (a % 9) (b % 9))
 abbrev pub StepsAreNear : Type 0
 StepsAreNear = (piece : Piece) (from to : ℕ) → from < 81 → to < 81 → IsTrue (goes_by_step piece from to) → IsTrue (are_near from to)
 
--- A law: where it slides there over an empty board, they share a line.
+-- A law: where a piece slides from one square of an empty board to another, these share a line.
 abbrev pub SlidesShareLine : Type 0
 SlidesShareLine = (piece : Piece) (from to : ℕ) → from < 81 → to < 81 → IsTrue (goes_by_slide piece from to) → IsTrue (share_line from to)

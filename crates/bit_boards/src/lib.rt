@@ -15,6 +15,7 @@ mod piece;
 mod rays;
 mod reach;
 mod square;
+mod squares;
 mod standing;
 mod tables;
 #[cfg(test)]
@@ -28,3 +29,4 @@ pub use piece::{Kind, Piece, Side};
 pub use rays::{between, direction_to, first_met, lines, open_ray, ray};
 pub use reach::{around, steps, steps_to};
 pub use square::Square;
+pub use squares::Squares;

@@ -144,6 +144,15 @@ fn files_and_rows_cross_in_a_square(rt: HostRuntime) {
 }
 
 #[test]
+fn the_squares_of_a_set_come_in_order(rt: HostRuntime) {
+    let mut squares = set(&rt, &[38, 80, 0]).squares();
+    for number in [0, 38, 80] {
+        assert_eq!(rt; squares.next(), Some(square(&rt, number)));
+    }
+    assert_eq!(rt; squares.next(), None);
+}
+
+#[test]
 fn kinds_have_a_letter_each(rt: HostRuntime) -> Result<(), Fail> {
     mask_laws();
     for (place, kind) in Kind::ALL.into_iter().enumerate() {

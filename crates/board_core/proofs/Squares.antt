@@ -54,6 +54,13 @@ one_more cells n v is s = elim (cases_eq s n) [
       ]
 ]
 
+-- a square that holds nothing may be said to
+pub still_empty : (at : ℕ → Option Piece) (n : ℕ) → at n ≡ None → (s : ℕ) → at s ≡ (if s == n then None else at s)
+still_empty at n none s = elim (cases_eq s n) [
+  | inl e ↦ (ap at e ∙ none) ∙ sym (ap (λ t. if t then None else at s) (eq-eqb s n e))
+  | inr differ ↦ sym (ap (λ t. if t then None else at s) (ne_eqb s n differ))
+]
+
 -- a cell that isn't there holds nothing
 pub nothing_past : (cells : List (Option Piece)) (s : ℕ) → length cells ≤ s → piece_at cells s ≡ None
 nothing_past [] s h = refl

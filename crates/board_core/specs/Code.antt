@@ -13,7 +13,7 @@ use Rattle.board_core.specs.declared.code.Code.{Code}
 abbrev pub promoted_piece : (kind : Kind) → can_promote kind ≡ true → Side → Piece
 promoted_piece kind can side = record { kind = kind; promoted = true; side = side; promotes = λ e. can }
 
--- A side's piece of a code, as Black's codes are, where there is one.
+-- The side's piece whose code, were it Black's, is this; none for 0, and from 15 on.
 abbrev pub piece_in : ℕ → Side → Option Piece
 piece_in code side =
     if code == 1 then Some (plain_piece Pawn side)

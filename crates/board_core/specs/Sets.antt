@@ -28,8 +28,8 @@ abbrev pub is_slider : Option Piece → Bool
 is_slider None = false
 is_slider (Some piece) = (same_kind piece.kind Lance && not piece.promoted) || (same_kind piece.kind Bishop || same_kind piece.kind Rook)
 
--- The sets are those of the squares on which Black's pieces stand, White's, kings, unpromoted pawns, and pieces that slide, where
--- this is what each square holds.
+-- `at` says what each square holds; the sets are those of Black's pieces, of White's, and, of both sides, of kings, of unpromoted
+-- pawns and of pieces that slide.
 pub record AreSetsOf (sets : Sets) (at : ℕ → Option Piece) : Type 0 where
   pub black : (square : ℕ) → holds sets.black square ≡ is_of_side Black (at square)
   pub white : (square : ℕ) → holds sets.white square ≡ is_of_side White (at square)

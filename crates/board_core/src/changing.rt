@@ -48,13 +48,23 @@ impl Sets {
         }
     }
 
+    /// The sets after this is put on a square that is empty until then.
+    fn filled(self, square: Square, cell: Option<Piece>) -> Sets
+        ensures { (at : ℕ → Option Piece) → AreSetsOf self at → at square.number ≡ None → AreSetsOf result (λ s. if s == square.number then cell else at s) }
+    {
+        match cell {
+            Some(piece) => self.with(square, Some(piece)),
+            None => self,
+        }
+    }
+
     /// The sets of these cells.
     pub fn of(cells: &[Option<Piece>; 81]) -> Sets
         ensures { AreSetsOf result (piece_at cells.now) }
     {
         let mut sets = Sets::empty();
         for number in 0..81 {
-            sets = sets.with(Square { number }, at(cells, number));
+            sets = sets.filled(Square { number }, at(cells, number));
         }
         sets
     }

@@ -195,8 +195,8 @@ impl Position {
         self.sets = self.sets.with(square, None);
     }
 
-    /// Puts a piece on an empty square. The piece must be able to move from there, be no second unpromoted pawn of its
-    /// side on the file, and be left over: the set has one more of its kind, or, of a king, the side has none.
+    /// Puts a piece on an empty square. It must be one that could ever move from there, no second unpromoted pawn of its
+    /// side on the file, and left over: the set has one more of its kind, or, of a king, the side has none.
     pub fn put(&mut self, square: Square, piece: Piece)
         requires empty { piece_at self.old.cells square.number ≡ None }
         requires left_over { piece.kind ≢ King → count_of self.old piece.kind < total_of piece.kind }
