@@ -3,4 +3,5 @@ pub mod Firsts
 pub mod Decided
 pub mod Turns
 pub mod Listing
-pub mod Candidates
+pub mod Nearby
+pub mod Admitted

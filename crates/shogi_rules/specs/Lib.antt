@@ -3,3 +3,4 @@ pub mod Rules
 pub mod Tsume
 pub mod Scan
 pub mod Trial
+pub mod Laws

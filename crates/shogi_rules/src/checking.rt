@@ -1,7 +1,8 @@
 // Attack and check.
-ghost use Rattle.std.specs.Prelude.{◌<◌, ◌↔◌, ℕ, IsTrue};
+ghost use Rattle.std.specs.Prelude.{◌≡◌, ◌<◌, ◌↔◌, ℕ, IsTrue, IsSomeAnd};
 ghost use Rattle.bit_boards.specs.Mask.{Holds};
-ghost use Rattle.board_core.specs.Board.{kings_of};
+ghost use Rattle.bit_boards.specs.Movement.{fits};
+ghost use Rattle.board_core.specs.Board.{kings_of, piece_at};
 ghost use Rattle.shogi_rules.specs.Rules.{AttacksFrom, Attacks, IsInCheck};
 
 use crate::movement::reaches;
@@ -17,9 +18,10 @@ fn attacks_from(position: &Position, side: Side, from: Square, to: Square) -> bo
     }
 }
 
-// The squares from which pieces of the side may reach the square: those near it, and of pieces that slide those on its lines.
-fn candidates(position: &Position, side: Side, to: Square) -> Mask
-    ensures { (from : ℕ) → from < 81 → AttacksFrom position.now.cells side from to.number → Holds result from }
+/// Squares with pieces of a side, among them all whose piece would go to the square on an empty board: those near it, and of
+/// pieces that slide those on its lines. Takes no memory. (Rules of shogi: movement of the pieces.)
+pub fn candidates(position: &Position, side: Side, to: Square) -> Mask
+    ensures { (from : ℕ) → from < 81 → IsSomeAnd (piece_at position.now.cells from) (λ piece. (piece.side ≡ side) × IsTrue (fits piece from to.number)) → Holds result from }
 {
     // A step goes to a near square, and a slide along a line.
     mask_laws();

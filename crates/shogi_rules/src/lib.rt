@@ -8,6 +8,7 @@
 mod checking;
 mod illegal;
 mod keys;
+mod laws;
 mod legality;
 mod movement;
 mod moving;
@@ -17,10 +18,11 @@ mod tests;
 pub mod trial;
 mod tsume;
 
-pub use checking::{attacked, in_check};
+pub use checking::{attacked, candidates, in_check};
 pub use illegal::Illegal;
 pub use keys::key_after;
+pub use laws::legal_laws;
 pub use legality::legal;
-pub use moving::apply;
+pub use moving::{apply, drop_piece};
 pub use problem::{DefenderInCheck, Problem, accept_problem};
 pub use tsume::{is_check, is_evasion};

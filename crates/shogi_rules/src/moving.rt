@@ -65,8 +65,9 @@ pub(crate) fn move_piece(position: &Position, from: Square, to: Square, promote:
     }
 }
 
-/// The position after a drop against which nothing speaks but perhaps the kings.
-pub(crate) fn drop_piece(position: &Position, kind: Kind, to: Square) -> Position
+/// The position after a drop against which nothing speaks but perhaps what it means for the kings: the mover's own may be in
+/// check after it, and it may be a mate by a dropped pawn. Takes no memory. (Rules of shogi: drops.)
+pub fn drop_piece(position: &Position, kind: Kind, to: Square) -> Position
     requires empty { ¬ RefusesDrop position.now kind to.number Occupied }
     requires in_hand { ¬ RefusesDrop position.now kind to.number NotInHand }
     requires alive { ¬ RefusesDrop position.now kind to.number DeadDrop }

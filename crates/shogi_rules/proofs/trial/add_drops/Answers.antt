@@ -1,7 +1,8 @@
 use Rattle.std.proofs.Common.{◌≡◌, ◌<◌, ◌+◌, ◌*◌, ℕ, arith, refl}
 use Rattle.bit_boards.specs.Kind.{place_of}
 use Rattle.board_core.specs.Board.{hand_count, hand_of}
-use Rattle.shogi_rules.proofs.Listing.{at_order, lists_more, lists_same, lists_past, wanted_drop}
+use Rattle.list_laws.proofs.MoveLists.{at_order, lists_more, lists_same, lists_past}
+use Rattle.shogi_rules.proofs.Listing.{wanted_drop}
 use Rattle.shogi_rules.proofs.trial.add_drops.Goals.{then-is_wanted+in_ok-push, else-is_wanted}
 use Rattle.shogi_rules.proofs.trial.add_drops.Goals as goal
 

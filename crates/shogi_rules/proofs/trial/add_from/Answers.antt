@@ -1,5 +1,6 @@
 use Rattle.std.proofs.Common.{◌+◌, ◌*◌, arith}
-use Rattle.shogi_rules.proofs.Listing.{at_order, lists_more, lists_same, lists_past, wanted_from}
+use Rattle.list_laws.proofs.MoveLists.{at_order, lists_more, lists_same, lists_past}
+use Rattle.shogi_rules.proofs.Listing.{wanted_from}
 use Rattle.shogi_rules.proofs.trial.add_from.Goals.{then-is_wanted+in_ok-push, else-is_wanted}
 use Rattle.shogi_rules.proofs.trial.add_from.Goals as goal
 

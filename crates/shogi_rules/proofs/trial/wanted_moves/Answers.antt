@@ -2,7 +2,7 @@ use Rattle.std.proofs.Common.{◌≡◌, ◌<◌, ◌+◌, ◌*◌, ℕ, zero, s
 use Rattle.bit_boards.specs.declared.piece.Kind.{Kind}
 use Rattle.bit_boards.specs.declared.piece.Kind.TheVariants.{Pawn, Lance, Knight, Silver, Gold, Bishop, Rook, King}
 use Rattle.bit_boards.specs.Kind.{place_of}
-use Rattle.shogi_rules.proofs.Listing.{lists_whole, at_order}
+use Rattle.list_laws.proofs.MoveLists.{lists_whole, at_order}
 use Rattle.shogi_rules.proofs.trial.wanted_moves.Goals as goal
 
 -- the kinds in their order stand at their places

@@ -1,15 +1,14 @@
 -- Where a piece can stand that reaches a square: near it, or on its lines if it slides.
-use Rattle.std.proofs.Common.{◌≡◌, ◌<◌, ◌/◌, ◌%◌, ◌&&◌, ◌||◌, ◌⊎◌, ℕ, List, Option, Some, None, Bool, true, false, arith, refl, sym, ap, ◌∙◌, inl, inr}
-use Rattle.std.specs.Prelude.{IsSomeAnd}
+use Rattle.std.proofs.Common.{◌≡◌, ◌<◌, ◌/◌, ◌%◌, ◌&&◌, ◌||◌, ◌⊎◌, ℕ, Option, Some, None, Bool, true, false, arith, refl, sym, ap, ◌∙◌, inl, inr}
+use Rattle.std.specs.Prelude.{IsSomeAnd, IsTrue}
 use Rattle.bit_boards.specs.declared.piece.Piece.{Piece}
 use Rattle.bit_boards.specs.declared.piece.Kind.{Kind}
 use Rattle.bit_boards.specs.declared.piece.Kind.TheVariants.{Pawn, Lance, Knight, Silver, Gold, Bishop, Rook, King}
 use Rattle.bit_boards.specs.declared.piece.Side.{Side}
 use Rattle.bit_boards.specs.declared.piece.Side.TheVariants.{Black, White}
 use Rattle.bit_boards.specs.Kind.{same_side}
-use Rattle.bit_boards.specs.Movement.{distance, slides, goes_by_step, goes_by_slide, on_line, in_reach, share_line, are_near, StepsAreNear, SlidesShareLine}
+use Rattle.bit_boards.specs.Movement.{fits, distance, slides, goes_by_step, goes_by_slide, on_line, in_reach, share_line, are_near, StepsAreNear, SlidesShareLine}
 use Rattle.board_core.specs.Sets.{is_of_side, is_slider}
-use Rattle.shogi_rules.specs.Rules.{Reaches}
 
 no_slide : {P : Type 0} → false ≡ true → P
 no_slide e = absurd (cc)
@@ -60,14 +59,14 @@ both : (p q : Bool) → p ≡ true → q ≡ true → (p && q) ≡ true
 both true q h e = e
 both false q h e = absurd (cc)
 
--- a piece that attacks a square stands near it, or on its lines and slides
-pub candidate : StepsAreNear → SlidesShareLine → (cells : List (Option Piece)) (side : Side) (from to : ℕ) → from < 81 → to < 81 → (cell : Option Piece)
-    → IsSomeAnd cell (λ piece. (piece.side ≡ side) × Reaches cells piece from to)
+-- a piece that would go to a square stands near it, or on its lines and slides
+pub candidate : StepsAreNear → SlidesShareLine → (side : Side) (from to : ℕ) → from < 81 → to < 81 → (cell : Option Piece)
+    → IsSomeAnd cell (λ piece. (piece.side ≡ side) × IsTrue (fits piece from to))
     → ((are_near to from || (share_line to from && is_slider cell)) && is_of_side side cell) ≡ true
-candidate near lined cells side from to h i None attack = absurd attack
-candidate near lined cells side from to h i (Some piece) attack =
+candidate near lined side from to h i None attack = absurd attack
+candidate near lined side from to h i (Some piece) attack =
     both _ _
-    (elim (either (goes_by_step piece from to) (goes_by_slide piece from to) attack.1.fit) [
+    (elim (either (goes_by_step piece from to) (goes_by_slide piece from to) attack.1) [
       | inl step ↦ by_near _ _ (near_back to from ∙ near piece from to h i step)
       | inr slide ↦ by_line _ _ (both _ _ (line_back to from ∙ lined piece from to h i slide)
           (slider piece.kind piece.promoted piece.side piece.promotes _ _ _ slide))

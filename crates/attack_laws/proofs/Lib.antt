@@ -1,0 +1,4 @@
+pub mod Cells
+pub mod Lying
+pub mod Arrived
+pub mod Stopped

@@ -1,0 +1,3 @@
+pub mod Slid
+pub mod Sights
+pub mod Shielded

@@ -1,0 +1,14 @@
+//! Who attacks a square, and along which lines: sets of squares, each exactly a definition.
+//!
+//! Nothing here takes memory. The lists of legal moves are made from these sets.
+#![tactic(auto)]
+
+mod attacking;
+mod reach;
+mod sight;
+#[cfg(test)]
+mod tests;
+
+pub use attacking::{attackers, attackers_without, count_attackers, shields, stops};
+pub use reach::reached;
+pub use sight::Sight;

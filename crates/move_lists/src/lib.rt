@@ -1,0 +1,8 @@
+//! Lists of moves that keep the order of moves, and the room that they once took.
+#![tactic(auto)]
+
+mod moves;
+#[cfg(test)]
+mod tests;
+
+pub use moves::Moves;
