@@ -13,9 +13,11 @@ use crate::places::Places;
 use crate::verdict::Why;
 use board_core::{Move, Position, order_laws};
 use cert_text::{MateEntry, cert_laws};
-use shogi_rules::trial::{trial_checks, trial_evasions};
+use check_moves::checks_into;
+use evasions::answers_into;
+use move_lists::Moves;
 use shogi_rules::{Problem, apply, is_check};
-use std::alloc::{AllocError, Global};
+use std::alloc::AllocError;
 
 // What speaks against an evasion that leads to this position, from an entry of this rank.
 fn evasion_reason(
@@ -43,13 +45,13 @@ fn evasion_reason(
     }
 }
 
-/// The first reason against an entry of a mate.
+/// The first reason against an entry of a mate. The list is filled again.
 pub(crate) fn mate_reason(
-    alloc: Global,
     problem: &Problem,
     entries: &[MateEntry],
     places: &Places,
     entry: &MateEntry,
+    evasions: &mut Moves,
 ) -> Result<Option<Why>, AllocError>
     requires quiet { IsQuiet entry.now.at }
     requires places { ArePlacesOf places.now (positions_of entries.now) }
@@ -62,8 +64,8 @@ pub(crate) fn mate_reason(
         return Ok(Some(Why::NotACheck(entry.by)));
     }
     let checked = apply(&entry.at, entry.by);
-    let evasions = trial_evasions(alloc, problem, &checked)?;
-    for evasion in &evasions {
+    answers_into(problem, &checked, evasions)?;
+    for evasion in evasions.as_slice() {
         let next = apply(&checked, *evasion);
         if let Some(why) = evasion_reason(entries, places, entry.rank.number, &next, *evasion) {
             return Ok(Some(why));
@@ -72,21 +74,21 @@ pub(crate) fn mate_reason(
     Ok(None)
 }
 
-// Whether an evasion to the check leads to one of the positions.
+// Whether an evasion to the check leads to one of the positions. The list is filled again.
 fn has_evasion_back(
-    alloc: Global,
     problem: &Problem,
     places: &Places,
     position: &Position,
     check: Move,
+    evasions: &mut Moves,
 ) -> Result<bool, AllocError>
     requires quiet { IsQuiet position.now }
     requires check { IsCheck problem.now.position.side position.now check }
     ensures { IfOk result (λ found. (positions : List Board) → ArePlacesOf places.now positions → IsTrue found ↔ HasEvasionTo problem.now.position.side (Contains positions) position.now check) }
 {
     let checked = apply(position, check);
-    let evasions = trial_evasions(alloc, problem, &checked)?;
-    for evasion in &evasions {
+    answers_into(problem, &checked, evasions)?;
+    for evasion in evasions.as_slice() {
         let next = apply(&checked, *evasion);
         if places.holds(&next) {
             return Ok(true);
@@ -95,21 +97,22 @@ fn has_evasion_back(
     Ok(false)
 }
 
-/// The first reason against an entry of an escape.
+/// The first reason against an entry of an escape. The lists are filled again.
 pub(crate) fn escape_reason(
-    alloc: Global,
     problem: &Problem,
     places: &Places,
     position: &Position,
+    checks: &mut Moves,
+    evasions: &mut Moves,
 ) -> Result<Option<Why>, AllocError>
     requires quiet { IsQuiet position.now }
     ensures { IfOk result (λ reason. (positions : List Board) → ArePlacesOf places.now positions → IsFirstReason (IsHeld positions problem.now.position.side position.now) (EscapeReason positions problem.now.position.side position.now) reason) }
 {
     // In a list in the order of moves, what comes sooner stands sooner.
     order_laws();
-    let checks = trial_checks(alloc, problem, position)?;
-    for check in &checks {
-        if !has_evasion_back(alloc, problem, places, position, *check)? {
+    checks_into(problem, position, checks)?;
+    for check in checks.as_slice() {
+        if !has_evasion_back(problem, places, position, *check, evasions)? {
             return Ok(Some(Why::CheckUnanswered(*check)));
         }
     }

@@ -15,6 +15,7 @@ use crate::reasons::{escape_reason, mate_reason};
 use board_core::Move;
 use cert_text::Certificate;
 use mate_def::escape_is_no_mate;
+use move_lists::Moves;
 use shogi_rules::Problem;
 use std::alloc::{AllocError, Global};
 
@@ -64,13 +65,20 @@ fn is_about(certificate: &Certificate, problem: &Problem) -> bool
     certificate.problem().position.is_same(&problem.position)
 }
 
+// Lists that are filled again for each entry.
+#[derive(Drop)]
+struct Lists {
+    checks: Moves,
+    evasions: Moves,
+}
+
 // The first reason against the entry at a place, counted from 0.
 fn reason_at(
-    alloc: Global,
     problem: &Problem,
     certificate: &Certificate,
     places: &Places,
     place: usize,
+    lists: &mut Lists,
 ) -> Result<Option<Why>, AllocError>
     requires place { place < length (positions_in certificate.now) }
     requires places { ArePlacesOf places.now (positions_in certificate.now) }
@@ -79,10 +87,23 @@ fn reason_at(
     match certificate {
         Certificate::Mate(mate) => {
             let entries = mate.entries();
-            mate_reason(alloc, problem, entries, places, &entries[place])
+            mate_reason(
+                problem,
+                entries,
+                places,
+                &entries[place],
+                &mut lists.evasions,
+            )
         }
         Certificate::Escape(escape) => {
-            escape_reason(alloc, problem, places, &escape.entries()[place])
+            let position = &escape.entries()[place];
+            escape_reason(
+                problem,
+                places,
+                position,
+                &mut lists.checks,
+                &mut lists.evasions,
+            )
         }
     }
 }
@@ -114,8 +135,12 @@ fn verdict_on(
             why: Why::RootMissing,
         });
     }
+    let mut lists = Lists {
+        checks: Moves::new(alloc),
+        evasions: Moves::new(alloc),
+    };
     for place in 0..certificate.count() {
-        if let Some(why) = reason_at(alloc, problem, certificate, &places, place)? {
+        if let Some(why) = reason_at(problem, certificate, &places, place, &mut lists)? {
             return Ok(Verdict::Refused {
                 entry: place as u64 + 1,
                 why,

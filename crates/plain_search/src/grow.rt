@@ -6,21 +6,23 @@ ghost use Rattle.plain_search.specs.Queue.{IsStep, IsWithAll};
 ghost use Rattle.plain_search.specs.Graph.{IsInPlay, IsKeptQueue, AreSteps, IsGraph, moves_of, expansions_of, positions_met};
 
 use crate::graph::{Graph, Queue, Step};
-use board_core::{Move, Position};
+use board_core::Position;
+use check_moves::checks;
+use evasions::answers;
+use move_lists::Moves;
 use search_gate::Gate;
-use shogi_rules::trial::{trial_checks, trial_evasions};
 use shogi_rules::{Problem, apply};
 use std::alloc::{AllocError, Global};
 
 // The checks or the evasions at a position, whoever is to move.
-fn moves_at(alloc: Global, problem: &Problem, position: &Position) -> Result<Vec<Move>, AllocError>
+fn moves_at(alloc: Global, problem: &Problem, position: &Position) -> Result<Moves, AllocError>
     requires { IsQuiet position.now }
-    ensures { IfOk result (λ moves. Lists (IsStep problem.now.position.side position.now) moves.items) }
+    ensures { IfOk result (λ moves. Lists (IsStep problem.now.position.side position.now) moves) }
 {
     if position.side() == problem.attacker() {
-        trial_checks(alloc, problem, position)
+        checks(alloc, problem, position)
     } else {
-        trial_evasions(alloc, problem, position)
+        answers(alloc, problem, position)
     }
 }
 
@@ -39,7 +41,7 @@ fn steps_from(
 {
     let moves = moves_at(alloc, problem, position)?;
     let mut steps = Vec::with_capacity(alloc, moves.len())?;
-    for by in &moves {
+    for by in moves.as_slice() {
         let next = apply(position, *by);
         let to = queue.place_of(&next)?;
         steps.push(Step { by: *by, to })?;

@@ -12,8 +12,8 @@ use crate::finding::rank_after;
 use board_core::{Move, Position, order_laws};
 use cert_check::Places;
 use cert_text::MateCertificate;
+use evasions::answers;
 use shogi_rules::Problem;
-use shogi_rules::trial::trial_evasions;
 use std::alloc::{AllocError, Global};
 
 // An evasion, and the rank of what it leads to.
@@ -48,9 +48,9 @@ pub(crate) fn defence(
 {
     // In a list in the order of moves, what comes sooner stands sooner.
     order_laws();
-    let evasions = trial_evasions(alloc, problem, checked)?;
+    let evasions = answers(alloc, problem, checked)?;
     let mut longest = None;
-    for evasion in &evasions {
+    for evasion in evasions.as_slice() {
         let rank = rank_after(certificate, places, checked, *evasion);
         longest = Some(longer(longest, Lasting { by: *evasion, rank }));
     }

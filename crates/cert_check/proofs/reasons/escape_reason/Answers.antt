@@ -9,15 +9,15 @@ use Rattle.cert_check.proofs.reasons.escape_reason.Goals as goal
 
 pub has_evasion_back-requires-clause-check : goal.has_evasion_back-requires-clause-check
 has_evasion_back-requires-clause-check c =
-    held_at (IsCheck c.args.problem.now.position.side c.args.position.now) c.deref-check-items.result.now
-    (subst (Lists (IsCheck c.args.problem.now.position.side c.args.position.now)) (sym c.deref-check-items.ensures.value) c.in_ok-checks.ensures)
+    held_at (IsCheck c.args.problem.now.position.side c.args.position.now) c.as_slice-check-items.result.now
+    (subst (Lists (IsCheck c.args.problem.now.position.side c.args.position.now)) (sym c.as_slice-check-items.ensures.moves) c.in_ok-checks_into.ensures)
     c.loop-check.check-index c.check-item.result (omega arith) c.check-item.is
 
 pub returns-then-not-branch : goal.returns-then-not-branch
 returns-then-not-branch c = λ positions places.
-    first_unanswered c.order_laws.ensures.places positions c.args.problem.now.position.side c.args.position.now c.deref-check-items.result.now c.loop-check.check-index
+    first_unanswered c.order_laws.ensures.places positions c.args.problem.now.position.side c.args.position.now c.as_slice-check-items.result.now c.loop-check.check-index
     c.check-item.result
-    (subst (Lists (IsCheck c.args.problem.now.position.side c.args.position.now)) (sym c.deref-check-items.ensures.value) c.in_ok-checks.ensures)
+    (subst (Lists (IsCheck c.args.problem.now.position.side c.args.position.now)) (sym c.as_slice-check-items.ensures.moves) c.in_ok-checks_into.ensures)
     (omega arith) c.check-item.is
     (λ w. let e = (c.in_ok-has_evasion_back.ensures positions places).1 w in cc)
     (c.loop-check.invariant positions places)
@@ -25,12 +25,12 @@ returns-then-not-branch c = λ positions places.
 pub loop-check-preserved : goal.loop-check-preserved
 loop-check-preserved c = λ positions places.
     each_more (HasEvasionTo c.args.problem.now.position.side (Contains positions) c.args.position.now)
-    c.deref-check-items.result.now c.loop-check.check-index c.check-item.result (omega arith) c.check-item.is
+    c.as_slice-check-items.result.now c.loop-check.check-index c.check-item.result (omega arith) c.check-item.is
     ((c.in_ok-has_evasion_back.ensures positions places).0 c.if-not-branch.false)
     (c.loop-check.invariant positions places)
 
 pub returns : goal.returns
 returns c = λ positions places.
-    all_answered positions c.args.problem.now.position.side c.args.position.now c.deref-check-items.result.now c.loop-check.check-index
-    (subst (Lists (IsCheck c.args.problem.now.position.side c.args.position.now)) (sym c.deref-check-items.ensures.value) c.in_ok-checks.ensures)
+    all_answered positions c.args.problem.now.position.side c.args.position.now c.as_slice-check-items.result.now c.loop-check.check-index
+    (subst (Lists (IsCheck c.args.problem.now.position.side c.args.position.now)) (sym c.as_slice-check-items.ensures.moves) c.in_ok-checks_into.ensures)
     (omega arith) (c.loop-check.invariant positions places)

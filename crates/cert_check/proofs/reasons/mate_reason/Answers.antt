@@ -12,28 +12,28 @@ use Rattle.cert_check.proofs.reasons.mate_reason.Goals as goal
 
 pub apply-next-requires-clause-legal : goal.apply-next-requires-clause-legal
 apply-next-requires-clause-legal c =
-    (held_at (IsEvasion c.args.problem.now.position.side c.apply-checked.result) c.deref-evasion-items.result.now
-    (subst (Lists (IsEvasion c.args.problem.now.position.side c.apply-checked.result)) (sym c.deref-evasion-items.ensures.value) c.in_ok-evasions.ensures)
+    (held_at (IsEvasion c.args.problem.now.position.side c.apply-checked.result) c.as_slice-evasion-items.result.now
+    (subst (Lists (IsEvasion c.args.problem.now.position.side c.apply-checked.result)) (sym c.as_slice-evasion-items.ensures.moves) c.in_ok-answers_into.ensures)
     c.loop-evasion.evasion-index c.evasion-item.result (omega arith) c.evasion-item.is).legal
 
 pub returns-in-Some : goal.returns-in-Some
 returns-in-Some c =
     first_against c.order_laws.ensures.places c.args.entries.now c.args.problem.now.position.side c.args.entry.now c.apply-checked.result c.apply-next.result
-    c.deref-evasion-items.result.now c.loop-evasion.evasion-index c.evasion-item.result c.in-Some.why
+    c.as_slice-evasion-items.result.now c.loop-evasion.evasion-index c.evasion-item.result c.in-Some.why
     c.apply-checked.ensures.position c.apply-next.ensures.position (c.is_check.ensures.0 c.if-not-is_check.false)
-    (subst (Lists (IsEvasion c.args.problem.now.position.side c.apply-checked.result)) (sym c.deref-evasion-items.ensures.value) c.in_ok-evasions.ensures)
+    (subst (Lists (IsEvasion c.args.problem.now.position.side c.apply-checked.result)) (sym c.as_slice-evasion-items.ensures.moves) c.in_ok-answers_into.ensures)
     (omega arith) c.evasion-item.is c.loop-evasion.invariant c.in-Some.ensures
 
 pub loop-evasion-preserved : goal.loop-evasion-preserved
 loop-evasion-preserved c =
     each_more (λ (a : Move). IsListedBelow c.args.entries.now c.args.entry.now.rank.number (after c.apply-checked.result a))
-    c.deref-evasion-items.result.now c.loop-evasion.evasion-index c.evasion-item.result (omega arith) c.evasion-item.is
+    c.as_slice-evasion-items.result.now c.loop-evasion.evasion-index c.evasion-item.result (omega arith) c.evasion-item.is
     (subst (λ (b : Board). IsListedBelow c.args.entries.now c.args.entry.now.rank.number b) c.apply-next.ensures.position c.in_default.ensures)
     c.loop-evasion.invariant
 
 pub returns : goal.returns
 returns c =
-    borne_out c.args.entries.now c.args.problem.now.position.side c.args.entry.now c.apply-checked.result c.deref-evasion-items.result.now
+    borne_out c.args.entries.now c.args.problem.now.position.side c.args.entry.now c.apply-checked.result c.as_slice-evasion-items.result.now
     c.loop-evasion.evasion-index c.apply-checked.ensures.position (c.is_check.ensures.0 c.if-not-is_check.false)
-    (subst (Lists (IsEvasion c.args.problem.now.position.side c.apply-checked.result)) (sym c.deref-evasion-items.ensures.value) c.in_ok-evasions.ensures)
+    (subst (Lists (IsEvasion c.args.problem.now.position.side c.apply-checked.result)) (sym c.as_slice-evasion-items.ensures.moves) c.in_ok-answers_into.ensures)
     (omega arith) c.loop-evasion.invariant
