@@ -1,8 +1,10 @@
 // Answers, and how the rules find them.
 use crate::question::{Question, read_question};
 use board_core::{Move, Position};
+use check_moves::checks;
+use evasions::answers;
+use move_lists::Moves;
 use sfen_text::{TextFault, read_sfen};
-use shogi_rules::trial::{trial_checks, trial_evasions};
 use shogi_rules::{Illegal, Problem, apply, in_check, legal};
 use std::alloc::{AllocError, Global};
 
@@ -18,7 +20,7 @@ pub enum Answer {
     /// The move isn't legal.
     Refused(Illegal),
     /// The checks, or the answers to a check.
-    Moves(Vec<Move>),
+    Moves(Moves),
     /// The line is no question.
     NotAQuestion,
 }
@@ -46,7 +48,7 @@ fn about_check(alloc: Global, problem: &Problem, by: Move) -> Result<Answer, All
     if !in_check(&after, after.side()) {
         return Ok(Answer::NotAQuestion);
     }
-    Ok(Answer::Moves(trial_evasions(alloc, problem, &after)?))
+    Ok(Answer::Moves(answers(alloc, problem, &after)?))
 }
 
 /// The answer to a line, which comes without its line feed. Errors: want of memory alone.
@@ -55,7 +57,7 @@ pub fn answer_to(alloc: Global, line: &[u8]) -> Result<Answer, AllocError> {
         Some(Question::Text(text)) => Ok(about_text(text)),
         Some(Question::Legal { by, problem }) => Ok(about_move(&problem, by)),
         Some(Question::Checks(problem)) => {
-            Ok(Answer::Moves(trial_checks(alloc, &problem, &problem.position)?))
+            Ok(Answer::Moves(checks(alloc, &problem, &problem.position)?))
         }
         Some(Question::Answers { by, problem }) => about_check(alloc, &problem, by),
         None => Ok(Answer::NotAQuestion),

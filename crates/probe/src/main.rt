@@ -8,12 +8,16 @@
 //! - `checks SFEN`: the checks of the side to move, in the order of moves with spaces between, or `none`.
 //! - `answers MOVE SFEN`, where MOVE is a check: the legal moves after it in the same form, or `none`.
 //!
+//! The lists are made by sets of squares (`check_moves`, `evasions`).
+//!
 //! Any other line is answered `not a question`: also one whose SFEN stands for no position, or whose side not to move is
 //! in check, save behind `sfen`. The end is status 0; want of memory, and a failed read or write, end with status 1.
 #![tactic(auto)]
 
 mod answer;
 mod question;
+#[cfg(test)]
+mod tests;
 mod write;
 
 use std::io::{self, BufRead, BufReader, BufWriter, Write};
