@@ -1,4 +1,6 @@
 // The lists that are made by sets of squares beside the plain ones, which try every move, over positions that come from playing.
+use crate::answer::answer_to;
+use crate::write::write_answer;
 use board_core::{Move, Position};
 use check_moves::{checks_into, count_checks};
 use evasions::{answers_into, count_answers};
@@ -182,5 +184,44 @@ fn lists_and_counts_by_sets_are_those_of_the_plain_lists_wherever_play_leads(
         }
     }
     assert!(rt; met.positions > 3_000, "{} positions", met.positions);
+    Ok(())
+}
+
+// Questions, and the moves that answer them: by hand, from the rules. A discovered check; a king that opens a line; a pinned piece that
+// can't take the pawn that would mate; a king's ways and what may be put between; a double check, against which nothing may.
+const ROWS: [(&str, &str); 5] = [
+    (
+        "checks 4k4/9/9/9/9/4G4/9/9/4R4 b - 1",
+        "5f4e 5f4f 5f6e 5f6f",
+    ),
+    (
+        "checks 4k4/9/9/9/4K4/9/9/9/4R4 b - 1",
+        "5e4d 5e4e 5e4f 5e6d 5e6e 5e6f",
+    ),
+    (
+        "checks 8k/7g1/7GN/9/4B4/9/9/9/9 b P 1",
+        "1c2a+ 2c1b 2c2b 5e2b 5e2b+",
+    ),
+    (
+        "answers 4i5i 4k4/9/9/9/9/9/9/9/5R3 b g 1",
+        "5a4a 5a4b 5a6a 5a6b G*5b G*5c G*5d G*5e G*5f G*5g G*5h",
+    ),
+    (
+        "answers 5e4c 4k4/9/9/9/4N4/9/9/9/4R4 b g 1",
+        "5a4a 5a4b 5a6a 5a6b",
+    ),
+];
+
+#[test]
+fn the_lists_of_a_few_positions_are_those_of_the_rules(rt: HostRuntime) -> Result<(), Fail> {
+    for (question, want) in ROWS {
+        let mut answer = Vec::new(rt.alloc());
+        write_answer(
+            rt.alloc(),
+            &mut answer,
+            &answer_to(rt.alloc(), question.as_bytes())?,
+        )?;
+        assert!(rt; answer.as_slice() == want.as_bytes(), "{question}");
+    }
     Ok(())
 }
