@@ -1,6 +1,6 @@
 -- What a mate and an escape are. The attacker only gives check, the defender makes any legal move, and play without end is
 -- no mate.
-use Rattle.std.specs.Prelude.{◌≡◌, ◌⊎◌, ◌≤◌, ℕ, zero, suc, List, [], Contains}
+use Rattle.std.specs.Prelude.{◌≡◌, ◌⊎◌, ◌≤◌, ℕ, zero, suc, List, [], ◌∷◌, Contains}
 use Rattle.bit_boards.specs.declared.piece.Side.{Side}
 use Rattle.board_core.specs.declared.moves.Move.{Move}
 use Rattle.board_core.specs.Board.{Board}
@@ -45,6 +45,33 @@ EscapesInto attacker b t = (s : List Board) × Contains s b × IsClosed attacker
 -- The defender escapes: the position is one of some closed positions.
 abbrev pub Escapes : Side → Board → Type 0
 Escapes attacker b = EscapesInto attacker b []
+
+-- The defender has an evasion that leads to a position with the property.
+pub record CanEvadeTo (attacker : Side) (P : Board → Type 0) (b : Board) : Type 0 where
+  pub evasion : Move
+  pub is_evasion : IsEvasion attacker b evasion
+  pub leads : P (after b evasion)
+
+-- Every evasion leads to a position that is mate within a number of the attacker's moves.
+abbrev pub IsMatedWithin : Side → ℕ → Board → Type 0
+IsMatedWithin attacker n b = (evasion : Move) → IsEvasion attacker b evasion → RankAtMost attacker n (after b evasion)
+
+-- A law: who escapes into some positions escapes into any that hold them.
+abbrev pub EscapesIntoMore : Type 0
+EscapesIntoMore = (attacker : Side) (b : Board) (t u : List Board) → ((q : Board) → Contains t q → Contains u q)
+    → EscapesInto attacker b t → EscapesInto attacker b u
+
+-- A law: a position may be dropped from those that it escapes into, since who is back at it goes on from it as before.
+abbrev pub EscapesPastItself : Type 0
+EscapesPastItself = (attacker : Side) (b : Board) (t : List Board) → EscapesInto attacker b (b ∷ t) → EscapesInto attacker b t
+
+-- A law: what the checks of a position lead to is joined. The attacker is to move, the list has all his checks, and each of it has an
+-- evasion that leads to the position itself, to one of t, or to one that escapes into these; then the position escapes into t.
+abbrev pub EscapesJoined : Type 0
+EscapesJoined = (attacker : Side) (b : Board) (checks : List Move) (t : List Board) → b.side ≡ attacker
+    → ((check : Move) → IsCheck attacker b check → Contains checks check)
+    → ((check : Move) → Contains checks check → HasEvasionTo attacker (λ q. Contains (b ∷ t) q ⊎ EscapesInto attacker q (b ∷ t)) b check)
+    → EscapesInto attacker b t
 
 -- A law: an escape is no mate.
 abbrev pub EscapeIsNoMate : Type 0
