@@ -1,0 +1,5 @@
+mod Keys
+mod Members
+mod Rising
+mod Joining
+mod Places
