@@ -54,7 +54,7 @@ unsound (Clap text) n fails sound = fails
 
 -- a wish that a test stops asks for nothing
 stopped_none : (f : WordFault) (w : Wish) (v : Wish) → IsStoppedBy f w → sound_wish w ≡ Some v → ⊥
-stopped_none f (to_check n) v stopped e = stopped
+stopped_none f (to_check n p) v stopped e = stopped
 stopped_none f (to_solve n rest) v stopped e = go (are_sound n) refl e
   where
     go : (b : Bool) → are_sound n ≡ b → (if b then Some (to_solve n rest) else None) ≡ Some v → ⊥
@@ -76,7 +76,7 @@ one_first MoreShardsThanRows (NotPowerOfTwo Rows) n a b = absurd (b a.0)
 one_first MoreShardsThanRows (NotPowerOfTwo Shards) n a b = absurd (b.1 a.1)
 
 one_stop : (f g : WordFault) (w : Wish) → IsStoppedBy f w → IsStoppedBy g w → g ≡ f
-one_stop f g (to_check n) a b = absurd a
+one_stop f g (to_check n p) a b = absurd a
 one_stop f g (to_solve n rest) a b = one_first f g n a b
 
 -- all that the reading of the words promises
@@ -120,7 +120,7 @@ promised_by_outcome words r h = go (given_of words) refl h
             by_clap : (o : Option Wish) → IsSomeAnd o (IsStoppedBy (Clap text)) → ⊥
             by_clap None x = x
             by_clap (Some (to_solve n rest)) x = x
-            by_clap (Some (to_check n)) x = x
+            by_clap (Some (to_check n p)) x = x
         refuses (NotPowerOfTwo size) fails = fails
         refuses MoreShardsThanRows fails = fails
 

@@ -5,7 +5,7 @@ use Rattle.std.specs.Option.{option_map_or}
 use Rattle.std.specs.Str.{bytes_eq}
 use Rattle.std.specs.Str.Parse.{IsNumeral, digits_value, without_leading_plus}
 use Rattle.clap.specs.Kinds.{Kinds}
-use Rattle.clap.specs.Words.{IsUnsignedIn, Row, Text, fault_of, one_of, subcommand_of}
+use Rattle.clap.specs.Words.{IsUnsignedIn, Row, Text, fault_of, first_of, one_of, subcommand_of}
 use Rattle.tsume_words.specs.declared.settings.TheConstants.{MOST_WORKERS, MOST_ROOM, LEAST_ROWS, MOST_ROWS, MOST_SHARDS}
 use Rattle.search_gate.specs.declared.expansions.TheConstants.{MOST_EXPANSIONS}
 use Rattle.tsume_words.specs.Line.{tsume_line}
@@ -26,6 +26,10 @@ IsTakenByClap words = clap_faults words ≡ []
 abbrev pub number_of : Text → List Row → ℕ
 number_of name rows = option_map_or (λ text. digits_value 10 (without_leading_plus text)) (one_of name rows) 0
 
+-- The text that clap gives for an option without a default: none where it isn't among the words.
+abbrev pub text_of : Text → List Row → Option Text
+text_of name rows = first_of name rows
+
 -- Whether clap found a flag among the words.
 abbrev pub is_flagged : Text → List Row → Bool
 is_flagged name rows = option_map_or (λ text. bytes_eq text (codes "true")) (one_of name rows) false
@@ -39,10 +43,10 @@ pub record SettingsView : Type 0 where
   pub shards : ℕ
 
 -- What a command asks for: to solve, with its numbers and whether the rest is given to the defender; or to check, with
--- its workers.
+-- its workers and, where the certificate has to be for a given problem, its text.
 pub data Wish : Type 0 where
   to_solve : SettingsView → Bool → Wish
-  to_check : ℕ → Wish
+  to_check : ℕ → Option Text → Wish
 
 -- The five numbers that clap gives for `solve`.
 abbrev pub settings_of : List Row → SettingsView
@@ -58,7 +62,7 @@ settings_of found = record {
 abbrev pub wish_named : Text × List Row → Option Wish
 wish_named p =
     if bytes_eq p.0 (codes "solve") then Some (to_solve (settings_of p.1) (is_flagged (codes "rest") p.1))
-    else (if bytes_eq p.0 (codes "check") then Some (to_check (number_of (codes "workers") p.1)) else None)
+    else (if bytes_eq p.0 (codes "check") then Some (to_check (number_of (codes "workers") p.1) (text_of (codes "problem") p.1)) else None)
 
 -- A wish stands where clap found no fault.
 abbrev pub unless_faulty : Kinds → Option Wish → Option Wish

@@ -36,6 +36,14 @@ rows_option = number_option (codes "rows") LEAST_ROWS MOST_ROWS (codes "16384")
 abbrev pub shards_option : Rule
 shards_option = number_option (codes "shards") 1 MOST_SHARDS (codes "16")
 
+-- The option `--problem SFEN` takes any text, and has no default.
+abbrev pub problem_option : Rule
+problem_option = record (new_rule (codes "problem")) {
+  long = Some (codes "problem");
+  action = Some Set;
+  value_names = 1;
+}
+
 -- The flag `--rest` takes no value.
 abbrev pub rest_flag : Rule
 rest_flag = record (new_rule (codes "rest")) {
@@ -55,9 +63,9 @@ solve_line = with_rule
     shards_option)
     rest_flag
 
--- `check` has the workers alone.
+-- `check` has the workers and the problem.
 abbrev pub check_line : App
-check_line = with_rule (new_app (codes "check")) workers_option
+check_line = with_rule (with_rule (new_app (codes "check")) workers_option) problem_option
 
 -- The program wants one of its two commands, and shows its help where there are no words.
 abbrev pub bare_line : App

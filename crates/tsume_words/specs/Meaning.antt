@@ -1,5 +1,5 @@
 -- What the words of the command line mean: what clap gives for them, where it passes the three tests after it.
-use Rattle.std.specs.Prelude.{◌≡◌, ◌<◌, ℕ, Result, Ok, Err, String, map, string_bytes, ◌&&◌, Bool, List, Option, Some, None, option_and_then}
+use Rattle.std.specs.Prelude.{◌≡◌, ◌<◌, ℕ, Result, Ok, Err, String, map, string_bytes, ◌&&◌, Bool, List, Option, Some, None, option_and_then, option_map}
 use Rattle.std.specs.Prelude.{if◌then◌else◌, nat_le, IsSomeAnd, ⊤}
 use Rattle.std.specs.Int.{IsPowerOfTwo, is_power_of_two}
 use Rattle.clap.specs.Words.{Text}
@@ -21,7 +21,7 @@ are_sound n = is_power_of_two n.rows && (is_power_of_two n.shards && nat_le n.sh
 -- A wish to solve stands where its numbers are sound, a wish to check always.
 abbrev pub sound_wish : Wish → Option Wish
 sound_wish (to_solve settings rest) = if are_sound settings then Some (to_solve settings rest) else None
-sound_wish (to_check workers) = Some (to_check workers)
+sound_wish (to_check workers problem) = Some (to_check workers problem)
 
 -- What the words ask for: none where clap refuses them or one of the three tests after it fails.
 abbrev pub command_of : List Text → Option Wish
@@ -40,12 +40,12 @@ settings_in s = record {
 -- What a command asks for.
 abbrev pub wish_of : Command → Wish
 wish_of (Solve settings rest) = to_solve (settings_in settings) rest
-wish_of (Check workers) = to_check workers
+wish_of (Check workers problem) = to_check workers (option_map string_bytes problem)
 
 -- By how many workers a command is to be done.
 abbrev pub workers_of : Command → ℕ
 workers_of (Solve settings rest) = settings.workers
-workers_of (Check workers) = workers
+workers_of (Check workers problem) = workers
 
 -- The numbers fail this test and pass those before it: the rows are a power of two, then the shards, and then there are
 -- no more shards than rows.
@@ -58,17 +58,18 @@ FailFirst (Clap text) n = ⊥
 -- The wish is to solve with numbers of which this test is the first to fail.
 abbrev pub IsStoppedBy : WordFault → Wish → Type 0
 IsStoppedBy fault (to_solve settings rest) = FailFirst fault settings
-IsStoppedBy fault (to_check workers) = ⊥
+IsStoppedBy fault (to_check workers problem) = ⊥
 
 -- Clap takes the words, and this test after it is the first to fail.
 abbrev pub FailsFirst : List Text → WordFault → Type 0
 FailsFirst words fault = IsSomeAnd (given_of words) (IsStoppedBy fault)
 
--- The outcome for a wish that clap gave: the command, where its numbers are sound, or else the first test that fails.
+-- The outcome for a wish that clap gave: the command, where its numbers are sound, or else the first test that fails. Want of
+-- memory is free.
 abbrev pub IsOutcomeFor : Wish → Result Command WordsEnd → Type 0
 IsOutcomeFor wish (Ok command) = sound_wish wish ≡ Some (wish_of command)
 IsOutcomeFor wish (Err (Fault fault)) = IsStoppedBy fault wish
-IsOutcomeFor wish (Err NoMemory) = ⊥
+IsOutcomeFor wish (Err NoMemory) = ⊤
 
 -- The text that an error of clap becomes, or want of memory.
 abbrev pub IsClapsOrMemory : WordsEnd → Type 0

@@ -2,11 +2,15 @@
 use crate::Settings;
 
 /// What the words of the command line ask for.
-#[derive(Clone, Copy, Debug, PartialEq, Eq)]
+#[derive(Debug, Drop)]
 pub enum Command {
     /// Solve the problem on standard input. With `rest` the defender is first given all pieces but kings that are neither on
     /// the board nor in a hand.
     Solve { settings: Settings, rest: bool },
-    /// Check the certificate on standard input, by this many threads; from the words come 1 to 64.
-    Check { workers: u32 },
+    /// Check the certificate on standard input, by this many threads; from the words come 1 to 64. With a `problem` (its SFEN, as
+    /// the words have it) the certificate has to be for that one.
+    Check {
+        workers: u32,
+        problem: Option<String>,
+    },
 }

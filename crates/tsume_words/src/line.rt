@@ -2,7 +2,7 @@
 ghost use Rattle.std.specs.Prelude.{◌≡◌, IfOk, false};
 ghost use Rattle.clap.specs.Words.{app_of, rule_of};
 ghost use Rattle.clap.specs.declared.builder.command.Command.TheViews.{out-Command as fields_of};
-ghost use Rattle.tsume_words.specs.Line.{number_option, workers_option, expansions_option, room_option, rows_option, shards_option, rest_flag, solve_line};
+ghost use Rattle.tsume_words.specs.Line.{number_option, workers_option, expansions_option, room_option, rows_option, shards_option, problem_option, rest_flag, solve_line};
 ghost use Rattle.tsume_words.specs.Line.{check_line, tsume_line};
 
 use crate::settings::{LEAST_ROWS, MOST_ROOM, MOST_ROWS, MOST_SHARDS, MOST_WORKERS};
@@ -96,6 +96,17 @@ fn shards_option<'a>(alloc: Global) -> Arg<'a>
     )
 }
 
+fn problem_option<'a>(alloc: Global) -> Arg<'a>
+    ensures rule { rule_of result ≡ problem_option }
+    ensures local { result.global ≡ false }
+{
+    Arg::new(alloc, "problem")
+        .long("problem")
+        .action(ArgAction::Set)
+        .value_name("SFEN")
+        .help("The problem that the certificate has to be for, as `solve` reads it (its own if not given)")
+}
+
 fn rest_flag<'a>(alloc: Global) -> Arg<'a>
     ensures rule { rule_of result ≡ rest_flag }
     ensures local { result.global ≡ false }
@@ -133,7 +144,6 @@ fn check_command<'a>(alloc: Global) -> Result<Command<'a>, AllocError>
     ensures app { IfOk result (λ command. app_of command ≡ check_line) }
     ensures local { IfOk result (λ command. (fields_of command).has_globals ≡ false) }
 {
-    let workers = workers_option(alloc, "Threads that check (1 to 64)");
     Command::new(alloc, "check")
         .about(
             "Reads what `solve` printed, or a certificate alone, from standard input and prints whether it proves its \
@@ -143,7 +153,8 @@ fn check_command<'a>(alloc: Global) -> Result<Command<'a>, AllocError>
             "Today's check runs on one thread: --workers is checked and not used yet.\n\nExample:\n  tsume solve < \
              problem.sfen | tsume check",
         )
-        .arg(workers)
+        .arg(workers_option(alloc, "Threads that check (1 to 64)"))?
+        .arg(problem_option(alloc))
 }
 
 /// The command line of the program.

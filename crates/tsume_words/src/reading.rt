@@ -1,11 +1,11 @@
 // The reading of the words.
-ghost use Rattle.std.specs.Prelude.{◌≡◌, ◌⊎◌, ◌↔◌, IfOk, IfErr, IsOkAnd, IsSomeAnd, IsTrue, codes, map};
+ghost use Rattle.std.specs.Prelude.{◌≡◌, ◌⊎◌, ◌↔◌, IfOk, IfErr, IsOkAnd, IsSomeAnd, IsTrue, codes, map, option_map, string_bytes};
 ghost use Rattle.std.specs.Prelude.{option_and_then};
 ghost use Rattle.std.specs.Int.{IsPowerOfTwo, is_power_of_two};
 ghost use Rattle.clap.specs.Words.{found_of, kind_of, rows_of, subcommand_rows_of};
 ghost use Rattle.tsume_words.specs.Given.{HasFlag, HasNumber, IsForCommand, IsForSolve, IsNumberGiven, Wish};
-ghost use Rattle.tsume_words.specs.Given.{all_words, is_flagged, number_of, settings_of, wish_named};
-ghost use Rattle.tsume_words.specs.Given.Wish.{to_solve};
+ghost use Rattle.tsume_words.specs.Given.{all_words, is_flagged, number_of, settings_of, text_of, wish_named};
+ghost use Rattle.tsume_words.specs.Given.Wish.{to_solve, to_check};
 ghost use Rattle.tsume_words.specs.Meaning.{IsOutcomeFor, FailsFirst, IsClapsOrMemory, IsRefusalOf, command_of};
 ghost use Rattle.tsume_words.specs.Meaning.{texts_of, wish_of, workers_of};
 ghost use Rattle.tsume_words.specs.Sizes.{IsFromTo};
@@ -44,7 +44,7 @@ pub fn read_words(alloc: Global, words: Vec<String>) -> Result<Command, WordsEnd
 {
     let texts = with_program(alloc, &words)?;
     match command_line(alloc)?.try_get_matches_from(texts.as_slice()) {
-        Ok(matches) => asked(&matches),
+        Ok(matches) => asked(alloc, &matches),
         Err(error) => Err(refusal(alloc, &error)),
     }
 }
@@ -75,7 +75,7 @@ fn refusal(alloc: Global, error: &clap::Error) -> WordsEnd
 }
 
 // The command that clap found, tested.
-fn asked(matches: &ArgMatches<'_>) -> Result<Command, WordsEnd>
+fn asked(alloc: Global, matches: &ArgMatches<'_>) -> Result<Command, WordsEnd>
     requires { IsSomeAnd (subcommand_rows_of matches.now) IsForCommand }
     ensures outcome { IsSomeAnd (option_and_then wish_named (subcommand_rows_of matches.now))
         (λ wish. IsOutcomeFor wish result) }
@@ -83,9 +83,7 @@ fn asked(matches: &ArgMatches<'_>) -> Result<Command, WordsEnd>
 {
     match matches.subcommand_matches("solve") {
         Some(given) => solve(given),
-        None => Ok(Command::Check {
-            workers: workers(matches.subcommand_matches("check").unwrap()),
-        }),
+        None => check(alloc, matches.subcommand_matches("check").unwrap()),
     }
 }
 
@@ -129,12 +127,34 @@ fn is_rest(given: &ArgMatches<'_>) -> bool
     given.get_flag("rest")
 }
 
+// The text that clap gives for the option of this name.
+fn text(alloc: Global, given: &ArgMatches<'_>, name: &str) -> Result<Option<String>, AllocError>
+    ensures { IfOk result (λ text. option_map string_bytes text ≡ text_of name.now (rows_of (found_of given.now))) }
+{
+    match given.get_str(name) {
+        Some(text) => Ok(Some(String::from_str(alloc, text)?)),
+        None => Ok(None),
+    }
+}
+
 // Whether a number is a power of two.
 fn is_power_of_two(number: u64) -> bool
     ensures test { result ≡ is_power_of_two number }
     ensures fact { IsTrue result ↔ IsPowerOfTwo number }
 {
     number.is_power_of_two()
+}
+
+// What clap gives for `check`.
+fn check(alloc: Global, given: &ArgMatches<'_>) -> Result<Command, WordsEnd>
+    requires { HasNumber (codes "workers") 1 MOST_WORKERS (rows_of (found_of given.now)) }
+    ensures outcome { let found = rows_of (found_of given.now) in
+        IsOutcomeFor (to_check (number_of (codes "workers") found) (text_of (codes "problem") found)) result }
+    ensures workers { IfOk result (λ command. IsFromTo 1 MOST_WORKERS (workers_of command)) }
+{
+    let workers = workers(given);
+    let problem = text(alloc, given, "problem")?;
+    Ok(Command::Check { workers, problem })
 }
 
 // What clap gives for `solve`, tested.

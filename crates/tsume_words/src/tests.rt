@@ -4,7 +4,7 @@ use std::alloc::{AllocError, Global};
 use std::test::Fail;
 
 // A line, and what it asks for: the numbers in the order of the settings and whether `--rest` stands, or the workers.
-static ASKED: [(&str, &str); 20] = [
+static ASKED: [(&str, &str); 21] = [
     ("solve", "solve 1 1000000 1048576 16384 16 false"),
     ("solve --rest", "solve 1 1000000 1048576 16384 16 true"),
     (
@@ -49,6 +49,7 @@ static ASKED: [(&str, &str); 20] = [
     ),
     ("check", "check 1"),
     ("check --workers 3", "check 3"),
+    ("check --problem 4k4/9 --workers 2", "check 2 4k4/9"),
     ("solve --rows 24", "rows is no power of two"),
     ("solve --rows 1000 --shards 3", "rows is no power of two"),
     ("solve --shards 24", "shards is no power of two"),
@@ -164,7 +165,10 @@ fn meaning(alloc: Global, line: &str) -> Result<String, AllocError> {
             let expansions = expansions.count;
             format!(in alloc; "solve {workers} {expansions} {room} {rows} {shards} {rest}")
         }
-        Ok(Command::Check { workers }) => format!(in alloc; "check {workers}"),
+        Ok(Command::Check { workers, problem }) => match problem {
+            Some(problem) => format!(in alloc; "check {workers} {problem}"),
+            None => format!(in alloc; "check {workers}"),
+        },
         Err(WordsEnd::Fault(fault)) => format!(in alloc; "{fault}"),
         Err(WordsEnd::NoMemory) => format!(in alloc; "out of memory"),
     }
