@@ -7,16 +7,16 @@ use Rattle.clap.specs.Walk.{Row, Text}
 use Rattle.clap.specs.Kinds.{IsAmong, Kinds}
 use Rattle.clap.specs.declared.error.kind.ErrorKind.{ErrorKind}
 use Rattle.clap.specs.Simple.{subcommand_of}
-use Rattle.tsume_words.specs.Given.{IsForCommand, IsTakenByClap, SettingsView, Wish, all_words, clap_faults, given_of, unless_faulty, wish_named}
+use Rattle.tsume_words.specs.Given.{AsksForHelp, IsForCommand, IsTakenByClap, MayAskForHelp, SettingsView, Wish, all_words, clap_faults, given_of, unless_faulty, wish_named}
 use Rattle.tsume_words.specs.Given.Wish.{to_solve, to_check}
 use Rattle.tsume_words.specs.Line.{tsume_line}
-use Rattle.tsume_words.specs.Meaning.{IsOutcomeFor, FailFirst, FailsFirst, IsClapsOrMemory, IsStoppedBy, IsRefusalOf, are_sound, command_of, sound_wish, wish_of}
+use Rattle.tsume_words.specs.Meaning.{IsOutcomeFor, FailFirst, FailsFirst, IsClapsEnd, IsEndFor, IsHelp, IsStoppedBy, IsRefusalOf, are_sound, command_of, sound_wish, wish_of}
 use Rattle.tsume_words.specs.declared.command.Command.{Command}
 use Rattle.tsume_words.specs.declared.faults.Size.TheVariants.{Rows, Shards}
 use Rattle.tsume_words.specs.declared.faults.WordFault.{WordFault}
 use Rattle.tsume_words.specs.declared.faults.WordFault.TheVariants.{Clap, NotPowerOfTwo, MoreShardsThanRows}
 use Rattle.tsume_words.specs.declared.faults.WordsEnd.{WordsEnd}
-use Rattle.tsume_words.specs.declared.faults.WordsEnd.TheVariants.{Fault, NoMemory}
+use Rattle.tsume_words.specs.declared.faults.WordsEnd.TheVariants.{Help, Fault, NoMemory}
 use Rattle.tsume_words.proofs.Powers.{power-ones}
 use Rattle.tsume_words.proofs.Taken.{taken_gives}
 
@@ -34,6 +34,11 @@ pub command_where_taken : (words : List Text) (o : Option (Text × List Row)) �
 command_where_taken words o taken is =
     let got = taken_gives words taken in
     subst (λ (q : Option (Text × List Row)). IsSomeAnd q IsForCommand) (sym (is ∙ got.1)) got.2
+
+-- an error of clap's says that clap finds a fault
+pub fault_there : (kinds : Kinds) (k : ErrorKind) → IsAmong k kinds → kinds ≡ [] → ⊥
+fault_there [] k among e = among
+fault_there (x ∷ xs) k among e = absurd cc
 
 -- sound numbers pass each test
 sound_parts : (n : SettingsView) → are_sound n ≡ true → IsPowerOfTwo n.rows × IsPowerOfTwo n.shards × (n.rows < n.shards → ⊥)
@@ -82,40 +87,48 @@ one_stop f g (to_solve n rest) a b = one_first f g n a b
 -- all that the reading of the words promises
 pub record Promises (words : List Text) (r : Result Command WordsEnd) : Type 0 where
   pub command : IfOk r (λ command. command_of words ≡ Some (wish_of command))
-  pub refused : IfErr r (IsRefusalOf words)
+  pub ended : IfErr r (IsEndFor words)
+  pub help : AsksForHelp words → IsHelp r ⊎ (r ≡ Err NoMemory)
   pub stopped : (fault : WordFault) → FailsFirst words fault → (r ≡ Err (Fault fault)) ⊎ (r ≡ Err NoMemory)
   pub complete : (wish : Wish) → command_of words ≡ Some wish → IsOkAnd r (λ command. wish_of command ≡ wish) ⊎ (r ≡ Err NoMemory)
 
 -- want of memory keeps them
 pub promised_by_memory : (words : List Text) → Promises words (Err NoMemory)
-promised_by_memory words = record { command = tt; refused = tt; stopped = λ f h. inr refl; complete = λ w e. inr refl }
+promised_by_memory words = record { command = tt; ended = tt; help = λ asks. inr refl; stopped = λ f h. inr refl; complete = λ w e. inr refl }
 
 same_wish : (a b : Wish) → Some a ≡ Some b → a ≡ b
 same_wish a b e = cc
 
+-- words that clap takes ask for no help
+asks_nothing : (words : List Text) → IsTakenByClap words → AsksForHelp words → ⊥
+asks_nothing words taken asks = fault_there (clap_faults words) asks.may.0 asks.may.1 taken
+
 -- an outcome for what clap gave keeps them
-pub promised_by_outcome : (words : List Text) (r : Result Command WordsEnd) → IsSomeAnd (given_of words) (λ wish. IsOutcomeFor wish r) → Promises words r
-promised_by_outcome words r h = go (given_of words) refl h
+pub promised_by_outcome : (words : List Text) (r : Result Command WordsEnd) → IsTakenByClap words → IsSomeAnd (given_of words) (λ wish. IsOutcomeFor wish r) → Promises words r
+promised_by_outcome words r taken h = go (given_of words) refl h
   where
     with : (w : Wish) (r : Result Command WordsEnd) → given_of words ≡ Some w → IsOutcomeFor w r → Promises words r
     with w (Ok c) is a =
         let means : command_of words ≡ Some (wish_of c) = ap (option_and_then sound_wish) is ∙ a in
         record {
           command = means;
-          refused = tt;
+          ended = tt;
+          help = λ asks. absurd (asks_nothing words taken asks);
           stopped = λ f fails. absurd (stopped_none f w (wish_of c) (subst (λ (o : Option Wish). IsSomeAnd o (IsStoppedBy f)) is fails) a);
           complete = λ v e. inl (same_wish _ _ (sym means ∙ e));
         }
     with w (Err NoMemory) is a = promised_by_memory words
+    with w (Err (Help text)) is a = absurd a
     with w (Err (Fault g)) is a = record {
       command = tt;
-      refused = refuses g (subst (λ (o : Option Wish). IsSomeAnd o (IsStoppedBy g)) (sym is) a);
+      help = λ asks. absurd (asks_nothing words taken asks);
+      ended = refuses g (subst (λ (o : Option Wish). IsSomeAnd o (IsStoppedBy g)) (sym is) a);
       stopped = λ f fails. inl (ap (λ x. Err (Fault x)) (one_stop f g w (subst (λ (o : Option Wish). IsSomeAnd o (IsStoppedBy f)) is fails) a));
       complete = λ v e. absurd (stopped_none g w v a (sym (ap (option_and_then sound_wish) is) ∙ e));
     }
       where
-        refuses : (g : WordFault) → FailsFirst words g → IsRefusalOf words (Fault g)
-        refuses (Clap text) fails = λ taken. by_clap (given_of words) fails
+        refuses : (g : WordFault) → FailsFirst words g → IsRefusalOf words g
+        refuses (Clap text) fails = absurd (by_clap (given_of words) fails)
           where
             by_clap : (o : Option Wish) → IsSomeAnd o (IsStoppedBy (Clap text)) → ⊥
             by_clap None x = x
@@ -128,27 +141,32 @@ promised_by_outcome words r h = go (given_of words) refl h
     go None is h = absurd h
     go (Some w) is h = with w r is h
 
--- a refusal of clap's keeps them
-pub promised_by_clap : (words : List Text) (e : WordsEnd) → IsClapsOrMemory e → (e ≡ NoMemory) ⊎ (IsTakenByClap words → ⊥) → Promises words (Err e)
-promised_by_clap words e claps (inl is) = subst (λ (x : WordsEnd). Promises words (Err x)) (sym is) (promised_by_memory words)
-promised_by_clap words NoMemory claps (inr h) = promised_by_memory words
-promised_by_clap words (Fault (NotPowerOfTwo size)) claps (inr h) = absurd claps
-promised_by_clap words (Fault MoreShardsThanRows) claps (inr h) = absurd claps
-promised_by_clap words (Fault (Clap text)) claps (inr h) = record {
-  command = tt;
-  refused = h;
-  stopped = λ f fails. absurd (none (λ o. IsSomeAnd o (IsStoppedBy f)) (λ x. x) fails);
-  complete = λ v e. absurd (none (λ o. option_and_then sound_wish o ≡ Some v) (λ x. absurd cc) e);
-}
+-- words that clap doesn't take ask for no command
+no_command : (words : List Text) (P : Option Wish → Type 0) → (IsTakenByClap words → ⊥) → (P None → ⊥) → P (given_of words) → ⊥
+no_command words P untaken bare p = go (clap_faults words) refl p
   where
-    none : (P : Option Wish → Type 0) → (P None → ⊥) → P (given_of words) → ⊥
-    none P bare p = go (clap_faults words) refl p
-      where
-        go : (k : Kinds) → clap_faults words ≡ k → P (unless_faulty k (option_and_then wish_named (subcommand_of tsume_line (all_words words)))) → ⊥
-        go [] is p = h is
-        go (x ∷ xs) is p = bare p
+    go : (k : Kinds) → clap_faults words ≡ k → P (unless_faulty k (option_and_then wish_named (subcommand_of tsume_line (all_words words)))) → ⊥
+    go [] is p = untaken is
+    go (x ∷ xs) is p = bare p
 
--- an error of clap's says that clap finds a fault, or that memory is wanting
-pub fault_there : (kinds : Kinds) (k : ErrorKind) → IsAmong k kinds → kinds ≡ [] → ⊥
-fault_there [] k among e = among
-fault_there (x ∷ xs) k among e = absurd cc
+-- an end that clap's error became keeps them
+pub promised_by_clap : (words : List Text) (e : WordsEnd) (kind : ErrorKind) → IsClapsEnd kind e → (e ≡ NoMemory) ⊎ IsAmong kind (clap_faults words)
+    → Promises words (Err e)
+promised_by_clap words e kind claps (inl is) = subst (λ (x : WordsEnd). Promises words (Err x)) (sym is) (promised_by_memory words)
+promised_by_clap words NoMemory kind claps (inr among) = promised_by_memory words
+promised_by_clap words (Fault (NotPowerOfTwo size)) kind claps (inr among) = absurd claps
+promised_by_clap words (Fault MoreShardsThanRows) kind claps (inr among) = absurd claps
+promised_by_clap words (Fault (Clap text)) kind claps (inr among) = record {
+  command = tt;
+  ended = (kind, among, claps);
+  help = λ asks. absurd (asks.not_refused (kind, among, claps));
+  stopped = λ f fails. absurd (no_command words (λ o. IsSomeAnd o (IsStoppedBy f)) (fault_there _ _ among) (λ x. x) fails);
+  complete = λ v e. absurd (no_command words (λ o. option_and_then sound_wish o ≡ Some v) (fault_there _ _ among) (λ x. absurd cc) e);
+}
+promised_by_clap words (Help text) kind claps (inr among) = record {
+  command = tt;
+  ended = (kind, among, claps);
+  help = λ asks. inl tt;
+  stopped = λ f fails. absurd (no_command words (λ o. IsSomeAnd o (IsStoppedBy f)) (fault_there _ _ among) (λ x. x) fails);
+  complete = λ v e. absurd (no_command words (λ o. option_and_then sound_wish o ≡ Some v) (fault_there _ _ among) (λ x. absurd cc) e);
+}

@@ -1,6 +1,6 @@
 -- What clap gives where it takes the words: one of the two commands, with each number in its range.
 use Rattle.std.proofs.Common.{◌≡◌, ◌∙◌, ◌&&◌, ◌||◌, not, inl, inr, ℕ, Bool, true, false, List, [], ◌∷◌, Option, Some, None, refl, sym, ap, subst, is_some, codes}
-use Rattle.std.specs.Prelude.{slice_get, unwrap_or, IsSomeAnd, find, option_map}
+use Rattle.std.specs.Prelude.{slice_get, unwrap_or, IsSomeAnd, find, option_map, if◌then◌else◌}
 use Rattle.std.specs.Option.{option_map_or}
 use Rattle.std.specs.List.{list_any}
 use Rattle.std.specs.Str.{bytes_eq}
@@ -19,6 +19,7 @@ use Rattle.clap.specs.Walk.{Row, Rule, Text, answers_to, finished, is_empty, not
 use Rattle.clap.proofs.OnLiterals.{clap_on_literals}
 use Rattle.tsume_words.specs.declared.settings.TheConstants.{MOST_WORKERS, MOST_ROOM, LEAST_ROWS, MOST_ROWS, MOST_SHARDS}
 use Rattle.search_gate.specs.declared.expansions.TheConstants.{MOST_EXPANSIONS}
+use Rattle.tsume_words.proofs.NoHelp.{IsNotHelp, walk_not_help}
 use Rattle.tsume_words.proofs.Rows.{Each, each_found, HasRowIfDefault, IsFirst, RowIsRight, keeps_values, level_each, one_value, or_else_nil, rows_made}
 use Rattle.tsume_words.specs.Given.{HasFlag, HasNumber, IsForCommand, IsForSolve, IsTakenByClap, all_words}
 use Rattle.tsume_words.specs.Line.{tsume_line}
@@ -36,14 +37,15 @@ abbrev check_shape : Shape
 check_shape = unwrap_or (slice_get (built tsume_line).subs 1) (built tsume_line).top
 
 -- what holds of the subcommand that is entered without a fault
-pub record IsEntered (s : Shape) (p : Text × List Row) (words : List Text) : Type 0 where
+pub record IsEntered (s : Shape) (p : Text × List Row) (stop : Option (Text × List Text)) (word : Text) (words : List Text) : Type 0 where
+  pub stopped : stop ≡ Some (word, words)
   pub name : p.0 ≡ s.name
   pub rows : p.1 ≡ rows_after s.rules [] words
   pub faultless : level_fault s [] nothing_held words false [] ≡ []
 
 -- an entered subcommand is one of those, and found no fault
 entered_is : (a : App) (stop : Option (Text × List Text)) (p : Text × List Row) → entered_fault a stop ≡ [] → entered a stop ≡ Some p
-    → (s : Shape) × (word : Text) × (words : List Text) × (find (λ s. answers_to word (label_of s)) a.subs ≡ Some s) × IsEntered s p words
+    → (s : Shape) × (word : Text) × (words : List Text) × (find (λ s. answers_to word (label_of s)) a.subs ≡ Some s) × IsEntered s p stop word words
 entered_is a None p e found = absurd cc
 entered_is a (Some q) p e found = go (find (λ s. answers_to q.0 (label_of s)) a.subs) refl e found
   where
@@ -53,11 +55,11 @@ entered_is a (Some q) p e found = go (find (λ s. answers_to q.0 (label_of s)) a
     go : (o : Option Shape) → find (λ s. answers_to q.0 (label_of s)) a.subs ≡ o
         → option_map_or (λ s. level_fault s [] nothing_held q.1 false []) o [] ≡ []
         → option_map (λ s. rows_at s q.1) o ≡ Some p
-        → (s : Shape) × (word : Text) × (words : List Text) × (find (λ s. answers_to word (label_of s)) a.subs ≡ Some s) × IsEntered s p words
+        → (s : Shape) × (word : Text) × (words : List Text) × (find (λ s. answers_to word (label_of s)) a.subs ≡ Some s) × IsEntered s p (Some q) word words
     go None is e found = absurd cc
     go (Some s) is e found =
         let same = parts (rows_at s q.1) p found in
-        (s, q.0, q.1, is, record { name = ap (λ r. r.0) same; rows = ap (λ r. r.1) same; faultless = e })
+        (s, q.0, q.1, is, record { stopped = refl; name = ap (λ r. r.0) same; rows = ap (λ r. r.1) same; faultless = e })
 
 no_want : (help want missing : Bool) → want ≡ true → check_kinds help want missing ≡ [] → ⊥
 no_want true want missing is e = cc
@@ -115,7 +117,7 @@ GivesIfFaultless s = (words : List Text) → level_fault s [] nothing_held words
 -- the rules of the two commands are each the first of its id
 firsts : Each (λ s. Each (IsFirst s.rules) s.rules) (built tsume_line).subs
 unfolding tsume_line
-firsts = ((refl, (refl, (refl, (refl, (refl, (refl, (refl, tt))))))), ((refl, (refl, (refl, tt))), tt))
+firsts = ((refl, (refl, (refl, (refl, (refl, (refl, (refl, tt))))))), ((refl, (refl, (refl, tt))), ((refl, tt), tt)))
 
 solve_given : (words : List Text) → Each (GivesValue (rows_after solve_shape.rules [] words)) solve_shape.rules → IsForSolve (rows_after solve_shape.rules [] words)
 unfolding tsume_line
@@ -133,45 +135,84 @@ check_given : (words : List Text) → Each (GivesValue (rows_after check_shape.r
 unfolding tsume_line
 check_given words all = number_given _ 1 MOST_WORKERS _ all.0 refl refl refl
 
-each_command : Each GivesIfFaultless (built tsume_line).subs
+-- a subcommand that a word names, and that isn't `help`, gives what a command gives
+abbrev GivesIfNamed : Shape → Type 0
+GivesIfNamed s = (word : Text) → answers_to word (label_of s) ≡ true → bytes_eq word (codes "help") ≡ false → GivesIfFaultless s
+
+-- the subcommand `help` is named by that word alone
+help_alone : (word : Text) → answers_to word (codes "help", []) ≡ true → bytes_eq word (codes "help") ≡ false → ⊥
+help_alone word answers other = go (bytes_eq (codes "help") word) refl answers
+  where
+    go : (b : Bool) → bytes_eq (codes "help") word ≡ b → (b || false) ≡ true → ⊥
+    go false is e = absurd cc
+    go true is e =
+        let same = (bytes_eq-Decides (codes "help") word).0 is in
+        let yes : bytes_eq word (codes "help") ≡ true = (bytes_eq-Decides word (codes "help")).1 (sym same) in
+        absurd cc
+
+each_command : Each GivesIfNamed (built tsume_line).subs
 unfolding tsume_line
 each_command = (
-  λ words e. inl (refl, solve_given words (level_gives solve_shape words firsts.0 e)),
-  (λ words e. inr (refl, check_given words (level_gives check_shape words firsts.1.0 e)), tt),
+  λ word answers other words e. inl (refl, solve_given words (level_gives solve_shape words firsts.0 e)),
+  (
+    λ word answers other words e. inr (refl, check_given words (level_gives check_shape words firsts.1.0 e)),
+    (λ word answers other words e. absurd (help_alone word answers other), tt),
+  ),
 )
+
+helps : (built tsume_line).top.disable_help_subcommand ≡ false
+unfolding tsume_line
+helps = refl
+
+-- what a search finds passes its test
+found_passes : {X : Type 0} (test : X → Bool) (xs : List X) (x : X) → find test xs ≡ Some x → test x ≡ true
+found_passes test [] x e = absurd cc
+found_passes test (y ∷ ys) x e = go (test y) refl (found_passes test ys x) e
+  where
+    go : (b : Bool) → test y ≡ b → (find test ys ≡ Some x → test x ≡ true) → (if b then Some y else find test ys) ≡ Some x → test x ≡ true
+    go true is more e =
+        let same : y ≡ x = cc in
+        subst (λ z. test z ≡ true) same is
+    go false is more e = more e
 
 wants : (built tsume_line).top.subcommand_required ≡ true
 unfolding tsume_line
 wants = refl
 
 -- a command that wants a subcommand and finds no fault gives what one of its subcommands gives
-faultless : (a : App) (words : List Text) → a.top.subcommand_required ≡ true → Each GivesIfFaultless a.subs → built_fault a nothing_held words ≡ []
+faultless : (a : App) (words : List Text) → a.top.subcommand_required ≡ true → a.top.disable_help_subcommand ≡ false → Each GivesIfNamed a.subs → built_fault a nothing_held words ≡ []
     → (p : Text × List Row) × (entered a (walk a.top.rules (names_of a) nothing_held words).stopped ≡ Some p) × IsForCommand p
-faultless a words want each e =
+faultless a words want helped each e =
     let end = (walk a.top.rules (names_of a) nothing_held words).held in
     let stop = (walk a.top.rules (names_of a) nothing_held words).stopped in
     let past_walk = or_else_nil (walk_fault a.top (names_of a) (walk_from nothing_held) words) _ e in
     let past_sub = or_else_nil (entered_fault a stop) _ past_walk.1 in
     let past_settle = or_else_nil (settle_fault a.top.rules a.top.args_override_self end) _ past_sub.1 in
     let past_defaults = or_else_nil (defaults_fault (settled a.top.rules end).rows a.top.rules) _ past_settle.1 in
-    go stop past_sub.0 (entered a stop) refl (wanted a.top (finished a.top.rules end) (is_some (entered a stop)) want past_defaults.1)
+    let not_help = walk_not_help a.top (names_of a) (walk_from nothing_held) words helped past_walk.0 tt in
+    go stop not_help past_sub.0 (entered a stop) refl (wanted a.top (finished a.top.rules end) (is_some (entered a stop)) want past_defaults.1)
   where
     pair : (name : Text) (rows : List Row) (p : Text × List Row) → p.0 ≡ name → p.1 ≡ rows → (name, rows) ≡ p
     pair name rows p e f = λ i. (sym e i, sym f i)
 
-    go : (stop : Option (Text × List Text)) → entered_fault a stop ≡ [] → (o : Option (Text × List Row)) → entered a stop ≡ o → is_some o ≡ true
+    other : (stop : Option (Text × List Text)) (word : Text) (words : List Text) → stop ≡ Some (word, words) → IsNotHelp stop → bytes_eq word (codes "help") ≡ false
+    other None word words is not_help = absurd cc
+    other (Some p) word words is not_help = let same : p.0 ≡ word = cc in subst (λ w. bytes_eq w (codes "help") ≡ false) same not_help
+
+    go : (stop : Option (Text × List Text)) → IsNotHelp stop → entered_fault a stop ≡ [] → (o : Option (Text × List Row)) → entered a stop ≡ o → is_some o ≡ true
         → (p : Text × List Row) × (entered a stop ≡ Some p) × IsForCommand p
-    go stop e None is some = absurd cc
-    go stop e (Some p) is some =
+    go stop not_help e None is some = absurd cc
+    go stop not_help e (Some p) is some =
         let got = entered_is a stop p e is in
-        let gives : GivesIfFaultless got.0 = each_found GivesIfFaultless (λ s. answers_to got.1 (label_of s)) a.subs got.0 each got.3 in
-        let given = gives got.2 got.4.faultless in
+        let gives : GivesIfNamed got.0 = each_found GivesIfNamed (λ s. answers_to got.1 (label_of s)) a.subs got.0 each got.3 in
+        let answers = found_passes (λ s. answers_to got.1 (label_of s)) a.subs got.0 got.3 in
+        let given = gives got.1 answers (other stop got.1 got.2 got.4.stopped not_help) got.2 got.4.faultless in
         (p, is, subst IsForCommand (pair _ _ p got.4.name got.4.rows) given)
 
 -- where clap takes the words it gives one of the two commands
 pub taken_gives : (words : List Text) → IsTakenByClap words
     → (p : Text × List Row) × (subcommand_of tsume_line (all_words words) ≡ Some p) × IsForCommand p
-taken_gives words taken = faultless (built tsume_line) (argument_words tsume_line (all_words words)) wants each_command taken
+taken_gives words taken = faultless (built tsume_line) (argument_words tsume_line (all_words words)) wants helps each_command taken
 
 pub is_simple_alone : is_simple tsume_line ≡ true
 unfolding tsume_line clap_on_literals

@@ -1,10 +1,12 @@
 -- What clap gives for the words of the command line, by its own meaning of the command.
-use Rattle.std.specs.Prelude.{◌≡◌, ◌<◌, ◌^◌, ℕ, Bool, false, List, [], ◌∷◌, Option, Some, None, codes}
+use Rattle.std.specs.Prelude.{◌≡◌, ◌<◌, ◌^◌, ℕ, Bool, true, false, List, [], ◌∷◌, Option, Some, None, codes}
 use Rattle.std.specs.Prelude.{◌⊎◌, IsSomeAnd, option_and_then, if◌then◌else◌}
 use Rattle.std.specs.Option.{option_map_or}
 use Rattle.std.specs.Str.{bytes_eq}
 use Rattle.std.specs.Str.Parse.{IsNumeral, digits_value, without_leading_plus}
-use Rattle.clap.specs.Kinds.{Kinds}
+use Rattle.clap.specs.Kinds.{IsAmong, Kinds}
+use Rattle.clap.specs.declared.error.kind.ErrorKind.{ErrorKind}
+use Rattle.clap.specs.declared.error.kind.ErrorKind.TheVariants.{DisplayHelp, DisplayVersion}
 use Rattle.clap.specs.Words.{IsUnsignedIn, Row, Text, fault_of, first_of, one_of, subcommand_of}
 use Rattle.tsume_words.specs.declared.settings.TheConstants.{MOST_WORKERS, MOST_ROOM, LEAST_ROWS, MOST_ROWS, MOST_SHARDS}
 use Rattle.search_gate.specs.declared.expansions.TheConstants.{MOST_EXPANSIONS}
@@ -21,6 +23,26 @@ clap_faults words = fault_of tsume_line (all_words words)
 -- Clap takes the words.
 abbrev pub IsTakenByClap : List Text → Type 0
 IsTakenByClap words = clap_faults words ≡ []
+
+-- A kind of clap's fault is a request: for help, or for the version.
+abbrev pub is_help : ErrorKind → Bool
+is_help DisplayHelp = true
+is_help DisplayVersion = true
+is_help other = false
+
+-- Clap's first fault may be a request for help or for the version: one of the kinds that clap names for it is. (Clap names one kind for
+-- each fault, but for the command `help` two: that request, or that what follows it is no command.)
+abbrev pub MayAskForHelp : List Text → Type 0
+MayAskForHelp words = (kind : ErrorKind) × IsAmong kind (clap_faults words) × (is_help kind ≡ true)
+
+-- Clap's first fault may be another: one of the kinds that clap names for it is no request.
+abbrev pub MayBeRefused : List Text → Type 0
+MayBeRefused words = (kind : ErrorKind) × IsAmong kind (clap_faults words) × (is_help kind ≡ false)
+
+-- Clap's first fault is a request for help or for the version.
+pub record AsksForHelp (words : List Text) : Type 0 where
+  pub may : MayAskForHelp words
+  pub not_refused : ¬ MayBeRefused words
 
 -- The number that clap gives for an option: the one that the option's first text writes.
 abbrev pub number_of : Text → List Row → ℕ

@@ -67,11 +67,11 @@ solve_line = with_rule
 abbrev pub check_line : App
 check_line = with_rule (with_rule (new_app (codes "check")) workers_option) problem_option
 
--- The program wants one of its two commands, and shows its help where there are no words.
+-- The program has a version, wants one of its two commands, and shows its help where there are no words.
 abbrev pub bare_line : App
 bare_line = let made = new_app (codes "tsume") in record made {
   top = record made.top {
-    disable_help_subcommand = true;
+    has_version = true;
     subcommand_required = true;
     arg_required_else_help = true;
   };

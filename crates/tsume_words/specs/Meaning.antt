@@ -1,9 +1,9 @@
 -- What the words of the command line mean: what clap gives for them, where it passes the three tests after it.
-use Rattle.std.specs.Prelude.{◌≡◌, ◌<◌, ℕ, Result, Ok, Err, String, map, string_bytes, ◌&&◌, Bool, List, Option, Some, None, option_and_then, option_map}
+use Rattle.std.specs.Prelude.{◌≡◌, ◌<◌, ℕ, Result, Ok, Err, String, map, string_bytes, ◌&&◌, Bool, true, false, List, Option, Some, None, option_and_then, option_map}
 use Rattle.std.specs.Prelude.{if◌then◌else◌, nat_le, IsSomeAnd, ⊤}
 use Rattle.std.specs.Int.{IsPowerOfTwo, is_power_of_two}
 use Rattle.clap.specs.Words.{Text}
-use Rattle.tsume_words.specs.Given.{SettingsView, Wish, given_of, IsTakenByClap}
+use Rattle.tsume_words.specs.Given.{SettingsView, Wish, given_of, is_help, MayAskForHelp, MayBeRefused}
 use Rattle.tsume_words.specs.Given.Wish.{to_solve, to_check}
 use Rattle.tsume_words.specs.declared.command.Command.{Command}
 use Rattle.tsume_words.specs.declared.command.Command.TheVariants.{Solve, Check}
@@ -11,7 +11,8 @@ use Rattle.tsume_words.specs.declared.faults.Size.TheVariants.{Rows, Shards}
 use Rattle.tsume_words.specs.declared.faults.WordFault.{WordFault}
 use Rattle.tsume_words.specs.declared.faults.WordFault.TheVariants.{Clap, NotPowerOfTwo, MoreShardsThanRows}
 use Rattle.tsume_words.specs.declared.faults.WordsEnd.{WordsEnd}
-use Rattle.tsume_words.specs.declared.faults.WordsEnd.TheVariants.{Fault, NoMemory}
+use Rattle.tsume_words.specs.declared.faults.WordsEnd.TheVariants.{Help, Fault, NoMemory}
+use Rattle.clap.specs.declared.error.kind.ErrorKind.{ErrorKind}
 use Rattle.tsume_words.specs.declared.settings.Settings.{Settings}
 
 -- The rows and the shards are powers of two, and there are no more shards than rows.
@@ -68,23 +69,37 @@ FailsFirst words fault = IsSomeAnd (given_of words) (IsStoppedBy fault)
 -- memory is free.
 abbrev pub IsOutcomeFor : Wish → Result Command WordsEnd → Type 0
 IsOutcomeFor wish (Ok command) = sound_wish wish ≡ Some (wish_of command)
+IsOutcomeFor wish (Err (Help text)) = ⊥
 IsOutcomeFor wish (Err (Fault fault)) = IsStoppedBy fault wish
 IsOutcomeFor wish (Err NoMemory) = ⊤
 
--- The text that an error of clap becomes, or want of memory.
-abbrev pub IsClapsOrMemory : WordsEnd → Type 0
-IsClapsOrMemory (Fault (Clap text)) = ⊤
-IsClapsOrMemory (Fault (NotPowerOfTwo size)) = ⊥
-IsClapsOrMemory (Fault MoreShardsThanRows) = ⊥
-IsClapsOrMemory NoMemory = ⊤
+-- What an error of clap of this kind becomes: help, where it is a request, or else a refusal; or want of memory.
+abbrev pub IsClapsEnd : ErrorKind → WordsEnd → Type 0
+IsClapsEnd kind (Help text) = is_help kind ≡ true
+IsClapsEnd kind (Fault (Clap text)) = is_help kind ≡ false
+IsClapsEnd kind (Fault (NotPowerOfTwo size)) = ⊥
+IsClapsEnd kind (Fault MoreShardsThanRows) = ⊥
+IsClapsEnd kind NoMemory = ⊤
 
 -- The texts of the words.
 abbrev pub texts_of : {A : Type 0} → List (String A) → List Text
 texts_of words = map string_bytes words
 
--- What a refusal says of the words: clap's own says that clap refuses them, another that its test is the first to fail;
--- want of memory says nothing.
-abbrev pub IsRefusalOf : List Text → WordsEnd → Type 0
-IsRefusalOf words (Fault (Clap text)) = ¬ IsTakenByClap words
-IsRefusalOf words (Fault fault) = FailsFirst words fault
-IsRefusalOf words NoMemory = ⊤
+-- Why the words are refused: clap's first fault is no request, or this test after clap is the first to fail.
+abbrev pub IsRefusalOf : List Text → WordFault → Type 0
+IsRefusalOf words (Clap text) = MayBeRefused words
+IsRefusalOf words fault = FailsFirst words fault
+
+-- Why the words give no command: clap's first fault is a request for help or for the version; or they are refused; want of memory says
+-- nothing.
+abbrev pub IsEndFor : List Text → WordsEnd → Type 0
+IsEndFor words (Help text) = MayAskForHelp words
+IsEndFor words (Fault fault) = IsRefusalOf words fault
+IsEndFor words NoMemory = ⊤
+
+-- The words ended in help or in the version.
+abbrev pub IsHelp : {A : Type 0} → Result A WordsEnd → Type 0
+IsHelp (Ok command) = ⊥
+IsHelp (Err (Help text)) = ⊤
+IsHelp (Err (Fault fault)) = ⊥
+IsHelp (Err NoMemory) = ⊥

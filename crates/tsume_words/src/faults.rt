@@ -17,7 +17,7 @@ pub enum Size {
 /// Why words are refused. It prints as the text for the user, with no line feed at the end: the caller adds one.
 #[derive(Debug, Drop)]
 pub enum WordFault {
-    /// Clap refuses the words, or they ask for help: its text, as it made it.
+    /// Clap refuses the words: its text, as it made it.
     Clap(String),
     /// The size is no power of two.
     NotPowerOfTwo(Size),
@@ -46,6 +46,8 @@ impl Error for WordFault {}
 /// Why the words gave no command.
 #[derive(Debug, Drop)]
 pub enum WordsEnd {
+    /// They ask for help or for the version: clap's text, as it made it.
+    Help(String),
     /// The words are refused.
     Fault(WordFault),
     /// Memory was wanted and not there.

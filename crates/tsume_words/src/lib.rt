@@ -3,7 +3,7 @@
 //! [`read_words`] hands the words to clap and answers the [`Command`] that they ask for: to solve, with its
 //! [`Settings`], or to check. Which words clap takes, and what it gives for them, is clap's own meaning of the command
 //! line; three tests follow it: the rows and the shards are powers of two, and there are no more shards than rows.
-//! Words that are refused, and a request for help, are a [`WordFault`] with the text for the user.
+//! Words that are refused are a [`WordFault`] with the text for the user; a request for help or for the version ends with clap's text.
 #![tactic(auto)]
 
 mod command;

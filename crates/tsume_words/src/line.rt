@@ -1,4 +1,4 @@
-// The command line, as clap is told of it.
+// The command line, as clap is told of it. Lines of help end below 80 columns, where a test looks; clap doesn't wrap them.
 ghost use Rattle.std.specs.Prelude.{◌≡◌, IfOk, false};
 ghost use Rattle.clap.specs.Words.{app_of, rule_of};
 ghost use Rattle.clap.specs.declared.builder.command.Command.TheViews.{out-Command as fields_of};
@@ -10,6 +10,9 @@ use clap::builder::ValueParser;
 use clap::{Arg, ArgAction, Command};
 use search_gate::MOST_EXPANSIONS;
 use std::alloc::{AllocError, Global};
+
+// What `--version` prints behind the program's name.
+const VERSION: &str = "0.1.0";
 
 // An option that takes one number of a range.
 fn number_option<'a>(
@@ -32,11 +35,12 @@ fn number_option<'a>(
         .help(help)
 }
 
-fn workers_option<'a>(alloc: Global, help: &'a str) -> Arg<'a>
+// An option that has no effect yet: checked, and not shown.
+fn workers_option<'a>(alloc: Global) -> Arg<'a>
     ensures rule { rule_of result ≡ workers_option }
     ensures local { result.global ≡ false }
 {
-    number_option(alloc, "workers", 1, MOST_WORKERS, "1", help)
+    number_option(alloc, "workers", 1, MOST_WORKERS, "1", "Threads (1 to 64)").hide(true)
 }
 
 fn expansions_option<'a>(alloc: Global) -> Arg<'a>
@@ -49,10 +53,13 @@ fn expansions_option<'a>(alloc: Global) -> Arg<'a>
         1,
         MOST_EXPANSIONS,
         "1000000",
-        "Positions whose moves may be generated before giving up (1 to 1000000000)",
+        "Positions, of both sides, whose moves may be listed\n\
+         before it gives up, 1 to 1000000000; a million cost\n\
+         10 to 20 seconds and up to 4 GB",
     )
 }
 
+// An option that has no effect yet: checked, and not shown.
 fn room_option<'a>(alloc: Global) -> Arg<'a>
     ensures rule { rule_of result ≡ room_option }
     ensures local { result.global ≡ false }
@@ -65,8 +72,10 @@ fn room_option<'a>(alloc: Global) -> Arg<'a>
         "1048576",
         "Facts that a certificate may be made of (1 to 1400000)",
     )
+    .hide(true)
 }
 
+// An option that has no effect yet: checked, and not shown.
 fn rows_option<'a>(alloc: Global) -> Arg<'a>
     ensures rule { rule_of result ≡ rows_option }
     ensures local { result.global ≡ false }
@@ -79,8 +88,10 @@ fn rows_option<'a>(alloc: Global) -> Arg<'a>
         "16384",
         "Rows of the transposition table, a power of two (16 to 1048576)",
     )
+    .hide(true)
 }
 
+// An option that has no effect yet: checked, and not shown.
 fn shards_option<'a>(alloc: Global) -> Arg<'a>
     ensures rule { rule_of result ≡ shards_option }
     ensures local { result.global ≡ false }
@@ -91,9 +102,9 @@ fn shards_option<'a>(alloc: Global) -> Arg<'a>
         1,
         MOST_SHARDS,
         "16",
-        "Parts of the transposition table that are locked each by itself, a power of two (1 to 64), at most the \
-         rows",
+        "Parts of the table, a power of two (1 to 64), at most the rows",
     )
+    .hide(true)
 }
 
 fn problem_option<'a>(alloc: Global) -> Arg<'a>
@@ -104,7 +115,12 @@ fn problem_option<'a>(alloc: Global) -> Arg<'a>
         .long("problem")
         .action(ArgAction::Set)
         .value_name("SFEN")
-        .help("The problem that the certificate has to be for, as `solve` reads it (its own if not given)")
+        .help(
+            "Accept the certificate for this problem alone: any SFEN\n\
+             that `solve` reads, in quotes. Positions are compared,\n\
+             hands too. Default: the certificate's own problem. It\n\
+             costs nothing",
+        )
 }
 
 fn rest_flag<'a>(alloc: Global) -> Arg<'a>
@@ -115,8 +131,9 @@ fn rest_flag<'a>(alloc: Global) -> Arg<'a>
         .long("rest")
         .action(ArgAction::SetTrue)
         .help(
-            "Gives the defender all pieces but kings that are neither on the board nor in a hand, as most printed \
-             problems mean it",
+            "Give the defender all pieces but kings that are neither\n\
+             on the board nor in a hand, as most printed problems\n\
+             mean it. Off unless given; the search may list more",
         )
 }
 
@@ -125,14 +142,17 @@ fn solve_command<'a>(alloc: Global) -> Result<Command<'a>, AllocError>
     ensures local { IfOk result (λ command. (fields_of command).has_globals ≡ false) }
 {
     Command::new(alloc, "solve")
-        .about(
-            "Reads a tsume-shogi problem (SFEN) from standard input and prints a mate or no mate with its certificate",
-        )
+        .about("Solves a problem (SFEN), and prints its mate or that there is none")
         .after_help(
-            "Today's search runs on one thread, and --expansions is its one limit: the other four numbers are checked and not \
-             used yet.\n\nExample:\n  echo '4k4/9/4P4/9/9/9/9/9/9 b G 1' | tsume solve --expansions 100000",
+            "It prints a certificate too, which `tsume check` accepts. Every interposition\n\
+             counts, also one that only delays (the convention that leaves out useless ones\n\
+             isn't applied), so a mate may be longer than a problem's title says; nor need\n\
+             the mate be the shortest. An input has 65536 bytes at most.\n\n\
+             Status: 0 a mate or none, 1 gave up, 2 words refused, 3 no problem, 4 reading\n\
+             failed, 5 writing failed, 6 out of memory.\n\n\
+             Example:\n  echo '4k4/9/4P4/9/9/9/9/9/9 b G 1' | tsume solve --expansions 100000",
         )
-        .arg(workers_option(alloc, "Threads that search (1 to 64)"))?
+        .arg(workers_option(alloc))?
         .arg(expansions_option(alloc))?
         .arg(room_option(alloc))?
         .arg(rows_option(alloc))?
@@ -145,15 +165,15 @@ fn check_command<'a>(alloc: Global) -> Result<Command<'a>, AllocError>
     ensures local { IfOk result (λ command. (fields_of command).has_globals ≡ false) }
 {
     Command::new(alloc, "check")
-        .about(
-            "Reads what `solve` printed, or a certificate alone, from standard input and prints whether it proves its \
-             verdict",
-        )
+        .about("Checks a certificate, with or without the line that `solve` printed first")
         .after_help(
-            "Today's check runs on one thread: --workers is checked and not used yet.\n\nExample:\n  tsume solve < \
-             problem.sfen | tsume check",
+            "The moves of that first line aren't compared with the certificate. An input has\n\
+             268435456 bytes at most.\n\n\
+             Status: 0 accepted, 7 refused, 2 words refused, 3 no certificate, 4 reading\n\
+             failed, 5 writing failed, 6 out of memory.\n\n\
+             Example:\n  tsume solve < problem.sfen | tsume check",
         )
-        .arg(workers_option(alloc, "Threads that check (1 to 64)"))?
+        .arg(workers_option(alloc))?
         .arg(problem_option(alloc))
 }
 
@@ -165,9 +185,11 @@ pub(crate) fn command_line<'a>(alloc: Global) -> Result<Command<'a>, AllocError>
     let check = check_command(alloc)?;
     Command::new(alloc, "tsume")
         .about(
-            "Solves tsume-shogi problems: every verdict comes with a certificate that can be checked",
+            "Solves tsume-shogi problems: every verdict comes with a certificate that can be\n\
+             checked, by this program or by one of your own",
         )
-        .disable_help_subcommand(true)
+        .after_help("`tsume solve --help` and `tsume check --help` have the options.")
+        .version(VERSION)
         .subcommand_required(true)
         .arg_required_else_help(true)
         .subcommand(solve)?

@@ -3,10 +3,10 @@ ghost use Rattle.std.specs.Prelude.{◌≡◌, ◌⊎◌, ◌↔◌, IfOk, IfErr
 ghost use Rattle.std.specs.Prelude.{option_and_then};
 ghost use Rattle.std.specs.Int.{IsPowerOfTwo, is_power_of_two};
 ghost use Rattle.clap.specs.Words.{found_of, kind_of, rows_of, subcommand_rows_of};
-ghost use Rattle.tsume_words.specs.Given.{HasFlag, HasNumber, IsForCommand, IsForSolve, IsNumberGiven, Wish};
+ghost use Rattle.tsume_words.specs.Given.{AsksForHelp, HasFlag, HasNumber, IsForCommand, IsForSolve, IsNumberGiven, Wish, is_help};
 ghost use Rattle.tsume_words.specs.Given.{all_words, is_flagged, number_of, settings_of, text_of, wish_named};
 ghost use Rattle.tsume_words.specs.Given.Wish.{to_solve, to_check};
-ghost use Rattle.tsume_words.specs.Meaning.{IsOutcomeFor, FailsFirst, IsClapsOrMemory, IsRefusalOf, command_of};
+ghost use Rattle.tsume_words.specs.Meaning.{IsOutcomeFor, FailsFirst, IsClapsEnd, IsEndFor, IsHelp, command_of};
 ghost use Rattle.tsume_words.specs.Meaning.{texts_of, wish_of, workers_of};
 ghost use Rattle.tsume_words.specs.Sizes.{IsFromTo};
 ghost use Rattle.tsume_words.specs.declared.faults.WordFault.{WordFault};
@@ -22,8 +22,8 @@ use std::alloc::{AllocError, Global};
 
 /// The command that the words ask for; they are the words after the program's name.
 ///
-/// Words that clap refuses, a request for help too, are `Clap` with clap's text. Then come, in this order, the tests
-/// that the rows and the shards are powers of two and that there are no more shards than rows. A number is what clap
+/// A request for help or for the version is `Help` with clap's text; words that clap refuses are `Clap` with it. Then come, in this
+/// order, the tests that the rows and the shards are powers of two and that there are no more shards than rows. A number is what clap
 /// takes for one of its type, `+5` and `05` too. Want of memory is `NoMemory`.
 pub fn read_words(alloc: Global, words: Vec<String>) -> Result<Command, WordsEnd>
     ensures command { IfOk result (λ command. command_of (texts_of words.items) ≡ Some (wish_of command)) }
@@ -31,10 +31,14 @@ pub fn read_words(alloc: Global, words: Vec<String>) -> Result<Command, WordsEnd
     // By 1 to 64 workers, to check as to solve.
     ensures workers { IfOk result (λ command. IsFromTo 1 MOST_WORKERS (workers_of command)) }
 
-    // Clap's fault comes only where clap refuses the words, each other only where its test is the first to fail.
-    ensures refused { IfErr result (IsRefusalOf (texts_of words.items)) }
+    // Help comes only where clap's first fault is a request for it or for the version, clap's refusal only where it is none, and each
+    // other fault only where its test is the first to fail.
+    ensures ended { IfErr result (IsEndFor (texts_of words.items)) }
 
-    // And each comes where its test is the first to fail, but for want of memory.
+    // Help comes wherever clap's first fault is such a request, but for want of memory.
+    ensures help { AsksForHelp (texts_of words.items) → IsHelp result ⊎ (result ≡ Err WordsEnd.NoMemory) }
+
+    // And each fault after clap comes where its test is the first to fail, but for want of memory.
     ensures stopped { (fault : WordFault) → FailsFirst (texts_of words.items) fault
         → (result ≡ Err (WordsEnd.Fault fault)) ⊎ (result ≡ Err WordsEnd.NoMemory) }
 
@@ -45,7 +49,7 @@ pub fn read_words(alloc: Global, words: Vec<String>) -> Result<Command, WordsEnd
     let texts = with_program(alloc, &words)?;
     match command_line(alloc)?.try_get_matches_from(texts.as_slice()) {
         Ok(matches) => asked(alloc, &matches),
-        Err(error) => Err(refusal(alloc, &error)),
+        Err(error) => Err(end_of(alloc, &error)),
     }
 }
 
@@ -60,18 +64,32 @@ fn with_program<'a>(alloc: Global, words: &'a Vec<String>) -> Result<Vec<&'a str
     Ok(texts)
 }
 
-// Clap's error as ours: its text, or want of memory.
-fn refusal(alloc: Global, error: &clap::Error) -> WordsEnd
-    ensures memory { kind_of error.now ≡ ErrorKind.OutOfMemory → result ≡ WordsEnd.NoMemory }
-    ensures text { IsClapsOrMemory result }
+// Whether a kind of clap's error is a request for help or for the version.
+fn is_help(kind: ErrorKind) -> bool
+    ensures { result ≡ is_help kind }
 {
-    if error.kind() == ErrorKind::OutOfMemory {
+    match kind {
+        ErrorKind::DisplayHelp | ErrorKind::DisplayVersion => true,
+        _ => false,
+    }
+}
+
+// Clap's error as ours: its text, or want of memory.
+fn end_of(alloc: Global, error: &clap::Error) -> WordsEnd
+    ensures memory { kind_of error.now ≡ ErrorKind.OutOfMemory → result ≡ WordsEnd.NoMemory }
+    ensures text { IsClapsEnd (kind_of error.now) result }
+{
+    let kind = error.kind();
+    if kind == ErrorKind::OutOfMemory {
         return WordsEnd::NoMemory;
     }
-    match format!(in alloc; "{error}") {
-        Ok(text) => WordsEnd::Fault(WordFault::Clap(text)),
-        Err(_) => WordsEnd::NoMemory,
+    let Ok(text) = format!(in alloc; "{error}") else {
+        return WordsEnd::NoMemory;
+    };
+    if is_help(kind) {
+        return WordsEnd::Help(text);
     }
+    WordsEnd::Fault(WordFault::Clap(text))
 }
 
 // The command that clap found, tested.

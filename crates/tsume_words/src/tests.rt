@@ -56,17 +56,22 @@ static ASKED: [(&str, &str); 21] = [
 ];
 
 // A line that is refused, and how its text begins.
-static REFUSED: [(&str, &str); 24] = [
+static REFUSED: [(&str, &str); 23] = [
     ("solve --rows 16 --shards 32", "more shards than rows"),
     ("", "Solves tsume-shogi problems"),
-    ("--help", "Solves tsume-shogi problems"),
-    (
-        "solve --help",
-        "Reads a tsume-shogi problem (SFEN) from standard input",
-    ),
-    ("check -h", "Reads what `solve` printed"),
     ("dance", "error: unrecognized subcommand 'dance'"),
-    ("help", "error: unrecognized subcommand 'help'"),
+    (
+        "help dance",
+        "error: unrecognized subcommand 'dance'",
+    ),
+    (
+        "solve --version",
+        "error: unexpected argument '--version' found",
+    ),
+    (
+        "check --problem",
+        "error: a value is required for '--problem <SFEN>'",
+    ),
     (
         "--workers 3",
         "error: unexpected argument '--workers' found",
@@ -131,18 +136,45 @@ static REFUSED: [(&str, &str); 24] = [
     ),
 ];
 
-// What the help of `solve` says of each option, in this order.
-static HELP_OF_SOLVE: [&str; 9] = [
-    "Usage: tsume solve [OPTIONS]",
-    "--workers <N>     Threads that search (1 to 64) [default: 1]",
-    "--expansions <N>  Positions whose moves may be generated before giving up (1 to 1000000000) [default: 1000000]",
-    "--room <N>        Facts that a certificate may be made of (1 to 1400000) [default: 1048576]",
-    "--rows <N>        Rows of the transposition table, a power of two (16 to 1048576) [default: 16384]",
-    "--shards <N>      Parts of the transposition table",
-    "a power of two (1 to 64), at most the rows [default: 16]",
-    "--rest            Gives the defender all pieces but kings that are neither on the board nor in a hand",
-    "echo '4k4/9/4P4/9/9/9/9/9/9 b G 1' | tsume solve",
+// A request for help or for the version, and a part of its text.
+static HELPED: [(&str, &str); 15] = [
+    ("--version", "tsume 0.1.0\n"),
+    ("-V --help", "tsume 0.1.0\n"),
+    ("--help", "Usage: tsume <COMMAND>\n"),
+    (
+        "-h",
+        "\n  solve  Solves a problem (SFEN), and prints its mate",
+    ),
+    ("help", "\n  check  Checks a certificate"),
+    (
+        "solve --help",
+        "\n      --expansions <N>  Positions, of both sides, whose moves may be listed\n",
+    ),
+    ("solve --workers 3 -h", " 1 to 1000000000; a million cost\n"),
+    (
+        "help solve",
+        " 10 to 20 seconds and up to 4 GB [default: 1000000]\n",
+    ),
+    (
+        "solve --rows 24 -h",
+        "\n      --rest            Give the defender all pieces",
+    ),
+    ("solve -h", " Off unless given; the search may list more\n"),
+    (
+        "solve -h",
+        "Every interposition\ncounts, also one that only delays",
+    ),
+    ("help check", "Usage: tsume check [OPTIONS]"),
+    (
+        "check --help",
+        "\n      --problem <SFEN>  Accept the certificate for this problem alone",
+    ),
+    ("check --help", " Default: the certificate's own problem."),
+    ("check --help", "-h, --help            Print help\n"),
 ];
+
+// What has no effect yet, and isn't shown.
+static HIDDEN: [&str; 4] = ["--workers", "--room", "--rows", "--shards"];
 
 fn words_of(alloc: Global, line: &str) -> Result<Vec<String>, AllocError> {
     let mut words = Vec::new(alloc);
@@ -169,6 +201,7 @@ fn meaning(alloc: Global, line: &str) -> Result<String, AllocError> {
             Some(problem) => format!(in alloc; "check {workers} {problem}"),
             None => format!(in alloc; "check {workers}"),
         },
+        Err(WordsEnd::Help(text)) => Ok(text),
         Err(WordsEnd::Fault(fault)) => format!(in alloc; "{fault}"),
         Err(WordsEnd::NoMemory) => format!(in alloc; "out of memory"),
     }
@@ -184,15 +217,28 @@ fn lines_ask_for_what_they_say(rt: HostRuntime) -> Result<(), Fail> {
 }
 
 #[test]
-fn refusals_and_help_say_why_and_how(rt: HostRuntime) -> Result<(), Fail> {
+fn refusals_say_why(rt: HostRuntime) -> Result<(), Fail> {
     for (line, beginning) in REFUSED {
         let text = meaning(rt.alloc(), line)?;
         assert!(rt; text.as_str().starts_with(beginning), "{line}: {text}");
         assert!(rt; !text.as_str().ends_with("\n"), "{line}");
     }
-    let help = meaning(rt.alloc(), "solve --help")?;
-    for piece in HELP_OF_SOLVE {
-        assert!(rt; help.as_str().contains(piece), "{piece}");
+    Ok(())
+}
+
+#[test]
+fn help_teaches_each_option_in_narrow_lines(rt: HostRuntime) -> Result<(), Fail> {
+    for (line, piece) in HELPED {
+        let text = meaning(rt.alloc(), line)?;
+        assert!(rt; text.as_str().contains(piece), "{line}: {text}");
+        // As no refusal's.
+        assert!(rt; text.as_str().ends_with("\n"), "{line}");
+        for row in text.as_str().lines() {
+            assert!(rt; row.chars().count() < 80, "{line}: {row}");
+        }
+        for option in HIDDEN {
+            assert!(rt; !text.as_str().contains(option), "{line}: {option}");
+        }
     }
     Ok(())
 }

@@ -1,9 +1,9 @@
-use Rattle.std.proofs.Common.{◌≡◌, ◌∙◌, ◌⊎◌, inl, inr, sym, ap, ap₂, map}
-use Rattle.clap.specs.Words.{fault_of, is_simple, is_simple_and_free, subcommand_of}
-use Rattle.tsume_words.specs.Given.{IsTakenByClap, all_words}
+use Rattle.std.proofs.Common.{◌≡◌, ◌∙◌, ◌⊎◌, inl, inr, sym, subst, ap, ap₂, map}
+use Rattle.clap.specs.Words.{IsAmong, Kinds, fault_of, kind_of, is_simple, is_simple_and_free, subcommand_of}
+use Rattle.tsume_words.specs.Given.{IsTakenByClap, all_words, clap_faults}
 use Rattle.tsume_words.specs.Meaning.{texts_of}
 use Rattle.tsume_words.specs.declared.faults.WordsEnd.TheVariants.{NoMemory}
-use Rattle.tsume_words.proofs.Ends.{command_where_taken, fault_there, given_where_taken, promised_by_outcome, promised_by_clap}
+use Rattle.tsume_words.proofs.Ends.{command_where_taken, given_where_taken, promised_by_outcome, promised_by_clap}
 use Rattle.tsume_words.proofs.Taken.{is_simple_alone, is_simple_line}
 use Rattle.tsume_words.proofs.reading.read_words.Goals as goal
 
@@ -23,8 +23,8 @@ returns-in-Ok c =
     let texts : map (λ s. s.now) c.as_slice.result.now ≡ all_words words = ap (map (λ s. s.now)) c.as_slice.ensures.value ∙ c.in_ok-texts.ensures in
     let taken : IsTakenByClap words = sym (ap₂ fault_of app texts) ∙ c.in-Ok.ensures.kinds (ap is_simple_and_free app ∙ is_simple_line) in
     let rows = (c.in-Ok.ensures.matches (ap is_simple app ∙ is_simple_alone)).1 ∙ ap₂ subcommand_of app texts in
-    let promises = promised_by_outcome words c.asked.result (given_where_taken words _ c.asked.result taken rows c.asked.ensures.outcome) in
-    record { command = promises.command; workers = c.asked.ensures.workers; refused = promises.refused; stopped = promises.stopped; complete = promises.complete }
+    let promises = promised_by_outcome words c.asked.result taken (given_where_taken words _ c.asked.result taken rows c.asked.ensures.outcome) in
+    record { command = promises.command; workers = c.asked.ensures.workers; ended = promises.ended; help = promises.help; stopped = promises.stopped; complete = promises.complete }
 
 pub returns : goal.returns
 returns c =
@@ -32,9 +32,9 @@ returns c =
     let app = c.in_ok-command_line.ensures in
     let texts : map (λ s. s.now) c.as_slice.result.now ≡ all_words words = ap (map (λ s. s.now)) c.as_slice.ensures.value ∙ c.in_ok-texts.ensures in
     let kinds = c.in-Err.ensures.kinds (ap is_simple_and_free app ∙ is_simple_line) in
-    let why : (c.refusal.result ≡ NoMemory) ⊎ (IsTakenByClap words → ⊥) = elim kinds [
-      | inl memory ↦ inl (c.refusal.ensures.memory memory)
-      | inr among ↦ inr (λ taken. fault_there _ _ among (ap₂ fault_of app texts ∙ taken))
+    let why : (c.end_of.result ≡ NoMemory) ⊎ IsAmong (kind_of c.in-Err.error) (clap_faults words) = elim kinds [
+      | inl memory ↦ inl (c.end_of.ensures.memory memory)
+      | inr among ↦ inr (subst (λ (k : Kinds). IsAmong (kind_of c.in-Err.error) k) (ap₂ fault_of app texts) among)
     ] in
-    let promises = promised_by_clap words c.refusal.result c.refusal.ensures.text why in
-    record { command = promises.command; workers = tt; refused = promises.refused; stopped = promises.stopped; complete = promises.complete }
+    let promises = promised_by_clap words c.end_of.result (kind_of c.in-Err.error) c.end_of.ensures.text why in
+    record { command = promises.command; workers = tt; ended = promises.ended; help = promises.help; stopped = promises.stopped; complete = promises.complete }
