@@ -11,7 +11,7 @@ use Rattle.tsume_words.specs.Given.{AsksForHelp, IsForCommand, IsTakenByClap, Ma
 use Rattle.tsume_words.specs.Given.Wish.{to_solve, to_check}
 use Rattle.tsume_words.specs.Line.{tsume_line}
 use Rattle.tsume_words.specs.Meaning.{IsOutcomeFor, FailFirst, FailsFirst, IsClapsEnd, IsEndFor, IsHelp, IsStoppedBy, IsRefusalOf, are_sound, command_of, sound_wish, wish_of}
-use Rattle.tsume_words.specs.declared.command.Command.{Command}
+use Rattle.tsume_words.specs.declared.command.Asked.{Asked}
 use Rattle.tsume_words.specs.declared.faults.Size.TheVariants.{Rows, Shards}
 use Rattle.tsume_words.specs.declared.faults.WordFault.{WordFault}
 use Rattle.tsume_words.specs.declared.faults.WordFault.TheVariants.{Clap, NotPowerOfTwo, MoreShardsThanRows}
@@ -21,7 +21,7 @@ use Rattle.tsume_words.proofs.Powers.{power-ones}
 use Rattle.tsume_words.proofs.Taken.{taken_gives}
 
 -- where clap takes the words it gives what `given_of` says
-pub given_where_taken : (words : List Text) (o : Option (Text × List Row)) (r : Result Command WordsEnd) → IsTakenByClap words
+pub given_where_taken : (words : List Text) (o : Option (Text × List Row)) (r : Result Asked WordsEnd) → IsTakenByClap words
     → o ≡ subcommand_of tsume_line (all_words words) → IsSomeAnd (option_and_then wish_named o) (λ wish. IsOutcomeFor wish r)
     → IsSomeAnd (given_of words) (λ wish. IsOutcomeFor wish r)
 given_where_taken words o r taken is h =
@@ -85,12 +85,12 @@ one_stop f g (to_check n p) a b = absurd a
 one_stop f g (to_solve n rest) a b = one_first f g n a b
 
 -- all that the reading of the words promises
-pub record Promises (words : List Text) (r : Result Command WordsEnd) : Type 0 where
-  pub command : IfOk r (λ command. command_of words ≡ Some (wish_of command))
+pub record Promises (words : List Text) (r : Result Asked WordsEnd) : Type 0 where
+  pub command : IfOk r (λ asked. command_of words ≡ Some (wish_of asked.command))
   pub ended : IfErr r (IsEndFor words)
   pub help : AsksForHelp words → IsHelp r ⊎ (r ≡ Err NoMemory)
   pub stopped : (fault : WordFault) → FailsFirst words fault → (r ≡ Err (Fault fault)) ⊎ (r ≡ Err NoMemory)
-  pub complete : (wish : Wish) → command_of words ≡ Some wish → IsOkAnd r (λ command. wish_of command ≡ wish) ⊎ (r ≡ Err NoMemory)
+  pub complete : (wish : Wish) → command_of words ≡ Some wish → IsOkAnd r (λ asked. wish_of asked.command ≡ wish) ⊎ (r ≡ Err NoMemory)
 
 -- want of memory keeps them
 pub promised_by_memory : (words : List Text) → Promises words (Err NoMemory)
@@ -104,17 +104,17 @@ asks_nothing : (words : List Text) → IsTakenByClap words → AsksForHelp words
 asks_nothing words taken asks = fault_there (clap_faults words) asks.may.0 asks.may.1 taken
 
 -- an outcome for what clap gave keeps them
-pub promised_by_outcome : (words : List Text) (r : Result Command WordsEnd) → IsTakenByClap words → IsSomeAnd (given_of words) (λ wish. IsOutcomeFor wish r) → Promises words r
+pub promised_by_outcome : (words : List Text) (r : Result Asked WordsEnd) → IsTakenByClap words → IsSomeAnd (given_of words) (λ wish. IsOutcomeFor wish r) → Promises words r
 promised_by_outcome words r taken h = go (given_of words) refl h
   where
-    with : (w : Wish) (r : Result Command WordsEnd) → given_of words ≡ Some w → IsOutcomeFor w r → Promises words r
+    with : (w : Wish) (r : Result Asked WordsEnd) → given_of words ≡ Some w → IsOutcomeFor w r → Promises words r
     with w (Ok c) is a =
-        let means : command_of words ≡ Some (wish_of c) = ap (option_and_then sound_wish) is ∙ a in
+        let means : command_of words ≡ Some (wish_of c.command) = ap (option_and_then sound_wish) is ∙ a in
         record {
           command = means;
           ended = tt;
           help = λ asks. absurd (asks_nothing words taken asks);
-          stopped = λ f fails. absurd (stopped_none f w (wish_of c) (subst (λ (o : Option Wish). IsSomeAnd o (IsStoppedBy f)) is fails) a);
+          stopped = λ f fails. absurd (stopped_none f w (wish_of c.command) (subst (λ (o : Option Wish). IsSomeAnd o (IsStoppedBy f)) is fails) a);
           complete = λ v e. inl (same_wish _ _ (sym means ∙ e));
         }
     with w (Err NoMemory) is a = promised_by_memory words

@@ -117,7 +117,10 @@ GivesIfFaultless s = (words : List Text) → level_fault s [] nothing_held words
 -- the rules of the two commands are each the first of its id
 firsts : Each (λ s. Each (IsFirst s.rules) s.rules) (built tsume_line).subs
 unfolding tsume_line
-firsts = ((refl, (refl, (refl, (refl, (refl, (refl, (refl, tt))))))), ((refl, (refl, (refl, tt))), ((refl, tt), tt)))
+firsts = (
+  (refl, (refl, (refl, (refl, (refl, (refl, (refl, (refl, tt)))))))),
+  ((refl, (refl, (refl, (refl, tt)))), ((refl, tt), tt)),
+)
 
 solve_given : (words : List Text) → Each (GivesValue (rows_after solve_shape.rules [] words)) solve_shape.rules → IsForSolve (rows_after solve_shape.rules [] words)
 unfolding tsume_line

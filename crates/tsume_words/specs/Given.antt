@@ -96,6 +96,19 @@ abbrev pub given_of : List Text → Option Wish
 given_of words =
     unless_faulty (clap_faults words) (option_and_then wish_named (subcommand_of tsume_line (all_words words)))
 
+-- A word names a file, but for `-`, the standard input.
+abbrev pub but_dash : Option Text → Option Text
+but_dash None = None
+but_dash (Some word) = if bytes_eq word (codes "-") then None else Some word
+
+-- The file that a command reads, by what clap found for it: none for the standard input.
+abbrev pub file_named : Text × List Row → Option Text
+file_named p = but_dash (text_of (codes "file") p.1)
+
+-- The file that the words name: none for the standard input.
+abbrev pub file_of : List Text → Option Text
+file_of words = option_and_then file_named (subcommand_of tsume_line (all_words words))
+
 -- Clap gives a number from low to high for the option of this name.
 abbrev pub HasNumber : Text → ℕ → ℕ → List Row → Type 0
 HasNumber name low high found = IsSomeAnd (one_of name found) (IsUnsignedIn low high)

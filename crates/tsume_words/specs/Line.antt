@@ -51,9 +51,17 @@ rest_flag = record (new_rule (codes "rest")) {
   action = Some SetTrue;
 }
 
--- `solve` has the five numbers and the flag.
+-- The word FILE may be any.
+abbrev pub file_word : Rule
+file_word = record (new_rule (codes "file")) {
+  action = Some Set;
+  value_names = 1;
+}
+
+-- `solve` has the five numbers, the flag and the file.
 abbrev pub solve_line : App
 solve_line = with_rule
+    (with_rule
     (with_rule
     (with_rule
     (with_rule
@@ -61,11 +69,12 @@ solve_line = with_rule
     room_option)
     rows_option)
     shards_option)
-    rest_flag
+    rest_flag)
+    file_word
 
--- `check` has the workers and the problem.
+-- `check` has the workers, the problem and the file.
 abbrev pub check_line : App
-check_line = with_rule (with_rule (new_app (codes "check")) workers_option) problem_option
+check_line = with_rule (with_rule (with_rule (new_app (codes "check")) workers_option) problem_option) file_word
 
 -- The program has a version, wants one of its two commands, and shows its help where there are no words.
 abbrev pub bare_line : App

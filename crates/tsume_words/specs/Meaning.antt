@@ -6,6 +6,7 @@ use Rattle.clap.specs.Words.{Text}
 use Rattle.tsume_words.specs.Given.{SettingsView, Wish, given_of, is_help, MayAskForHelp, MayBeRefused}
 use Rattle.tsume_words.specs.Given.Wish.{to_solve, to_check}
 use Rattle.tsume_words.specs.declared.command.Command.{Command}
+use Rattle.tsume_words.specs.declared.command.Asked.{Asked}
 use Rattle.tsume_words.specs.declared.command.Command.TheVariants.{Solve, Check}
 use Rattle.tsume_words.specs.declared.faults.Size.TheVariants.{Rows, Shards}
 use Rattle.tsume_words.specs.declared.faults.WordFault.{WordFault}
@@ -65,10 +66,10 @@ IsStoppedBy fault (to_check workers problem) = ⊥
 abbrev pub FailsFirst : List Text → WordFault → Type 0
 FailsFirst words fault = IsSomeAnd (given_of words) (IsStoppedBy fault)
 
--- The outcome for a wish that clap gave: the command, where its numbers are sound, or else the first test that fails. Want of
+-- The outcome for a wish that clap gave: its command, where its numbers are sound, or else the first test that fails. Want of
 -- memory is free.
-abbrev pub IsOutcomeFor : Wish → Result Command WordsEnd → Type 0
-IsOutcomeFor wish (Ok command) = sound_wish wish ≡ Some (wish_of command)
+abbrev pub IsOutcomeFor : Wish → Result Asked WordsEnd → Type 0
+IsOutcomeFor wish (Ok asked) = sound_wish wish ≡ Some (wish_of asked.command)
 IsOutcomeFor wish (Err (Help text)) = ⊥
 IsOutcomeFor wish (Err (Fault fault)) = IsStoppedBy fault wish
 IsOutcomeFor wish (Err NoMemory) = ⊤

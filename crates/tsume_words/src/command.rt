@@ -4,13 +4,25 @@ use crate::Settings;
 /// What the words of the command line ask for.
 #[derive(Debug, Drop)]
 pub enum Command {
-    /// Solve the problem on standard input. With `rest` the defender is first given all pieces but kings that are neither on
+    /// Solve the problem that is read. With `rest` the defender is first given all pieces but kings that are neither on
     /// the board nor in a hand.
-    Solve { settings: Settings, rest: bool },
-    /// Check the certificate on standard input, by this many threads; from the words come 1 to 64. With a `problem` (its SFEN, as
+    Solve {
+        settings: Settings,
+        rest: bool,
+    },
+    /// Check the certificate that is read, by this many threads; from the words come 1 to 64. With a `problem` (its SFEN, as
     /// the words have it) the certificate has to be for that one.
     Check {
         workers: u32,
         problem: Option<String>,
     },
+}
+
+/// All that the words ask for.
+#[derive(Debug, Drop)]
+pub struct Asked {
+    /// The command.
+    pub command: Command,
+    /// The file that it reads, as the words have its path; none for the standard input.
+    pub file: Option<String>,
 }

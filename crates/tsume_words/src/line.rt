@@ -2,7 +2,7 @@
 ghost use Rattle.std.specs.Prelude.{◌≡◌, IfOk, false};
 ghost use Rattle.clap.specs.Words.{app_of, rule_of};
 ghost use Rattle.clap.specs.declared.builder.command.Command.TheViews.{out-Command as fields_of};
-ghost use Rattle.tsume_words.specs.Line.{number_option, workers_option, expansions_option, room_option, rows_option, shards_option, problem_option, rest_flag, solve_line};
+ghost use Rattle.tsume_words.specs.Line.{number_option, workers_option, expansions_option, room_option, rows_option, shards_option, problem_option, rest_flag, file_word, solve_line};
 ghost use Rattle.tsume_words.specs.Line.{check_line, tsume_line};
 
 use crate::settings::{LEAST_ROWS, MOST_ROOM, MOST_ROWS, MOST_SHARDS, MOST_WORKERS};
@@ -137,6 +137,16 @@ fn rest_flag<'a>(alloc: Global) -> Arg<'a>
         )
 }
 
+fn file_word<'a>(alloc: Global, help: &'a str) -> Arg<'a>
+    ensures rule { rule_of result ≡ file_word }
+    ensures local { result.global ≡ false }
+{
+    Arg::new(alloc, "file")
+        .action(ArgAction::Set)
+        .value_name("FILE")
+        .help(help)
+}
+
 fn solve_command<'a>(alloc: Global) -> Result<Command<'a>, AllocError>
     ensures app { IfOk result (λ command. app_of command ≡ solve_line) }
     ensures local { IfOk result (λ command. (fields_of command).has_globals ≡ false) }
@@ -147,7 +157,7 @@ fn solve_command<'a>(alloc: Global) -> Result<Command<'a>, AllocError>
             "It prints a certificate too, which `tsume check` accepts. Every interposition\n\
              counts, also one that only delays (the convention that leaves out useless ones\n\
              isn't applied), so a mate may be longer than a problem's title says; nor need\n\
-             the mate be the shortest. An input has 65536 bytes at most.\n\n\
+             the mate be the shortest.\n\n\
              Status: 0 a mate or none, 1 gave up, 2 words refused, 3 no problem, 4 reading\n\
              failed, 5 writing failed, 6 out of memory.\n\n\
              Example:\n  echo '4k4/9/4P4/9/9/9/9/9/9 b G 1' | tsume solve --expansions 100000",
@@ -157,7 +167,11 @@ fn solve_command<'a>(alloc: Global) -> Result<Command<'a>, AllocError>
         .arg(room_option(alloc))?
         .arg(rows_option(alloc))?
         .arg(shards_option(alloc))?
-        .arg(rest_flag(alloc))
+        .arg(rest_flag(alloc))?
+        .arg(file_word(
+            alloc,
+            "The problem's file, of 65536 bytes at most; standard input if - or none",
+        ))
 }
 
 fn check_command<'a>(alloc: Global) -> Result<Command<'a>, AllocError>
@@ -165,16 +179,19 @@ fn check_command<'a>(alloc: Global) -> Result<Command<'a>, AllocError>
     ensures local { IfOk result (λ command. (fields_of command).has_globals ≡ false) }
 {
     Command::new(alloc, "check")
-        .about("Checks a certificate, with or without the line that `solve` printed first")
+        .about("Checks a certificate, alone or behind the line that `solve` prints")
         .after_help(
-            "The moves of that first line aren't compared with the certificate. An input has\n\
-             268435456 bytes at most.\n\n\
+            "The moves of that first line aren't compared with the certificate.\n\n\
              Status: 0 accepted, 7 refused, 2 words refused, 3 no certificate, 4 reading\n\
              failed, 5 writing failed, 6 out of memory.\n\n\
-             Example:\n  tsume solve < problem.sfen | tsume check",
+             Example:\n  tsume solve problem.sfen | tsume check",
         )
         .arg(workers_option(alloc))?
-        .arg(problem_option(alloc))
+        .arg(problem_option(alloc))?
+        .arg(file_word(
+            alloc,
+            "The certificate's file, 268435456 bytes at most; standard input if - or\nnone",
+        ))
 }
 
 /// The command line of the program.

@@ -3,8 +3,8 @@ ghost use Rattle.std.specs.Prelude.{◌≡◌, ◌⊎◌, ◌↔◌, IfOk, IfErr
 ghost use Rattle.std.specs.Prelude.{option_and_then};
 ghost use Rattle.std.specs.Int.{IsPowerOfTwo, is_power_of_two};
 ghost use Rattle.clap.specs.Words.{found_of, kind_of, rows_of, subcommand_rows_of};
-ghost use Rattle.tsume_words.specs.Given.{AsksForHelp, HasFlag, HasNumber, IsForCommand, IsForSolve, IsNumberGiven, Wish, is_help};
-ghost use Rattle.tsume_words.specs.Given.{all_words, is_flagged, number_of, settings_of, text_of, wish_named};
+ghost use Rattle.tsume_words.specs.Given.{AsksForHelp, HasFlag, HasNumber, IsForCommand, IsForSolve, IsNumberGiven, Wish, file_named, file_of, is_help};
+ghost use Rattle.tsume_words.specs.Given.{all_words, is_flagged, number_of, settings_of, but_dash, text_of, wish_named};
 ghost use Rattle.tsume_words.specs.Given.Wish.{to_solve, to_check};
 ghost use Rattle.tsume_words.specs.Meaning.{IsOutcomeFor, FailsFirst, IsClapsEnd, IsEndFor, IsHelp, command_of};
 ghost use Rattle.tsume_words.specs.Meaning.{texts_of, wish_of, workers_of};
@@ -14,39 +14,42 @@ ghost use Rattle.tsume_words.specs.declared.settings.TheConstants.{MOST_WORKERS,
 ghost use Rattle.search_gate.specs.declared.expansions.TheConstants.{MOST_EXPANSIONS};
 
 use crate::line::command_line;
-use crate::{Command, Settings, Size, WordFault, WordsEnd};
+use crate::{Asked, Command, Settings, Size, WordFault, WordsEnd};
 use clap::ArgMatches;
 use clap::error::ErrorKind;
 use search_gate::Expansions;
 use std::alloc::{AllocError, Global};
 
-/// The command that the words ask for; they are the words after the program's name.
+/// The command that the words ask for, and the file that it reads; they are the words after the program's name.
 ///
 /// A request for help or for the version is `Help` with clap's text; words that clap refuses are `Clap` with it. Then come, in this
 /// order, the tests that the rows and the shards are powers of two and that there are no more shards than rows. A number is what clap
 /// takes for one of its type, `+5` and `05` too. Want of memory is `NoMemory`.
-pub fn read_words(alloc: Global, words: Vec<String>) -> Result<Command, WordsEnd>
-    ensures command { IfOk result (λ command. command_of (texts_of words.items) ≡ Some (wish_of command)) }
+pub fn read_words(alloc: Global, words: &[String]) -> Result<Asked, WordsEnd>
+    ensures command { IfOk result (λ asked. command_of (texts_of words.now) ≡ Some (wish_of asked.command)) }
+
+    // The word FILE, where there is one and it isn't `-`.
+    ensures file { IfOk result (λ asked. option_map string_bytes asked.file ≡ file_of (texts_of words.now)) }
 
     // By 1 to 64 workers, to check as to solve.
-    ensures workers { IfOk result (λ command. IsFromTo 1 MOST_WORKERS (workers_of command)) }
+    ensures workers { IfOk result (λ asked. IsFromTo 1 MOST_WORKERS (workers_of asked.command)) }
 
     // Help comes only where clap's first fault is a request for it or for the version, clap's refusal only where it is none, and each
     // other fault only where its test is the first to fail.
-    ensures ended { IfErr result (IsEndFor (texts_of words.items)) }
+    ensures ended { IfErr result (IsEndFor (texts_of words.now)) }
 
     // Help comes wherever clap's first fault is such a request, but for want of memory.
-    ensures help { AsksForHelp (texts_of words.items) → IsHelp result ⊎ (result ≡ Err WordsEnd.NoMemory) }
+    ensures help { AsksForHelp (texts_of words.now) → IsHelp result ⊎ (result ≡ Err WordsEnd.NoMemory) }
 
     // And each fault after clap comes where its test is the first to fail, but for want of memory.
-    ensures stopped { (fault : WordFault) → FailsFirst (texts_of words.items) fault
+    ensures stopped { (fault : WordFault) → FailsFirst (texts_of words.now) fault
         → (result ≡ Err (WordsEnd.Fault fault)) ⊎ (result ≡ Err WordsEnd.NoMemory) }
 
     // Words that ask for something are not refused, but for want of memory.
-    ensures complete { (wish : Wish) → command_of (texts_of words.items) ≡ Some wish
-        → IsOkAnd result (λ command. wish_of command ≡ wish) ⊎ (result ≡ Err WordsEnd.NoMemory) }
+    ensures complete { (wish : Wish) → command_of (texts_of words.now) ≡ Some wish
+        → IsOkAnd result (λ asked. wish_of asked.command ≡ wish) ⊎ (result ≡ Err WordsEnd.NoMemory) }
 {
-    let texts = with_program(alloc, &words)?;
+    let texts = with_program(alloc, words)?;
     match command_line(alloc)?.try_get_matches_from(texts.as_slice()) {
         Ok(matches) => asked(alloc, &matches),
         Err(error) => Err(end_of(alloc, &error)),
@@ -54,8 +57,8 @@ pub fn read_words(alloc: Global, words: Vec<String>) -> Result<Command, WordsEnd
 }
 
 // The words that clap reads.
-fn with_program<'a>(alloc: Global, words: &'a Vec<String>) -> Result<Vec<&'a str>, AllocError>
-    ensures { IfOk result (λ texts. map (λ text. text.now) texts.items ≡ all_words (texts_of words.entry.now.items)) }
+fn with_program<'a>(alloc: Global, words: &'a [String]) -> Result<Vec<&'a str>, AllocError>
+    ensures { IfOk result (λ texts. map (λ text. text.now) texts.items ≡ all_words (texts_of words.entry.now)) }
 {
     let mut texts = vec![in alloc; "tsume"]?;
     for word in words {
@@ -92,15 +95,16 @@ fn end_of(alloc: Global, error: &clap::Error) -> WordsEnd
     WordsEnd::Fault(WordFault::Clap(text))
 }
 
-// The command that clap found, tested.
-fn asked(alloc: Global, matches: &ArgMatches<'_>) -> Result<Command, WordsEnd>
+// What clap found, tested.
+fn asked(alloc: Global, matches: &ArgMatches<'_>) -> Result<Asked, WordsEnd>
     requires { IsSomeAnd (subcommand_rows_of matches.now) IsForCommand }
     ensures outcome { IsSomeAnd (option_and_then wish_named (subcommand_rows_of matches.now))
         (λ wish. IsOutcomeFor wish result) }
-    ensures workers { IfOk result (λ command. IsFromTo 1 MOST_WORKERS (workers_of command)) }
+    ensures file { IfOk result (λ asked. option_map string_bytes asked.file ≡ option_and_then file_named (subcommand_rows_of matches.now)) }
+    ensures workers { IfOk result (λ asked. IsFromTo 1 MOST_WORKERS (workers_of asked.command)) }
 {
     match matches.subcommand_matches("solve") {
-        Some(given) => solve(given),
+        Some(given) => solve(alloc, given),
         None => check(alloc, matches.subcommand_matches("check").unwrap()),
     }
 }
@@ -163,24 +167,41 @@ fn is_power_of_two(number: u64) -> bool
     number.is_power_of_two()
 }
 
+// The file that clap gives for a command: none for the standard input.
+fn file(alloc: Global, given: &ArgMatches<'_>) -> Result<Option<String>, AllocError>
+    ensures { IfOk result (λ file. option_map string_bytes file ≡ but_dash (text_of (codes "file") (rows_of (found_of given.now)))) }
+{
+    let Some(word) = text(alloc, given, "file")? else {
+        return Ok(None);
+    };
+    if word.as_str() == "-" {
+        return Ok(None);
+    }
+    Ok(Some(word))
+}
+
 // What clap gives for `check`.
-fn check(alloc: Global, given: &ArgMatches<'_>) -> Result<Command, WordsEnd>
+fn check(alloc: Global, given: &ArgMatches<'_>) -> Result<Asked, WordsEnd>
     requires { HasNumber (codes "workers") 1 MOST_WORKERS (rows_of (found_of given.now)) }
     ensures outcome { let found = rows_of (found_of given.now) in
         IsOutcomeFor (to_check (number_of (codes "workers") found) (text_of (codes "problem") found)) result }
-    ensures workers { IfOk result (λ command. IsFromTo 1 MOST_WORKERS (workers_of command)) }
+    ensures file { IfOk result (λ asked. option_map string_bytes asked.file ≡ but_dash (text_of (codes "file") (rows_of (found_of given.now)))) }
+    ensures workers { IfOk result (λ asked. IsFromTo 1 MOST_WORKERS (workers_of asked.command)) }
 {
     let workers = workers(given);
     let problem = text(alloc, given, "problem")?;
-    Ok(Command::Check { workers, problem })
+    let command = Command::Check { workers, problem };
+    let file = file(alloc, given)?;
+    Ok(Asked { command, file })
 }
 
 // What clap gives for `solve`, tested.
-fn solve(given: &ArgMatches<'_>) -> Result<Command, WordsEnd>
+fn solve(alloc: Global, given: &ArgMatches<'_>) -> Result<Asked, WordsEnd>
     requires { IsForSolve (rows_of (found_of given.now)) }
     ensures outcome { let found = rows_of (found_of given.now) in
         IsOutcomeFor (to_solve (settings_of found) (is_flagged (codes "rest") found)) result }
-    ensures workers { IfOk result (λ command. IsFromTo 1 MOST_WORKERS (workers_of command)) }
+    ensures file { IfOk result (λ asked. option_map string_bytes asked.file ≡ but_dash (text_of (codes "file") (rows_of (found_of given.now)))) }
+    ensures workers { IfOk result (λ asked. IsFromTo 1 MOST_WORKERS (workers_of asked.command)) }
 {
     let workers = workers(given);
     let expansions = expansions(given);
@@ -204,5 +225,7 @@ fn solve(given: &ArgMatches<'_>) -> Result<Command, WordsEnd>
         rows,
         shards,
     };
-    Ok(Command::Solve { settings, rest })
+    let command = Command::Solve { settings, rest };
+    let file = file(alloc, given)?;
+    Ok(Asked { command, file })
 }

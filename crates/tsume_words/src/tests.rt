@@ -3,8 +3,8 @@ use super::*;
 use std::alloc::{AllocError, Global};
 use std::test::Fail;
 
-// A line, and what it asks for: the numbers in the order of the settings and whether `--rest` stands, or the workers.
-static ASKED: [(&str, &str); 21] = [
+// A line, and what it asks for: the numbers in the order of the settings and whether `--rest` stands, or the workers; and the file.
+static ASKED: [(&str, &str); 26] = [
     ("solve", "solve 1 1000000 1048576 16384 16 false"),
     ("solve --rest", "solve 1 1000000 1048576 16384 16 true"),
     (
@@ -50,6 +50,14 @@ static ASKED: [(&str, &str); 21] = [
     ("check", "check 1"),
     ("check --workers 3", "check 3"),
     ("check --problem 4k4/9 --workers 2", "check 2 4k4/9"),
+    ("check a.cert", "check 1 of a.cert"),
+    ("check ../a --workers 2", "check 2 of ../a"),
+    ("check -", "check 1"),
+    ("check -- --help", "check 1 of --help"),
+    (
+        "solve --rest a/b.sfen",
+        "solve 1 1000000 1048576 16384 16 true of a/b.sfen",
+    ),
     ("solve --rows 24", "rows is no power of two"),
     ("solve --rows 1000 --shards 3", "rows is no power of two"),
     ("solve --shards 24", "shards is no power of two"),
@@ -60,10 +68,7 @@ static REFUSED: [(&str, &str); 23] = [
     ("solve --rows 16 --shards 32", "more shards than rows"),
     ("", "Solves tsume-shogi problems"),
     ("dance", "error: unrecognized subcommand 'dance'"),
-    (
-        "help dance",
-        "error: unrecognized subcommand 'dance'",
-    ),
+    ("help dance", "error: unrecognized subcommand 'dance'"),
     (
         "solve --version",
         "error: unexpected argument '--version' found",
@@ -76,7 +81,7 @@ static REFUSED: [(&str, &str); 23] = [
         "--workers 3",
         "error: unexpected argument '--workers' found",
     ),
-    ("solve extra", "error: unexpected argument 'extra' found"),
+    ("solve a b", "error: unexpected argument 'b' found"),
     ("solve --kif", "error: unexpected argument '--kif' found"),
     (
         "check --rows 16",
@@ -145,7 +150,7 @@ static HELPED: [(&str, &str); 15] = [
         "-h",
         "\n  solve  Solves a problem (SFEN), and prints its mate",
     ),
-    ("help", "\n  check  Checks a certificate"),
+    ("help", "\n  check  Checks a certificate, alone or behind"),
     (
         "solve --help",
         "\n      --expansions <N>  Positions, of both sides, whose moves may be listed\n",
@@ -164,7 +169,7 @@ static HELPED: [(&str, &str); 15] = [
         "solve -h",
         "Every interposition\ncounts, also one that only delays",
     ),
-    ("help check", "Usage: tsume check [OPTIONS]"),
+    ("help check", "Usage: tsume check [OPTIONS] [FILE]\n"),
     (
         "check --help",
         "\n      --problem <SFEN>  Accept the certificate for this problem alone",
@@ -184,23 +189,35 @@ fn words_of(alloc: Global, line: &str) -> Result<Vec<String>, AllocError> {
     Ok(words)
 }
 
-fn meaning(alloc: Global, line: &str) -> Result<String, AllocError> {
-    match read_words(alloc, words_of(alloc, line)?) {
-        Ok(Command::Solve { settings, rest }) => {
+fn command_text(alloc: Global, command: &Command) -> Result<String, AllocError> {
+    match command {
+        Command::Solve { settings, rest } => {
             let Settings {
                 workers,
                 expansions,
                 room,
                 rows,
                 shards,
-            } = settings;
+            } = *settings;
             let expansions = expansions.count;
             format!(in alloc; "solve {workers} {expansions} {room} {rows} {shards} {rest}")
         }
-        Ok(Command::Check { workers, problem }) => match problem {
+        Command::Check { workers, problem } => match problem {
             Some(problem) => format!(in alloc; "check {workers} {problem}"),
             None => format!(in alloc; "check {workers}"),
         },
+    }
+}
+
+fn meaning(alloc: Global, line: &str) -> Result<String, AllocError> {
+    match read_words(alloc, words_of(alloc, line)?.as_slice()) {
+        Ok(Asked { command, file }) => {
+            let text = command_text(alloc, &command)?;
+            match file {
+                Some(file) => format!(in alloc; "{text} of {file}"),
+                None => Ok(text),
+            }
+        }
         Err(WordsEnd::Help(text)) => Ok(text),
         Err(WordsEnd::Fault(fault)) => format!(in alloc; "{fault}"),
         Err(WordsEnd::NoMemory) => format!(in alloc; "out of memory"),

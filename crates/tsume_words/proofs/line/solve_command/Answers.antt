@@ -23,7 +23,11 @@ returns c =
     let no_3 = stays_local _ _ _ c.in_ok-arg-3.ensures.globals no_2 n.local in
     let no_4 = stays_local _ _ _ c.in_ok-arg-4.ensures.globals no_3 r.local in
     let no_5 = stays_local _ _ _ c.in_ok-arg-5.ensures.globals no_4 s.local in
+    let f = c.rest_flag.ensures in
+    let w_file = c.file_word.ensures in
+    let six = c.in_ok-arg-6.ensures.shape f.local ∙ ap₂ with_rule five f.rule in
+    let no_6 = stays_local _ _ _ c.in_ok-arg-6.ensures.globals no_5 f.local in
     record {
-      app = IfOk-weaker c.arg-6.result _ _ (λ r adds. adds.shape c.rest_flag.ensures.local ∙ ap₂ with_rule five c.rest_flag.ensures.rule) c.arg-6.ensures;
-      local = IfOk-weaker c.arg-6.result _ _ (λ r adds. stays_local _ _ _ adds.globals no_5 c.rest_flag.ensures.local) c.arg-6.ensures;
+      app = IfOk-weaker c.arg-7.result _ _ (λ r adds. adds.shape w_file.local ∙ ap₂ with_rule six w_file.rule) c.arg-7.ensures;
+      local = IfOk-weaker c.arg-7.result _ _ (λ r adds. stays_local _ _ _ adds.globals no_6 w_file.local) c.arg-7.ensures;
     }

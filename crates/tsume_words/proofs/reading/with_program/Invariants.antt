@@ -4,4 +4,4 @@ use Rattle.tsume_words.specs.Given.{all_words}
 use Rattle.tsume_words.proofs.reading.with_program.Given as goal
 
 abbrev pub invariant-loop-word : goal.invariant-loop-word
-invariant-loop-word l = map (λ text. text.now) l.texts.items ≡ all_words (map string_bytes (take l.word-index l.words.items))
+invariant-loop-word l = map (λ text. text.now) l.texts.items ≡ all_words (map string_bytes (take l.word-index l.words))
