@@ -3,13 +3,14 @@
 //! where the count stands at its last value).
 //!
 //! `read_all` and `write_all` are the two calls that the layers above make. `StdSource` and `StdSink`
-//! adapt std's readers and writers; `MemSource`, `MemSink` and `NeverFails` stand in memory.
+//! adapt std's readers and writers; `Opened` and `Noted` are readers for a file that may not open; `MemSource`, `MemSink` and `NeverFails` stand in memory.
 #![tactic(auto)]
 
 mod copy;
 mod fault;
 mod memory;
 mod never_fails;
+mod opened;
 mod script;
 mod sink;
 mod source;
@@ -18,6 +19,7 @@ mod standard;
 pub use fault::Failed;
 pub use memory::{MemSink, MemSource};
 pub use never_fails::NeverFails;
+pub use opened::{Noted, Opened};
 pub use sink::{Sink, WriteFault, write_all};
 pub use source::{ReadEnd, Source, read_all};
 pub use standard::{StdSink, StdSource};

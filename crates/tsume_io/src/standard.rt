@@ -30,6 +30,13 @@ impl<R: io::Read + Drop> StdSource<R> {
         StdSource { reader, faults: 0 }
     }
 
+    /// The reader.
+    pub fn reader(&self) -> &R
+        ensures { result.now ≡ reader_of self.now }
+    {
+        &self.reader
+    }
+
     /// How many reads failed, up to 2^64 - 1.
     pub fn faults(&self) -> u64
         ensures { result ≡ source_faults self.now }

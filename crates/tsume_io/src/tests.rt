@@ -157,6 +157,30 @@ fn a_reader_of_std_is_a_source(rt: HostRuntime) -> Result<(), Fail> {
 }
 
 #[test]
+fn a_file_that_does_not_open_fails_at_its_first_read(rt: HostRuntime) -> Result<(), Fail> {
+    let alloc = rt.alloc();
+    let error = io::Error::from(io::ErrorKind::NotFound);
+    let refused: Opened<&[u8], &[u8]> = Opened::Refused(error);
+    let mut source = StdSource::new(Noted::new(refused));
+    assert_eq!(rt; read_all(alloc, &mut source, 9).err(), Some(ReadEnd::Fault));
+    assert_eq!(rt; source.faults(), 1);
+    let kind = source.reader().reason().map(|reason| reason.kind());
+    assert_eq!(rt; kind, Some(io::ErrorKind::NotFound));
+    for opened in [
+        Opened::File(LETTERS.as_slice()),
+        Opened::Standard(LETTERS.as_slice()),
+    ] {
+        let mut source = StdSource::new(Noted::new(opened));
+        assert_eq!(rt;
+            read_all(alloc, &mut source, 28)?.as_slice(),
+            LETTERS.as_slice()
+        );
+        assert!(rt; source.reader().reason().is_none());
+    }
+    Ok(())
+}
+
+#[test]
 fn a_writer_of_std_is_a_sink(rt: HostRuntime) {
     let mut sink = StdSink::new(Tired { calls: 0 });
     assert_eq!(rt; sink.write(&LETTERS), Ok(2));
