@@ -1,18 +1,21 @@
 -- What reading, text and work come to.
-use Rattle.std.proofs.Common.{◌≡◌, ◌++◌, [], inl, inr, ℕ, List, Bool, true, false, Option, Some, None, arith, refl, sym, subst, ◌∙◌}
+use Rattle.std.proofs.Common.{◌≡◌, ◌++◌, ◌⊎◌, [], inl, inr, ℕ, List, Bool, true, false, Option, Some, None, arith, refl, sym, ap, subst, ◌∙◌}
 use Rattle.std.proofs.lemmas.List.{append-nil}
 use Rattle.board_core.specs.Board.{Board, HasDefender}
 use Rattle.tsume_io.specs.Source.{Took, TookAll, TookAtMost}
-use Rattle.tsume_words.specs.Given.{Wish}
+use Rattle.clap.specs.Words.{Text as Word}
+use Rattle.tsume_io.specs.Faults.{Rose}
+use Rattle.tsume_words.specs.Given.{Wish, MayAskForHelp}
 use Rattle.tsume_app.specs.declared.answer.Answer.{Answer}
+use Rattle.tsume_app.specs.declared.answer.Answer.TheVariants.{Solved, Judged, Help}
 use Rattle.tsume_app.specs.declared.ended.Ended.{Ended}
 use Rattle.tsume_app.specs.declared.ended.Ended.TheVariants.{Answered, CutShort, Failed}
 use Rattle.tsume_app.specs.declared.fault.Fault.{Fault}
 use Rattle.tsume_app.specs.declared.fault.Fault.TheVariants.{NoMemory}
 use Rattle.tsume_app.specs.Input.{searched_board}
 use Rattle.tsume_app.specs.Inside.{HasWritten}
-use Rattle.tsume_app.specs.Outside.{Shown}
-use Rattle.tsume_app.specs.Run.{IsReadWhole, IsDecided, HasCause, IsEnded}
+use Rattle.tsume_app.specs.Outside.{Shown, IsUntouched}
+use Rattle.tsume_app.specs.Run.{IsReadWhole, IsDecided, HasCause, IsEnded, IsEndedUnasked, GivesHelp, WantsMemory}
 
 -- the side not to move has a king still with the rest in hand
 pub searched_has_king : (rest : Bool) (p : Board) → HasDefender p → HasDefender (searched_board rest p)
@@ -53,3 +56,30 @@ ended_of wish source sink answer (Failed fault input) d w = (
       (subst (λ (i : List ℕ). HasCause wish source NoMemory i) (sym w.1) (read_then_wanted_more wish source d.input d.read)),
   w.2,
 )
+
+-- the answer is help
+abbrev pub IsHelpText : Answer → Type 0
+IsHelpText (Solved solution) = ⊥
+IsHelpText (Judged judgement) = ⊥
+IsHelpText (Help text) = Unit {0}
+
+-- help that was written, or cut short, or wanted memory, is how words ended that may ask for it
+pub unasked_of : (words : List Word) (source sink : Shown) (answer : Answer) (ended : Ended) → IsHelpText answer
+    → MayAskForHelp words → IsUntouched source → HasWritten sink answer ended → IsEndedUnasked words source sink ended
+unasked_of words source sink (Solved solution) ended is may unread w = absurd is
+unasked_of words source sink (Judged judgement) ended is may unread w = absurd is
+unasked_of words source sink (Help text) (Answered told) is may unread w =
+    subst (λ (a : Answer). IsEndedUnasked words source sink (Answered a)) (sym w.0) (may, unread, w.1)
+unasked_of words source sink (Help text) (CutShort told) is may unread w =
+    subst (λ (a : Answer). IsEndedUnasked words source sink (CutShort a)) (sym w.0) (may, unread, w.1, w.2)
+unasked_of words source sink (Help text) (Failed fault input) is may unread w =
+    subst (λ (f : Fault). IsEndedUnasked words source sink (Failed f input)) (sym w.0) (unread, w.2, w.1)
+
+-- and is answered unless the sink failed
+pub help_of : (sink : Shown) (answer : Answer) (ended : Ended) → IsHelpText answer
+    → HasWritten sink answer ended → ¬ Rose sink.faults sink.faults_after → GivesHelp ended ⊎ WantsMemory ended
+help_of sink (Solved solution) ended is w kept = absurd is
+help_of sink (Judged judgement) ended is w kept = absurd is
+help_of sink (Help text) (Answered told) is w kept = inl (subst (λ (a : Answer). GivesHelp (Answered a)) (sym w.0) tt)
+help_of sink answer (CutShort told) is w kept = absurd (kept w.2)
+help_of sink answer (Failed fault input) is w kept = inr (input, ap (λ (f : Fault). Failed f input) w.0)

@@ -1,5 +1,5 @@
 -- What an answer prints, and what it means.
-use Rattle.std.specs.Prelude.{◌≡◌, ℕ, List, ◌∷◌, ◌++◌, codes, length}
+use Rattle.std.specs.Prelude.{◌≡◌, ℕ, List, ◌∷◌, ◌++◌, codes, length, string_bytes}
 use Rattle.std.specs.Fmt.{decimal}
 use Rattle.board_core.specs.declared.moves.Move.{Move}
 use Rattle.board_core.specs.Board.{Board}
@@ -29,7 +29,7 @@ use Rattle.tsume_app.specs.declared.answer.Solution.TheVariants.{Mate, NoMate, U
 use Rattle.tsume_app.specs.declared.answer.Judgement.{Judgement}
 use Rattle.tsume_app.specs.declared.answer.Judgement.TheVariants.{Accepted, Refused}
 use Rattle.tsume_app.specs.declared.answer.Answer.{Answer}
-use Rattle.tsume_app.specs.declared.answer.Answer.TheVariants.{Solved, Judged}
+use Rattle.tsume_app.specs.declared.answer.Answer.TheVariants.{Solved, Judged, Help}
 
 -- A reason against a certificate: a word, and the move that it names.
 abbrev pub why_text : Why → List ℕ
@@ -60,6 +60,7 @@ judgement_text (Refused entry why) = line (codes "refused " ++ decimal entry ++ 
 abbrev pub answer_text : Answer → List ℕ
 answer_text (Solved solution) = solution_text solution
 answer_text (Judged judgement) = judgement_text judgement
+answer_text (Help text) = string_bytes text
 
 -- The checker accepts the certificate for the position: every verdict that it may come to is that one.
 abbrev pub IsAcceptedFor : Board → Certificate → Type 0
@@ -91,19 +92,20 @@ IsTrueOf p expansions (Mate c moves) = IsMateShown p expansions c moves
 IsTrueOf p expansions (NoMate c) = IsNoMateShown p expansions c
 IsTrueOf p expansions (Unknown cause) = IsGivenUp p expansions cause
 
--- A certificate was accepted: it is valid for its own problem, and shows what it claims.
-pub record IsAcceptance (c : Certificate) (claim : Claim) (entries : ℕ) : Type 0 where
-  pub valid : IsValid c (problem_of c)
-  pub shows : Shows c (problem_of c)
+-- A certificate was accepted for a problem: it is valid for it, and shows what it claims.
+pub record IsAcceptance (p : Board) (c : Certificate) (claim : Claim) (entries : ℕ) : Type 0 where
+  pub valid : IsValid c p
+  pub shows : Shows c p
   pub is_claim : claim ≡ claim_of c
   pub count : entries ≡ length (positions_in c)
 
--- A certificate was refused: it isn't valid for its own problem, and this is the first reason.
-pub record IsRefusal (c : Certificate) (entry : ℕ) (why : Why) : Type 0 where
-  pub invalid : ¬ IsValid c (problem_of c)
-  pub first : IsFirstAgainst c (problem_of c) entry why
+-- A certificate was refused for a problem: it isn't valid for it, and this is the first reason. (Where it is about another, that is
+-- that the problem isn't listed.)
+pub record IsRefusal (p : Board) (c : Certificate) (entry : ℕ) (why : Why) : Type 0 where
+  pub invalid : ¬ IsValid c p
+  pub first : IsFirstAgainst c p entry why
 
--- A judgement is true of a certificate: it was accepted so, or refused so.
-abbrev pub IsTrueOfCertificate : Certificate → Judgement → Type 0
-IsTrueOfCertificate c (Accepted claim entries) = IsAcceptance c claim entries
-IsTrueOfCertificate c (Refused entry why) = IsRefusal c entry why
+-- A judgement is true of a certificate for a problem: it was accepted so, or refused so.
+abbrev pub IsTrueOfCertificate : Board → Certificate → Judgement → Type 0
+IsTrueOfCertificate p c (Accepted claim entries) = IsAcceptance p c claim entries
+IsTrueOfCertificate p c (Refused entry why) = IsRefusal p c entry why

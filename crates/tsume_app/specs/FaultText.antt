@@ -6,7 +6,7 @@ use Rattle.tsume_words.specs.FaultText.{word_fault_text}
 use Rattle.tsume_app.specs.declared.fault.ProblemFault.{ProblemFault}
 use Rattle.tsume_app.specs.declared.fault.ProblemFault.TheVariants.{Text, DefenderInCheck}
 use Rattle.tsume_app.specs.declared.fault.Fault.{Fault}
-use Rattle.tsume_app.specs.declared.fault.Fault.TheVariants.{NotUtf8, Words, TooLong, Problem, Cert, Read, NoMemory}
+use Rattle.tsume_app.specs.declared.fault.Fault.TheVariants.{NotUtf8, Words, Asked, TooLong, Problem, Cert, Read, NoMemory}
 use Rattle.tsume_app.specs.declared.ended.Ended.{Ended}
 use Rattle.tsume_app.specs.declared.ended.Ended.TheVariants.{Answered, CutShort, Failed}
 
@@ -19,6 +19,7 @@ problem_fault_text DefenderInCheck = codes "defender in check"
 abbrev pub failure_text : Fault → List ℕ
 failure_text NotUtf8 = codes "a word is not UTF-8"
 failure_text (Words fault) = word_fault_text fault
+failure_text (Asked fault) = problem_fault_text fault
 failure_text TooLong = codes "too long"
 failure_text (Problem fault) = problem_fault_text fault
 failure_text (Cert fault) = certificate_fault_text fault

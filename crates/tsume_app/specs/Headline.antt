@@ -1,5 +1,5 @@
 -- The program's promise in plain words.
-use Rattle.std.specs.Prelude.{◌≡◌, ℕ, List, Bool, Some, Ok, ⊤, length}
+use Rattle.std.specs.Prelude.{◌≡◌, ℕ, List, Bool, Option, Some, Ok, ⊤, length}
 use Rattle.board_core.specs.declared.moves.Move.{Move}
 use Rattle.board_core.specs.Board.{Board}
 use Rattle.mate_def.specs.Mate.{IsMate}
@@ -8,7 +8,7 @@ use Rattle.cert_text.specs.declared.certificate.Certificate.{Certificate}
 use Rattle.cert_text.specs.Certificate.{Mating, Escaping}
 use Rattle.cert_text.specs.Reading.{IsReadable, IsTextOf}
 use Rattle.cert_text.specs.declared.head.Claim.{Claim}
-use Rattle.cert_text.specs.Kinds.{claim_of, problem_of, positions_in}
+use Rattle.cert_text.specs.Kinds.{claim_of, positions_in}
 use Rattle.cert_check.specs.Valid.{IsValid, Shows, ValidMate, ValidEscape}
 use Rattle.play_line.specs.Line.{IsMainLine}
 use Rattle.tsume_words.specs.Given.{SettingsView}
@@ -17,19 +17,19 @@ use Rattle.tsume_words.specs.Meaning.{command_of}
 use Rattle.tsume_app.specs.declared.answer.Cause.{Cause}
 use Rattle.tsume_app.specs.declared.answer.Judgement.TheVariants.{Accepted}
 use Rattle.tsume_app.specs.declared.answer.Answer.TheVariants.{Judged}
-use Rattle.tsume_app.specs.declared.fault.Fault.TheVariants.{NotUtf8, Words, TooLong, Problem, Cert, Read, NoMemory}
+use Rattle.tsume_app.specs.declared.fault.Fault.TheVariants.{NotUtf8, Words, Asked, TooLong, Problem, Cert, Read, NoMemory}
 use Rattle.tsume_app.specs.declared.ended.Ended.{Ended}
 use Rattle.tsume_app.specs.declared.ended.Ended.TheVariants.{Answered, CutShort, Failed}
 use Rattle.tsume_app.specs.Answer.{IsGivenUp}
-use Rattle.tsume_app.specs.Input.{StandsFor}
+use Rattle.tsume_app.specs.Input.{StandsFor, IsJudgedFor}
 
 -- The words ask to solve, with the rest of the pieces in the defender's hand or without.
 abbrev pub AsksToSolve : Bool → List Word → Type 0
 AsksToSolve rest words = (settings : SettingsView) × (command_of words ≡ Some (to_solve settings rest))
 
--- The words ask to check.
-abbrev pub AsksToCheck : List Word → Type 0
-AsksToCheck words = (workers : ℕ) × (command_of words ≡ Some (to_check workers))
+-- The words ask to check, for the problem of this text, or, where there is none, for the certificate's own.
+abbrev pub AsksToCheck : Option Word → List Word → Type 0
+AsksToCheck problem words = (workers : ℕ) × (command_of words ≡ Some (to_check workers problem))
 
 -- The bytes stand for a problem that is a mate, the certificate is valid for it, and the moves are its main line.
 pub record StandsForMate (rest : Bool) (input : List ℕ) (c : Mating) (moves : List Move) : Type 0 where
@@ -63,16 +63,18 @@ pub record NamesNoMate (c : Escaping) : Type 0 where
   pub no_mate : ¬ IsMate c.problem.side c.problem
   pub valid : ValidEscape c c.problem
 
--- The bytes are the text of a certificate that claims this of its own problem, lists so many positions, is valid for the problem
--- and shows what it claims.
-pub record IsValidText (input : List ℕ) (claim : Claim) (entries : ℕ) : Type 0 where
+-- The bytes are the text of a certificate that claims this, lists so many positions, is valid for the problem whose text is given, or
+-- for its own where none is, and shows what it claims.
+pub record IsValidText (problem : Option Word) (input : List ℕ) (claim : Claim) (entries : ℕ) : Type 0 where
   pub certificate : Certificate
   pub readable : IsReadable certificate
   pub text : IsTextOf certificate input
   pub is_claim : claim ≡ claim_of certificate
   pub count : entries ≡ length (positions_in certificate)
-  pub valid : IsValid certificate (problem_of certificate)
-  pub shows : Shows certificate (problem_of certificate)
+  pub board : Board
+  pub judged_for : IsJudgedFor problem certificate board
+  pub valid : IsValid certificate board
+  pub shows : Shows certificate board
 
 -- The run ended with a certificate accepted that claims this and has so many entries.
 abbrev pub IsAccepted : Ended → Claim → ℕ → Type 0
@@ -84,6 +86,7 @@ IsBrokenOff (Answered answer) = ⊥
 IsBrokenOff (CutShort answer) = ⊤
 IsBrokenOff (Failed NotUtf8 input) = ⊥
 IsBrokenOff (Failed (Words fault) input) = ⊥
+IsBrokenOff (Failed (Asked fault) input) = ⊥
 IsBrokenOff (Failed TooLong input) = ⊤
 IsBrokenOff (Failed (Problem fault) input) = ⊥
 IsBrokenOff (Failed (Cert fault) input) = ⊥

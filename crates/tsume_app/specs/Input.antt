@@ -1,10 +1,13 @@
 -- What the bytes of an input stand for.
-use Rattle.std.specs.Prelude.{◌≡◌, ℕ, List, Bool, true, false, Result, Ok, Err}
+use Rattle.std.specs.Prelude.{◌≡◌, ℕ, List, Bool, true, false, Option, Some, None, Result, Ok, Err}
 use Rattle.bit_boards.specs.Kind.{other}
 use Rattle.board_core.specs.Board.{Board}
 use Rattle.board_core.specs.Rest.{board_with_rest}
 use Rattle.shogi_rules.specs.Rules.{IsInCheck}
 use Rattle.shogi_rules.specs.Tsume.{IsProblem}
+use Rattle.clap.specs.Words.{Text as Word}
+use Rattle.cert_text.specs.declared.certificate.Certificate.{Certificate}
+use Rattle.cert_text.specs.Kinds.{problem_of}
 use Rattle.sfen_text.specs.Faults.{IsReadingOutcome}
 use Rattle.tsume_words.specs.Given.{Wish}
 use Rattle.tsume_words.specs.Given.Wish.{to_solve, to_check}
@@ -15,7 +18,7 @@ use Rattle.tsume_app.specs.declared.input.TheConstants.{MOST_PROBLEM_BYTES, MOST
 -- The most bytes that the input of a command may have.
 abbrev pub limit_of : Wish → ℕ
 limit_of (to_solve settings rest) = MOST_PROBLEM_BYTES
-limit_of (to_check workers) = MOST_CERTIFICATE_BYTES
+limit_of (to_check workers problem) = MOST_CERTIFICATE_BYTES
 
 -- The position that is searched: the one that was read, with the rest of the pieces in the defender's hand where that is
 -- asked for.
@@ -41,3 +44,14 @@ abbrev pub StandsFor : Bool → List ℕ → Result Board ProblemFault → Type 
 StandsFor rest input (Ok problem) = IsProblemRead rest input problem
 StandsFor rest input (Err (Text fault)) = IsReadingOutcome input (Err fault)
 StandsFor rest input (Err DefenderInCheck) = IsInCheckRead rest input
+
+-- The words give a problem that the certificate has to be for, and its text is none: this is its first fault.
+abbrev pub IsAskedFault : Wish → ProblemFault → Type 0
+IsAskedFault (to_solve settings rest) fault = ⊥
+IsAskedFault (to_check workers None) fault = ⊥
+IsAskedFault (to_check workers (Some text)) fault = StandsFor false text (Err fault)
+
+-- The problem for which a certificate is judged: the one whose text the words give, or its own where they give none.
+abbrev pub IsJudgedFor : Option Word → Certificate → Board → Type 0
+IsJudgedFor None c p = p ≡ problem_of c
+IsJudgedFor (Some text) c p = StandsFor false text (Ok p)

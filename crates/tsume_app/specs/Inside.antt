@@ -1,17 +1,21 @@
 -- What the private functions of this crate say of one another; no public clause cites these.
-use Rattle.std.specs.Prelude.{◌≡◌, []}
+use Rattle.std.specs.Prelude.{◌≡◌, [], Option, Some, None, Ok, false}
 use Rattle.usi_text.specs.Lines.{AllHaveText}
 use Rattle.tsume_io.specs.Faults.{Rose}
 use Rattle.tsume_io.specs.Sink.{GrewBy, GrewByPrefix}
 use Rattle.tsume_app.specs.declared.answer.Solution.{Solution}
 use Rattle.tsume_app.specs.declared.answer.Solution.TheVariants.{Mate, NoMate, Unknown}
 use Rattle.tsume_app.specs.declared.answer.Answer.{Answer}
-use Rattle.tsume_app.specs.declared.answer.Answer.TheVariants.{Solved, Judged}
+use Rattle.tsume_app.specs.declared.answer.Answer.TheVariants.{Solved, Judged, Help}
 use Rattle.tsume_app.specs.declared.fault.Fault.{Fault}
-use Rattle.tsume_app.specs.declared.fault.Fault.TheVariants.{NotUtf8, Words, TooLong, Problem, Cert, Read, NoMemory}
+use Rattle.tsume_app.specs.declared.fault.Fault.TheVariants.{NotUtf8, Words, Asked, TooLong, Problem, Cert, Read, NoMemory}
 use Rattle.tsume_app.specs.declared.ended.Ended.{Ended}
 use Rattle.tsume_app.specs.declared.ended.Ended.TheVariants.{Answered, CutShort, Failed}
+use Rattle.shogi_rules.specs.declared.problem.Problem.{Problem as GivenProblem}
+use Rattle.tsume_words.specs.Given.{Wish}
+use Rattle.tsume_words.specs.Given.Wish.{to_solve, to_check}
 use Rattle.tsume_app.specs.Answer.{answer_text}
+use Rattle.tsume_app.specs.Input.{StandsFor}
 use Rattle.tsume_app.specs.Outside.{Shown, NeverFailed, IsUntouched}
 
 -- Every move of a solution's line has a text.
@@ -24,11 +28,13 @@ HasLine (Unknown cause) = Unit {0}
 abbrev pub HasTexts : Answer → Type 0
 HasTexts (Solved solution) = HasLine solution
 HasTexts (Judged judgement) = Unit {0}
+HasTexts (Help text) = Unit {0}
 
 -- A source's count of faults is as it was, unless reading failed.
 abbrev pub IsReadCounted : Shown → Fault → Type 0
 IsReadCounted source NotUtf8 = NeverFailed source
 IsReadCounted source (Words fault) = NeverFailed source
+IsReadCounted source (Asked fault) = NeverFailed source
 IsReadCounted source TooLong = NeverFailed source
 IsReadCounted source (Problem fault) = NeverFailed source
 IsReadCounted source (Cert fault) = NeverFailed source
@@ -42,3 +48,12 @@ HasWritten sink answer (Answered told) = (told ≡ answer) × GrewBy sink.told s
 HasWritten sink answer (CutShort told) =
     (told ≡ answer) × GrewByPrefix sink.told sink.told_after (answer_text answer) × Rose sink.faults sink.faults_after
 HasWritten sink answer (Failed fault input) = (fault ≡ NoMemory) × (input ≡ []) × IsUntouched sink
+
+-- The problem that the words give for a certificate, where they give one.
+abbrev pub IsAskedProblem : Wish → Option GivenProblem → Type 0
+IsAskedProblem (to_solve settings rest) None = Unit {0}
+IsAskedProblem (to_solve settings rest) (Some problem) = ⊥
+IsAskedProblem (to_check workers None) None = Unit {0}
+IsAskedProblem (to_check workers None) (Some problem) = ⊥
+IsAskedProblem (to_check workers (Some text)) None = ⊥
+IsAskedProblem (to_check workers (Some text)) (Some problem) = StandsFor false text (Ok problem.position)

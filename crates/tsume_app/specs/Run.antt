@@ -1,14 +1,12 @@
 -- What a run of the program did.
-use Rattle.std.specs.Prelude.{◌≡◌, ◌≤◌, ◌⊎◌, ℕ, List, [], Bool, Option, Some, Ok, Err, length}
+use Rattle.std.specs.Prelude.{◌≡◌, ◌≤◌, ◌⊎◌, ℕ, List, [], Bool, false, Option, Some, None, Ok, Err, length, ⊤}
 use Rattle.board_core.specs.Board.{Board}
 use Rattle.tsume_io.specs.Faults.{Rose}
 use Rattle.tsume_io.specs.Source.{TookAll, TookAtMost, TookOneMoreThan, HasMoreThan}
 use Rattle.tsume_io.specs.Sink.{GrewBy, GrewByPrefix}
-use Rattle.tsume_words.specs.Given.{Wish}
+use Rattle.tsume_words.specs.Given.{Wish, MayAskForHelp}
 use Rattle.tsume_words.specs.Given.Wish.{to_solve, to_check}
 use Rattle.tsume_words.specs.Meaning.{IsRefusalOf}
-use Rattle.tsume_words.specs.declared.faults.WordsEnd.{WordsEnd}
-use Rattle.tsume_words.specs.declared.faults.WordsEnd.TheVariants as words_ends
 use Rattle.clap.specs.Words.{Text as Word}
 use Rattle.cert_text.specs.declared.certificate.Certificate.{Certificate}
 use Rattle.cert_text.specs.declared.fault.CertFault.{CertFault}
@@ -16,14 +14,14 @@ use Rattle.cert_text.specs.Reading.{HasFirstFault, IsReadable, IsTextOf, IsCerti
 use Rattle.tsume_app.specs.declared.answer.Solution.{Solution}
 use Rattle.tsume_app.specs.declared.answer.Judgement.{Judgement}
 use Rattle.tsume_app.specs.declared.answer.Answer.{Answer}
-use Rattle.tsume_app.specs.declared.answer.Answer.TheVariants.{Solved, Judged}
+use Rattle.tsume_app.specs.declared.answer.Answer.TheVariants.{Solved, Judged, Help}
 use Rattle.tsume_app.specs.declared.fault.ProblemFault.{ProblemFault}
 use Rattle.tsume_app.specs.declared.fault.Fault.{Fault}
-use Rattle.tsume_app.specs.declared.fault.Fault.TheVariants.{NotUtf8, Words, TooLong, Problem, Cert, Read, NoMemory}
+use Rattle.tsume_app.specs.declared.fault.Fault.TheVariants.{NotUtf8, Words, Asked, TooLong, Problem, Cert, Read, NoMemory}
 use Rattle.tsume_app.specs.declared.ended.Ended.{Ended}
 use Rattle.tsume_app.specs.declared.ended.Ended.TheVariants.{Answered, CutShort, Failed}
 use Rattle.tsume_app.specs.Answer.{answer_text, IsTrueOf, IsTrueOfCertificate}
-use Rattle.tsume_app.specs.Input.{limit_of, StandsFor}
+use Rattle.tsume_app.specs.Input.{limit_of, StandsFor, IsAskedFault, IsJudgedFor}
 use Rattle.tsume_app.specs.Outside.{Shown, NeverFailed, IsUntouched}
 
 -- The bytes of an input are a problem of which the solution is true.
@@ -32,24 +30,29 @@ pub record IsSolution (rest : Bool) (expansions : ℕ) (input : List ℕ) (solut
   pub stands_for : StandsFor rest input (Ok problem)
   pub true_of : IsTrueOf problem expansions solution
 
--- The bytes of an input are the text of one certificate, of which the judgement is true.
-pub record IsJudged (input : List ℕ) (judgement : Judgement) : Type 0 where
+-- The bytes of an input are the text of one certificate, of which the judgement is true, for the problem whose text the words give, or
+-- for its own.
+pub record IsJudged (problem : Option Word) (input : List ℕ) (judgement : Judgement) : Type 0 where
   pub certificate : Certificate
   pub read : IsCertificateOutcome input (Ok certificate)
   pub only : (c : Certificate) → IsReadable c → IsTextOf c input → c ≡ certificate
-  pub true_of : IsTrueOfCertificate certificate judgement
+  pub board : Board
+  pub judged_for : IsJudgedFor problem certificate board
+  pub true_of : IsTrueOfCertificate board certificate judgement
 
 -- An answer is true of the bytes of an input: a solution of the problem that they are, or a judgement on the certificate.
 abbrev pub IsTrueOfInput : Wish → List ℕ → Answer → Type 0
 IsTrueOfInput (to_solve settings rest) input (Solved solution) = IsSolution rest settings.expansions input solution
 IsTrueOfInput (to_solve settings rest) input (Judged judgement) = ⊥
-IsTrueOfInput (to_check workers) input (Solved solution) = ⊥
-IsTrueOfInput (to_check workers) input (Judged judgement) = IsJudged input judgement
+IsTrueOfInput (to_solve settings rest) input (Help text) = ⊥
+IsTrueOfInput (to_check workers problem) input (Solved solution) = ⊥
+IsTrueOfInput (to_check workers problem) input (Judged judgement) = IsJudged problem input judgement
+IsTrueOfInput (to_check workers problem) input (Help text) = ⊥
 
 -- The bytes of an input are no problem, and this is their first fault; `solve` alone tells it.
 abbrev pub IsProblemFault : Wish → List ℕ → ProblemFault → Type 0
 IsProblemFault (to_solve settings rest) input fault = StandsFor rest input (Err fault)
-IsProblemFault (to_check workers) input fault = ⊥
+IsProblemFault (to_check workers problem) input fault = ⊥
 
 -- The bytes of an input are no certificate's text.
 abbrev pub IsNoCertificate : List ℕ → Type 0
@@ -62,7 +65,7 @@ HasOneFault input fault = HasFirstFault input fault × ((other : CertFault) → 
 -- The bytes of an input are no certificate's text, and this is their first fault; `check` alone tells it.
 abbrev pub IsCertificateFault : Wish → List ℕ → CertFault → Type 0
 IsCertificateFault (to_solve settings rest) input fault = ⊥
-IsCertificateFault (to_check workers) input fault = HasOneFault input fault × IsNoCertificate input
+IsCertificateFault (to_check workers problem) input fault = HasOneFault input fault × IsNoCertificate input
 
 -- The bytes of an input were all that the source had left, and no more than the command takes.
 pub record IsReadWhole (wish : Wish) (source : Shown) (input : List ℕ) : Type 0 where
@@ -90,12 +93,13 @@ pub record IsCutShort (wish : Wish) (source sink : Shown) (answer : Answer) : Ty
 abbrev pub IsAllOrNone : Shown → List ℕ → Type 0
 IsAllOrNone source input = (input ≡ []) ⊎ TookAll source.told source.told_after input
 
--- A fault of a command has its cause, and these bytes of the input were kept. More bytes than the command takes, and one more was
--- taken; a text that is no problem, or no certificate; a count of faults that rose, and no more than the limit was taken; want of
--- memory, which is free, likewise. The words were taken.
+-- A fault of a command has its cause, and these bytes of the input were kept. The words give a text that is no problem, and nothing was
+-- read; more bytes than the command takes, and one more was taken; a text that is no problem, or no certificate; a count of faults that
+-- rose, and no more than the limit was taken; want of memory, which is free, likewise. The words were taken.
 abbrev pub HasCause : Wish → Shown → Fault → List ℕ → Type 0
 HasCause wish source NotUtf8 input = ⊥
 HasCause wish source (Words fault) input = ⊥
+HasCause wish source (Asked fault) input = IsAskedFault wish fault × IsUntouched source × (input ≡ [])
 HasCause wish source TooLong input =
     HasMoreThan (limit_of wish) source.told × TookOneMoreThan (limit_of wish) source.told source.told_after × (input ≡ [])
 HasCause wish source (Problem fault) input = IsReadWhole wish source input × IsProblemFault wish input fault
@@ -117,24 +121,42 @@ IsCounted source sink (Answered answer) = NeverFailed source × NeverFailed sink
 IsCounted source sink (CutShort answer) = NeverFailed source
 IsCounted source sink (Failed NotUtf8 input) = NeverFailed source × NeverFailed sink
 IsCounted source sink (Failed (Words fault) input) = NeverFailed source × NeverFailed sink
+IsCounted source sink (Failed (Asked fault) input) = NeverFailed source × NeverFailed sink
 IsCounted source sink (Failed TooLong input) = NeverFailed source × NeverFailed sink
 IsCounted source sink (Failed (Problem fault) input) = NeverFailed source × NeverFailed sink
 IsCounted source sink (Failed (Cert fault) input) = NeverFailed source × NeverFailed sink
 IsCounted source sink (Failed Read input) = NeverFailed sink
 IsCounted source sink (Failed NoMemory input) = NeverFailed source × NeverFailed sink
 
--- The fault that a refusal of the words becomes.
-abbrev pub words_fault : WordsEnd → Fault
-words_fault (words_ends.Fault fault) = Words fault
-words_fault words_ends.NoMemory = NoMemory
+-- How a run ended whose words ask for no command; nothing was read. They may ask for help or for the version: its text was written whole,
+-- or a failing sink kept a part of it. They were refused with the cause, and nothing was written; want of memory, which is free, likewise.
+abbrev pub IsEndedUnasked : List Word → Shown → Shown → Ended → Type 0
+IsEndedUnasked words source sink (Answered (Solved solution)) = ⊥
+IsEndedUnasked words source sink (Answered (Judged judgement)) = ⊥
+IsEndedUnasked words source sink (Answered (Help text)) =
+    MayAskForHelp words × IsUntouched source × GrewBy sink.told sink.told_after (answer_text (Help text))
+IsEndedUnasked words source sink (CutShort (Solved solution)) = ⊥
+IsEndedUnasked words source sink (CutShort (Judged judgement)) = ⊥
+IsEndedUnasked words source sink (CutShort (Help text)) =
+    MayAskForHelp words × IsUntouched source × GrewByPrefix sink.told sink.told_after (answer_text (Help text))
+    × Rose sink.faults sink.faults_after
+IsEndedUnasked words source sink (Failed NotUtf8 input) = ⊥
+IsEndedUnasked words source sink (Failed (Words fault) input) =
+    IsRefusalOf words fault × IsUntouched source × IsUntouched sink × (input ≡ [])
+IsEndedUnasked words source sink (Failed (Asked fault) input) = ⊥
+IsEndedUnasked words source sink (Failed TooLong input) = ⊥
+IsEndedUnasked words source sink (Failed (Problem fault) input) = ⊥
+IsEndedUnasked words source sink (Failed (Cert fault) input) = ⊥
+IsEndedUnasked words source sink (Failed Read input) = ⊥
+IsEndedUnasked words source sink (Failed NoMemory input) = IsUntouched source × IsUntouched sink × (input ≡ [])
 
--- The words were refused, with the cause, before anything was read or written. Want of memory is free.
-pub record AreWordsRefused (words : List Word) (source sink : Shown) (ended : Ended) : Type 0 where
-  pub refusal : WordsEnd
-  pub is : ended ≡ Failed (words_fault refusal) []
-  pub cause : IsRefusalOf words refusal
-  pub unread : IsUntouched source
-  pub unwritten : IsUntouched sink
+-- The run ended with help, or with the version, written whole.
+abbrev pub GivesHelp : Ended → Type 0
+GivesHelp (Answered (Solved solution)) = ⊥
+GivesHelp (Answered (Judged judgement)) = ⊥
+GivesHelp (Answered (Help text)) = ⊤
+GivesHelp (CutShort answer) = ⊥
+GivesHelp (Failed fault input) = ⊥
 
 -- The bytes that the source has left are a problem, and short enough.
 pub record IsProblemGiven (rest : Bool) (limit : ℕ) (left : Option (List ℕ)) : Type 0 where
@@ -153,10 +175,15 @@ pub record IsCertificateGiven (limit : ℕ) (left : Option (List ℕ)) : Type 0 
   pub readable : IsReadable certificate
   pub text : IsTextOf certificate input
 
--- The bytes that the source has left are what a command is asked about.
+-- The text that the words give for a certificate's problem is one's, where they give one.
+abbrev pub IsProblemAsked : Option Word → Type 0
+IsProblemAsked None = Unit {0}
+IsProblemAsked (Some text) = (problem : Board) × StandsFor false text (Ok problem)
+
+-- The bytes that the source has left are what a command is asked about, and so is the problem that the words give.
 abbrev pub IsWellPosed : Wish → Option (List ℕ) → Type 0
 IsWellPosed (to_solve settings rest) left = IsProblemGiven rest (limit_of (to_solve settings rest)) left
-IsWellPosed (to_check workers) left = IsCertificateGiven (limit_of (to_check workers)) left
+IsWellPosed (to_check workers problem) left = IsCertificateGiven (limit_of (to_check workers problem)) left × IsProblemAsked problem
 
 -- The run ended with an answer that was written whole.
 abbrev pub IsAnswered : Ended → Type 0

@@ -5,9 +5,9 @@ use Rattle.tsume_app.specs.declared.answer.Solution.TheVariants.{Mate, NoMate, U
 use Rattle.tsume_app.specs.declared.answer.Judgement.{Judgement}
 use Rattle.tsume_app.specs.declared.answer.Judgement.TheVariants.{Accepted, Refused}
 use Rattle.tsume_app.specs.declared.answer.Answer.{Answer}
-use Rattle.tsume_app.specs.declared.answer.Answer.TheVariants.{Solved, Judged}
+use Rattle.tsume_app.specs.declared.answer.Answer.TheVariants.{Solved, Judged, Help}
 use Rattle.tsume_app.specs.declared.fault.Fault.{Fault}
-use Rattle.tsume_app.specs.declared.fault.Fault.TheVariants.{NotUtf8, Words, TooLong, Problem, Cert, Read, NoMemory}
+use Rattle.tsume_app.specs.declared.fault.Fault.TheVariants.{NotUtf8, Words, Asked, TooLong, Problem, Cert, Read, NoMemory}
 use Rattle.tsume_app.specs.declared.ended.Ended.{Ended}
 use Rattle.tsume_app.specs.declared.ended.Ended.TheVariants.{Answered, CutShort, Failed}
 
@@ -22,15 +22,17 @@ abbrev pub judgement_status : Judgement → ℕ
 judgement_status (Accepted claim entries) = 0
 judgement_status (Refused entry why) = 7
 
--- The status of an answer.
+-- The status of an answer; 0 for help.
 abbrev pub answer_status : Answer → ℕ
 answer_status (Solved solution) = solution_status solution
 answer_status (Judged judgement) = judgement_status judgement
+answer_status (Help text) = 0
 
 -- The status of a fault: 2 where the words are refused, 3 where the input is, 4 where the source failed, 6 for want of memory.
 abbrev pub fault_status : Fault → ℕ
 fault_status NotUtf8 = 2
 fault_status (Words fault) = 2
+fault_status (Asked fault) = 2
 fault_status TooLong = 3
 fault_status (Problem fault) = 3
 fault_status (Cert fault) = 3

@@ -11,7 +11,7 @@ use Rattle.tsume_app.specs.declared.telling.Told.{Told}
 use Rattle.tsume_app.specs.declared.telling.Told.TheVariants.{Whole, InPart, Nothing}
 use Rattle.tsume_app.specs.FaultText.{ended_text}
 use Rattle.tsume_app.specs.Outside.{Shown, NeverFailed, IsUntouched}
-use Rattle.tsume_app.specs.Run.{IsEnded, AreWordsRefused}
+use Rattle.tsume_app.specs.Run.{IsEnded, IsEndedUnasked}
 use Rattle.tsume_app.specs.Status.{status_of}
 
 -- A line for the user: `tsume: `, a text, and a line feed.
@@ -37,4 +37,4 @@ pub record IsToldRun (words : List Word) (source sink errors : Shown) (status : 
   pub is_status : status ≡ status_of ended
   pub is_told : IsTold errors ended told
   pub does : (wish : Wish) → command_of words ≡ Some wish → IsEnded wish source sink ended
-  pub refuses : command_of words ≡ None → AreWordsRefused words source sink ended
+  pub unasked : command_of words ≡ None → IsEndedUnasked words source sink ended

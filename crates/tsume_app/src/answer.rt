@@ -81,4 +81,6 @@ pub enum Answer {
     Solved(Solution),
     /// To `check`.
     Judged(Judgement),
+    /// To a request for help or for the version: the text, as clap made it.
+    Help(String),
 }

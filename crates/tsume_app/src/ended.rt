@@ -44,6 +44,7 @@ fn answer_status(answer: &Answer) -> u8
     match answer {
         Answer::Solved(solution) => solution_status(solution),
         Answer::Judged(judgement) => judgement_status(judgement),
+        Answer::Help(_) => 0,
     }
 }
 
@@ -51,7 +52,7 @@ fn fault_status(fault: &Fault) -> u8
     ensures { result ≡ fault_status fault.now }
 {
     match fault {
-        Fault::NotUtf8 | Fault::Words(_) => 2,
+        Fault::NotUtf8 | Fault::Words(_) | Fault::Asked(_) => 2,
         Fault::TooLong | Fault::Problem(_) | Fault::Cert(_) => 3,
         Fault::Read => 4,
         Fault::NoMemory => 6,
@@ -59,7 +60,7 @@ fn fault_status(fault: &Fault) -> u8
 }
 
 impl Ended {
-    /// The exit status: 0 for a verdict or an accepted certificate, 1 where a search gave up, 7 where a certificate is refused; 2
+    /// The exit status: 0 for a verdict, an accepted certificate or help, 1 where a search gave up, 7 where a certificate is refused; 2
     /// where the words are refused, 3 where the input is, 4 where the source failed, 5 where the sink failed, 6 for want of memory.
     pub fn status(&self) -> u8
         ensures { result ≡ status_of self.now }

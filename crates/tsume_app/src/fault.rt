@@ -46,6 +46,8 @@ pub enum Fault {
     NotUtf8,
     /// The words of the command line are refused; nothing was read.
     Words(WordFault),
+    /// The text that the words give for a certificate's problem is none: its first fault; nothing was read.
+    Asked(ProblemFault),
     /// The input has more bytes than a problem may have ([`MOST_PROBLEM_BYTES`](crate::MOST_PROBLEM_BYTES)), or a certificate
     /// ([`MOST_CERTIFICATE_BYTES`](crate::MOST_CERTIFICATE_BYTES)).
     TooLong,
@@ -88,6 +90,7 @@ impl fmt::Display for Fault {
         match self {
             Fault::NotUtf8 => write!(f, "a word is not UTF-8"),
             Fault::Words(fault) => write!(f, "{fault}"),
+            Fault::Asked(fault) => write!(f, "{fault}"),
             Fault::TooLong => write!(f, "too long"),
             Fault::Problem(fault) => write!(f, "{fault}"),
             Fault::Cert(fault) => write!(f, "{fault}"),

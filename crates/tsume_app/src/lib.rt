@@ -20,7 +20,7 @@ pub use ended::Ended;
 pub use exit::Exit;
 pub use fault::{Fault, ProblemFault};
 pub use input::{Input, MOST_CERTIFICATE_BYTES, MOST_PROBLEM_BYTES};
-pub use program::run;
+pub use program::{named_file, run};
 pub use telling::{Told, run_and_tell, start, tell};
 
 #[cfg(test)]

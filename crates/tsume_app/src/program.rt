@@ -1,30 +1,33 @@
 // The run of the program.
-ghost use Rattle.std.specs.Prelude.{◌≡◌, ◌⊎◌, ◌↔◌, ℕ, Bool, List, [], Some, None, IfOk, IfErr, MatchResult};
+ghost use Rattle.std.specs.Prelude.{◌≡◌, ◌⊎◌, ◌↔◌, ℕ, Bool, List, [], Option, Some, None, IfOk, IfErr, MatchResult, option_map, string_bytes};
 ghost use Rattle.board_core.specs.declared.moves.Move.{Move};
 ghost use Rattle.cert_text.specs.Certificate.{Mating, Escaping};
 ghost use Rattle.tsume_io.specs.Faults.{Rose};
 ghost use Rattle.cert_text.specs.declared.head.Claim.{Claim};
-ghost use Rattle.tsume_words.specs.Given.{Wish, SettingsView};
+ghost use Rattle.tsume_words.specs.Given.{Wish, SettingsView, AsksForHelp, file_of};
 ghost use Rattle.tsume_words.specs.Given.Wish.{to_solve};
 ghost use Rattle.tsume_words.specs.Meaning.{FailsFirst, command_of, texts_of, wish_of};
 ghost use Rattle.tsume_words.specs.declared.faults.WordFault.{WordFault};
+ghost use Rattle.clap.specs.Words.{Text as Word};
 ghost use Rattle.tsume_app.specs.declared.answer.Cause.{Cause};
+ghost use Rattle.tsume_app.specs.declared.fault.ProblemFault.{ProblemFault};
 ghost use Rattle.tsume_app.specs.Headline.{AsksToSolve, AsksToCheck, StandsForMate, StandsForNoMate, StandsForUnknown, NamesMate, NamesNoMate, IsValidText, IsAccepted, IsBrokenOff};
-ghost use Rattle.tsume_app.specs.Inside.{HasTexts, HasWritten, IsReadCounted};
-ghost use Rattle.tsume_app.specs.Input.{limit_of};
+ghost use Rattle.tsume_app.specs.Inside.{HasTexts, HasWritten, IsAskedProblem, IsReadCounted};
+ghost use Rattle.tsume_app.specs.Input.{limit_of, IsAskedFault};
 ghost use Rattle.tsume_app.specs.Outside.{Shown, shown, NeverFailed};
-ghost use Rattle.tsume_app.specs.Run.{IsReadWhole, IsTrueOfInput, HasCause, IsEnded, IsCounted, AreWordsRefused, IsWellPosed, IsAnswered, WantsMemory};
+ghost use Rattle.tsume_app.specs.Run.{IsReadWhole, IsTrueOfInput, HasCause, IsEnded, IsCounted, IsEndedUnasked, GivesHelp, IsWellPosed, IsAnswered, WantsMemory};
 
 use crate::answer::{Answer, Judgement, Solution};
 use crate::ended::Ended;
-use crate::fault::Fault;
+use crate::fault::{Fault, ProblemFault};
 use crate::input::{Input, MOST_CERTIFICATE_BYTES, MOST_PROBLEM_BYTES};
 use crate::judgement::judge_input;
-use crate::solution::solve_input;
+use crate::solution::{read_problem, solve_input};
 use crate::text::append_answer;
 use search_gate::Gate;
 use sfen_text::sfen_laws;
-use std::alloc::Global;
+use shogi_rules::Problem;
+use std::alloc::{AllocError, Global};
 use tsume_io::{ReadEnd, Sink, Source, read_all, write_all};
 use tsume_words::{Command, WordsEnd, read_words};
 
@@ -35,6 +38,29 @@ fn limit_of(command: &Command) -> usize
         Command::Solve { .. } => MOST_PROBLEM_BYTES,
         Command::Check { .. } => MOST_CERTIFICATE_BYTES,
     }
+}
+
+// The problem that the words give for a certificate, where they give one.
+fn problem_in(command: &Command) -> Result<Option<Problem>, ProblemFault>
+    ensures { MatchResult result (IsAskedProblem (wish_of command.now)) (IsAskedFault (wish_of command.now)) }
+{
+    match command {
+        Command::Check {
+            problem: Some(text),
+            ..
+        } => Ok(Some(read_problem(text.as_bytes(), false)?)),
+        Command::Check { problem: None, .. } | Command::Solve { .. } => Ok(None),
+    }
+}
+
+// The same, and that no fault is passed over.
+fn asked_problem(command: &Command) -> Result<Option<Problem>, ProblemFault>
+    ensures found { MatchResult result (IsAskedProblem (wish_of command.now)) (IsAskedFault (wish_of command.now)) }
+    ensures stopped { (fault : ProblemFault) → IsAskedFault (wish_of command.now) fault → result ≡ Err fault }
+{
+    // No text has two outcomes.
+    sfen_laws();
+    problem_in(command)
 }
 
 fn read_input<S: Source>(alloc: Global, command: &Command, source: &mut S) -> Result<Vec<u8>, Fault>
@@ -53,9 +79,11 @@ fn read_input<S: Source>(alloc: Global, command: &Command, source: &mut S) -> Re
 fn answer_to<G: Gate>(
     alloc: Global,
     command: &Command,
+    asked: &Option<Problem>,
     input: &[u8],
     gate: &G,
 ) -> Result<Answer, Fault>
+    requires { IsAskedProblem (wish_of command.now) asked.now }
     ensures true_of { IfOk result (IsTrueOfInput (wish_of command.now) input.now) }
     ensures texts { IfOk result HasTexts }
     // Wherever these bytes were read whole.
@@ -64,7 +92,7 @@ fn answer_to<G: Gate>(
 {
     match command {
         Command::Solve { settings, rest } => solve_input(alloc, input, settings, *rest, gate),
-        Command::Check { .. } => judge_input(alloc, input),
+        Command::Check { .. } => judge_input(alloc, asked, input),
     }
 }
 
@@ -91,12 +119,17 @@ fn command_ended<S: Source, K: Sink, G: Gate>(
 ) -> Ended
     ensures ended { IsEnded (wish_of command.now) (shown S.left S.faults source.old source.new) (shown K.kept K.faults sink.old sink.new) result }
     ensures counted { IsCounted (shown S.left S.faults source.old source.new) (shown K.kept K.faults sink.old sink.new) result }
+    ensures asked { (fault : ProblemFault) → IsAskedFault (wish_of command.now) fault → result ≡ Ended.Failed (Fault.Asked fault) [] }
 {
+    let asked = match asked_problem(command) {
+        Ok(asked) => asked,
+        Err(fault) => return Ended::Failed(Fault::Asked(fault), Input::none(alloc)),
+    };
     let input = match read_input(alloc, command, source) {
         Ok(input) => input,
         Err(fault) => return Ended::Failed(fault, Input::none(alloc)),
     };
-    match answer_to(alloc, command, &input, gate) {
+    match answer_to(alloc, command, &asked, &input, gate) {
         Ok(answer) => write_answer(alloc, sink, answer),
         Err(fault) => Ended::Failed(fault, Input::new(input)),
     }
@@ -113,25 +146,54 @@ fn words_ended<S: Source, K: Sink, G: Gate>(
         → IsEnded wish (shown S.left S.faults source.old source.new) (shown K.kept K.faults sink.old sink.new) result }
     ensures counted { IsCounted (shown S.left S.faults source.old source.new) (shown K.kept K.faults sink.old sink.new) result }
     ensures words { command_of (texts_of words.items) ≡ None
-        → AreWordsRefused (texts_of words.items) (shown S.left S.faults source.old source.new) (shown K.kept K.faults sink.old sink.new) result }
+        → IsEndedUnasked (texts_of words.items) (shown S.left S.faults source.old source.new) (shown K.kept K.faults sink.old sink.new) result }
+    ensures help { AsksForHelp (texts_of words.items) → ¬ Rose (K.faults sink.old) (K.faults sink.new) → GivesHelp result ⊎ WantsMemory result }
     ensures stopped { (fault : WordFault) → FailsFirst (texts_of words.items) fault
         → (result ≡ Ended.Failed (Fault.Words fault) []) ⊎ (result ≡ Ended.Failed Fault.NoMemory []) }
+    ensures asked { (wish : Wish) (fault : ProblemFault) → command_of (texts_of words.items) ≡ Some wish → IsAskedFault wish fault
+        → (result ≡ Ended.Failed (Fault.Asked fault) []) ⊎ (result ≡ Ended.Failed Fault.NoMemory []) }
 {
-    match read_words(alloc, words) {
-        Ok(command) => command_ended(alloc, &command, source, sink, gate),
+    match read_words(alloc, &words) {
+        Ok(asked) => command_ended(alloc, &asked.command, source, sink, gate),
+        Err(WordsEnd::Help(text)) => write_answer(alloc, sink, Answer::Help(text)),
         Err(WordsEnd::Fault(fault)) => Ended::Failed(Fault::Words(fault), Input::none(alloc)),
         Err(WordsEnd::NoMemory) => Ended::Failed(Fault::NoMemory, Input::none(alloc)),
     }
 }
 
+/// The file that the words name for their command to read, as they have its path: the word FILE, unless it is `-`. None where the standard
+/// input is to be read, and where the words are refused or ask for help, so that nothing is opened then. Whoever calls [`run`] makes the
+/// source of it: one whose first read fails, where the file can't be opened. Errors: want of memory alone.
+pub fn named_file(alloc: Global, words: &[String]) -> Result<Option<String>, AllocError>
+    // The file of a command whose problem, where the words give one, has no fault.
+    ensures named { (wish : Wish) → command_of (texts_of words.now) ≡ Some wish → ((fault : ProblemFault) → ¬ IsAskedFault wish fault)
+        → IfOk result (λ file. option_map string_bytes file ≡ file_of (texts_of words.now)) }
+
+    // None where the words ask for no command, or give a problem that is none.
+    ensures unasked { command_of (texts_of words.now) ≡ None → IfOk result (λ file. file ≡ None) }
+    ensures asked { (wish : Wish) (fault : ProblemFault) → command_of (texts_of words.now) ≡ Some wish → IsAskedFault wish fault
+        → IfOk result (λ file. file ≡ None) }
+{
+    match read_words(alloc, words) {
+        Ok(asked) => match asked_problem(&asked.command) {
+            Ok(_) => Ok(asked.file),
+            Err(_) => Ok(None),
+        },
+        Err(WordsEnd::NoMemory) => Err(AllocError),
+        Err(WordsEnd::Help(_) | WordsEnd::Fault(_)) => Ok(None),
+    }
+}
+
 /// Runs the program on the words of the command line, those behind the program's name. What they ask for is what clap says
-/// of them, and three tests after it; words that are refused, and a request for help, end the run before anything is read.
+/// of them, and three tests after it; words that are refused end the run before anything is read. So does a request for help or for the
+/// version, whose text is written to the sink.
 ///
 /// `solve` reads a problem (SFEN) from the source; with `--rest` the defender is first given all pieces but kings that are
 /// neither on the board nor in a hand. It writes to the sink the USI answer that the problem is a mate, with a main line, or that it is
 /// none, and the certificate; or, where the expansions were used up first, that it was given up. `check` reads a certificate,
-/// perhaps behind the line of the USI answer, and writes whether it is valid for its own problem, or the first reason why it
-/// isn't.
+/// perhaps behind the line of the USI answer, and writes whether it is valid for its own problem, or for the one that `--problem` gives
+/// (SFEN), or the first reason why it isn't; a certificate about another problem doesn't list it. Positions are compared, and not texts.
+/// A `--problem` that is none refuses the words, before anything is read.
 ///
 /// Everything else ends with a named fault and its cause: more than [`MOST_PROBLEM_BYTES`] of a problem or
 /// [`MOST_CERTIFICATE_BYTES`] of a certificate; a text that is no problem or no certificate, with its first fault; a source or a
@@ -164,10 +226,11 @@ pub fn run<S: Source, K: Sink, G: Gate>(
     ensures own_mate { (c : Mating) (moves : List Move) → result ≡ Ended.Answered (Answer.Solved (Solution.Mate c moves)) → NamesMate c moves }
     ensures own_no_mate { (c : Escaping) → result ≡ Ended.Answered (Answer.Solved (Solution.NoMate c)) → NamesNoMate c }
 
-    // Where `check` wasn't broken off, it accepts exactly where the bytes are the text of a valid certificate, with its claim and the
-    // number of its entries.
-    ensures accepted { (input : List ℕ) (claim : Claim) (entries : ℕ) → AsksToCheck (texts_of words.items) → S.left source.old ≡ Some input
-        → ¬ IsBrokenOff result → (IsAccepted result claim entries ↔ IsValidText input claim entries) }
+    // Where `check` wasn't broken off, it accepts exactly where the bytes are the text of a certificate that is valid for the problem
+    // whose text the words give, or for its own where they give none, with its claim and the number of its entries.
+    ensures accepted { (problem : Option Word) (input : List ℕ) (claim : Claim) (entries : ℕ) → AsksToCheck problem (texts_of words.items)
+        → S.left source.old ≡ Some input
+        → ¬ IsBrokenOff result → (IsAccepted result claim entries ↔ IsValidText problem input claim entries) }
 
     // In full. What a command did: a printed mate is one, a printed "no mate" means that there is none, each with a certificate that
     // the checker accepts; an accepted certificate is valid; each refusal has its cause.
@@ -177,13 +240,21 @@ pub fn run<S: Source, K: Sink, G: Gate>(
     // The source's count of faults rises only where the run ends for it, and the sink's likewise.
     ensures counted { IsCounted (shown S.left S.faults source.old source.new) (shown K.kept K.faults sink.old sink.new) result }
 
-    // Words that ask for nothing are refused before anything is read, with the cause.
+    // Words that ask for no command end before anything is read: in help or the version, where they may ask for it, or refused with the
+    // cause.
     ensures words { command_of (texts_of words.items) ≡ None
-        → AreWordsRefused (texts_of words.items) (shown S.left S.faults source.old source.new) (shown K.kept K.faults sink.old sink.new) result }
+        → IsEndedUnasked (texts_of words.items) (shown S.left S.faults source.old source.new) (shown K.kept K.faults sink.old sink.new) result }
+
+    // A request for help or for the version is answered, unless the sink fails or memory is wanted.
+    ensures help { AsksForHelp (texts_of words.items) → ¬ Rose (K.faults sink.old) (K.faults sink.new) → GivesHelp result ⊎ WantsMemory result }
 
     // Each of the three tests after clap is named where it is the first to fail.
     ensures stopped { (fault : WordFault) → FailsFirst (texts_of words.items) fault
         → (result ≡ Ended.Failed (Fault.Words fault) []) ⊎ (result ≡ Ended.Failed Fault.NoMemory []) }
+
+    // A problem that the words give for a certificate, and that is none, is named with its first fault, before anything is read.
+    ensures asked { (wish : Wish) (fault : ProblemFault) → command_of (texts_of words.items) ≡ Some wish → IsAskedFault wish fault
+        → (result ≡ Ended.Failed (Fault.Asked fault) []) ⊎ (result ≡ Ended.Failed Fault.NoMemory []) }
 
     // A problem's and a certificate's text are answered, unless the outside fails or memory is wanted.
     ensures complete { (wish : Wish) → command_of (texts_of words.items) ≡ Some wish → IsWellPosed wish (S.left source.old)

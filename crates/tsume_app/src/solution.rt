@@ -33,7 +33,8 @@ fn searched_position(position: Position, rest: bool) -> Position
     }
 }
 
-fn read_problem(input: &[u8], rest: bool) -> Result<Problem, ProblemFault>
+/// The problem that the bytes of an SFEN text stand for, or their first fault.
+pub(crate) fn read_problem(input: &[u8], rest: bool) -> Result<Problem, ProblemFault>
     ensures { MatchResult result (λ problem. StandsFor rest input.now (Ok problem.position)) (λ fault. StandsFor rest input.now (Err fault)) }
 {
     let position = read_sfen(input)?;

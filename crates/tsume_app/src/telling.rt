@@ -8,12 +8,13 @@ use crate::ended::Ended;
 use crate::exit::Exit;
 use crate::fault::Fault;
 use crate::input::Input;
-use crate::program::run;
+use crate::program::{named_file, run};
 use search_gate::{Gate, OpenGate};
 use std::alloc::{AllocError, Global};
 use std::env::{self, Env};
+use std::fs::{self, Files};
 use std::io::{self, Print};
-use tsume_io::{Sink, Source, StdSink, StdSource, write_all};
+use tsume_io::{Noted, Opened, Sink, Source, StdSink, StdSource, write_all};
 
 /// How much of an ending the user was told.
 #[derive(Clone, Copy, PartialEq, Eq, Debug)]
@@ -87,29 +88,74 @@ fn fault_of(error: &io::Error) -> Fault {
     }
 }
 
-/// The program over the words of the command line, the standard input and output, and a writer for what the user is told: see
-/// [`run_and_tell`]. Words that are no UTF-8 are refused. What comes back ends the process with the exit status.
-pub fn start<R: Env + io::Input + Print + AllocGlobal, W: io::Write + Drop>(
+// What the words let the program read.
+fn opened<R: io::Input + Files>(rt: &R, file: &Option<String>) -> Opened<R::File, R::Reader> {
+    match file {
+        Some(path) => match fs::open(rt, path.as_str()) {
+            Ok(file) => Opened::File(file),
+            Err(reason) => Opened::Refused(reason),
+        },
+        None => Opened::Standard(rt.reader()),
+    }
+}
+
+// Tells the user what the system said where reading failed: what was read, and the reason.
+fn tell_reason<K: Sink>(
+    alloc: Global,
+    file: &Option<String>,
+    reason: io::Error,
+    errors: &mut K,
+) -> Told {
+    let name = match file {
+        Some(path) => path.as_str(),
+        None => "standard input",
+    };
+    let Ok(line) = format!(in alloc; "{name}: {reason}\n") else {
+        return Told::Nothing;
+    };
+    if write_all(errors, line.as_bytes()).is_err() {
+        return Told::InPart;
+    }
+    Told::Whole
+}
+
+// Tells the user of a run that couldn't begin. What comes back is the exit status.
+fn fail<K: Sink>(alloc: Global, fault: Fault, errors: &mut K) -> u8 {
+    let ended = Ended::Failed(fault, Input::none(alloc));
+    tell(alloc, &ended, errors);
+    ended.status()
+}
+
+// The program over the file that the words name, or over the standard input. What comes back is the exit status.
+fn run_on_file<R: io::Input + Print + Files + AllocGlobal, K: Sink>(
+    rt: &R,
+    words: Vec<String>,
+    errors: &mut K,
+) -> u8 {
+    let alloc = rt.alloc();
+    let Ok(file) = named_file(alloc, &words) else {
+        return fail(alloc, Fault::NoMemory, errors);
+    };
+    let mut source = StdSource::new(Noted::new(opened(rt, &file)));
+    let mut sink = StdSink::new(io::writer(rt));
+    let status = run_and_tell(alloc, words, &mut source, &mut sink, errors, &OpenGate);
+    if let Some(reason) = source.reader().reason() {
+        tell_reason(alloc, &file, reason, errors);
+    }
+    status
+}
+
+/// The program over the words of the command line, the file that they name or the standard input, the standard output, and a writer for
+/// what the user is told: see [`named_file`] and [`run_and_tell`]. Words that are no UTF-8 are refused. Where reading failed, a second line
+/// tells what was read and what the system said. What comes back ends the process with the exit status.
+pub fn start<R: Env + io::Input + Print + Files + AllocGlobal, W: io::Write + Drop>(
     rt: &R,
     errors: W,
 ) -> Exit {
-    let mut source = StdSource::new(rt.reader());
-    let mut sink = StdSink::new(io::writer(rt));
     let mut errors = StdSink::new(errors);
     let status = match words(rt) {
-        Ok(words) => run_and_tell(
-            rt.alloc(),
-            words,
-            &mut source,
-            &mut sink,
-            &mut errors,
-            &OpenGate,
-        ),
-        Err(error) => {
-            let ended = Ended::Failed(fault_of(&error), Input::none(rt.alloc()));
-            tell(rt.alloc(), &ended, &mut errors);
-            ended.status()
-        }
+        Ok(words) => run_on_file(rt, words, &mut errors),
+        Err(error) => fail(rt.alloc(), fault_of(&error), &mut errors),
     };
     Exit { status }
 }

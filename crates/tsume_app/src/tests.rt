@@ -1,7 +1,7 @@
 // Whole runs over a source and a sink in memory.
-use crate::{Ended, run, run_and_tell};
+use crate::{Ended, named_file, run, run_and_tell};
 use search_gate::{Gate, OpenGate};
-use std::alloc::Global;
+use std::alloc::{AllocError, Global};
 use std::sync::atomic::{AtomicU64, Ordering};
 use std::test::Fail;
 use tsume_io::{MemSink, MemSource};
@@ -31,7 +31,16 @@ fn bytes_kept(ended: &Ended) -> usize {
     }
 }
 
-// A run on words with a space between each, with a source and a sink of these pieces that fail at the calls of these numbers, 0 for none.
+// The words of a line with a space between each; in a word `_` stands for a space.
+fn words_of(alloc: Global, line: &str) -> Result<Vec<String>, AllocError> {
+    let mut words = Vec::new(alloc);
+    for word in line.split(' ').filter(|word| !word.is_empty()) {
+        words.push(word.replace(alloc, "_", " ")?)?;
+    }
+    Ok(words)
+}
+
+// A run on the words of a line, with a source and a sink of these pieces that fail at the calls of these numbers, 0 for none.
 fn seen_of(
     alloc: Global,
     line: &str,
@@ -42,10 +51,7 @@ fn seen_of(
     if source.0 == 0 || sink.0 == 0 {
         return Err(Fail::from("no piece"));
     }
-    let mut words = Vec::new(alloc);
-    for word in line.split(' ').filter(|word| !word.is_empty()) {
-        words.push(String::from_str(alloc, word)?)?;
-    }
+    let words = words_of(alloc, line)?;
     let bytes = Vec::from_slice(alloc, input.as_bytes())?;
     let mut from = MemSource::make(bytes, source.0, Vec::from_slice(alloc, &[source.1])?);
     let mut to = MemSink::make(alloc, 65_536, sink.0, Vec::from_slice(alloc, &[sink.1])?)?;
@@ -178,7 +184,8 @@ fn words_are_refused_before_anything_is_read(rt: HostRuntime) -> Result<(), Fail
         ("mate", "mate"),
         ("solve --workers 0", "1..=64"),
         ("solve --kif", "--kif"),
-        ("solve --help", "--expansions"),
+        ("help dance", "dance"),
+        ("solve a b", "'b'"),
         ("solve --rows 24", "rows is no power of two"),
         ("solve --shards 3 --rows 24", "rows is no power of two"),
         ("solve --shards 3", "shards is no power of two"),
@@ -189,6 +196,91 @@ fn words_are_refused_before_anything_is_read(rt: HostRuntime) -> Result<(), Fail
         assert_eq!(rt; seen.status, 2, "{words}");
         assert!(rt; seen.fault.as_str().contains(part), "{words}");
         assert!(rt; seen.kept.is_empty(), "{words}");
+    }
+    Ok(())
+}
+
+#[test]
+fn help_and_the_version_are_answers(rt: HostRuntime) -> Result<(), Fail> {
+    // Words, the sink's failing call, the status, what the user is told, and a part of what is kept. The source would fail at its first
+    // read.
+    let table = [
+        ("--version", 0, 0, "", "tsume 0.1.0\n"),
+        ("--help", 0, 0, "", "Usage: tsume <COMMAND>\n"),
+        ("help", 0, 0, "", "Usage: tsume <COMMAND>\n"),
+        (
+            "solve --help",
+            0,
+            0,
+            "",
+            "Usage: tsume solve [OPTIONS] [FILE]\n",
+        ),
+        ("help check", 0, 0, "", "--problem <SFEN>"),
+        ("help check", 2, 5, "write fault", "Checks a ce"),
+    ];
+    for (words, sink, status, fault, part) in table {
+        let seen = seen_of(rt.alloc(), words, GOLD, (7, 1), (11, sink))?;
+        assert_eq!(rt; seen.status, status, "{words} {sink}");
+        assert!(rt; seen.fault.as_str() == fault, "{words} {sink}");
+        let kept = String::from_utf8(seen.kept)?;
+        assert!(rt; kept.as_str().contains(part), "{words} {sink}");
+    }
+    Ok(())
+}
+
+#[test]
+fn a_file_is_named_where_words_ask_for_a_command(rt: HostRuntime) -> Result<(), Fail> {
+    // Words, and the file that they name; none where it is empty.
+    let table = [
+        ("solve", ""),
+        ("solve -", ""),
+        ("solve a.sfen", "a.sfen"),
+        ("check ../a_b.cert --workers 2", "../a b.cert"),
+        ("check --problem 4k4/9/9/9/9/9/9/9/9_b_- a", "a"),
+        // Refused, by clap, by a test after it and for the problem; and help.
+        ("solve --kif a.sfen", ""),
+        ("solve --rows 24 a.sfen", ""),
+        ("check --problem 4k4/9_b_- a", ""),
+        ("solve --help a.sfen", ""),
+    ];
+    for (line, name) in table {
+        let words = words_of(rt.alloc(), line)?;
+        let file = named_file(rt.alloc(), &words)?;
+        let found = match &file {
+            Some(path) => path.as_str(),
+            None => "",
+        };
+        assert_eq!(rt; found, name, "{line}");
+    }
+    Ok(())
+}
+
+#[test]
+fn a_certificate_may_have_to_be_for_a_given_problem(rt: HostRuntime) -> Result<(), Fail> {
+    // The problem, the status, the fault, and what is kept. Where the words are refused the source would fail at its first read.
+    let table = [
+        ("4k4/9/4P4/9/9/9/9/9/9_b_G", 0, "", "accepted mate 1\n"),
+        // The same position by another text.
+        (
+            "sfen_4k4/9/13P13/9/9/9/9/9/9_b_G_1",
+            0,
+            "",
+            "accepted mate 1\n",
+        ),
+        // Another position, by a hand, and by the side to move.
+        ("4k4/9/4P4/9/9/9/9/9/9_b_Gp", 7, "", "refused 0 root\n"),
+        ("4k4/9/4P4/9/9/9/9/9/4K4_w_G", 7, "", "refused 0 root\n"),
+        ("4k4/9/4P4/9/9/9/9/9/9_c_G", 2, "bad side at 22", ""),
+        ("4k4/9/4P4/9/9/9/9/9/9_w_G", 2, "no defender king", ""),
+        ("4k4/9/9/9/9/9/9/9/4R4_b_-", 2, "defender in check", ""),
+    ];
+    for (problem, status, fault, kept) in table {
+        let line = format!(in rt.alloc(); "check --problem {problem}")?;
+        let failing = if status == 2 { 1 } else { 0 };
+        let seen = seen_of(rt.alloc(), line.as_str(), GOLD_TEXT, (7, failing), (11, 0))?;
+        assert_eq!(rt; seen.status, status, "{problem}");
+        assert!(rt; seen.fault.as_str() == fault, "{problem}");
+        assert!(rt; seen.kept.as_slice() == kept.as_bytes(), "{problem}");
     }
     Ok(())
 }

@@ -127,5 +127,9 @@ pub(crate) fn append_answer(out: &mut Vec<u8>, answer: &Answer) -> Result<(), Al
     match answer {
         Answer::Solved(solution) => append_solution(out, solution),
         Answer::Judged(judgement) => append_judgement(out, judgement),
+        Answer::Help(text) => {
+            out.extend_from_slice(text.as_bytes())?;
+            Ok(())
+        }
     }
 }

@@ -11,7 +11,7 @@ returns-in-Ok-answer_to-clause-ended g c =
     ended_of wish (shown g.S.Source.left g.S.Source.faults c.args.source.now c.read_input.new.source)
     (shown g.K.Sink.kept g.K.Sink.faults c.args.sink.now c.write_answer.new.sink) c.in-Ok-answer_to.answer c.write_answer.result
     (record {
-      input = c.in-Ok.input.items;
-      read = c.in-Ok.ensures.read;
+      input = c.in-Ok-read_input.input.items;
+      read = c.in-Ok-read_input.ensures.read;
       true_of = subst (λ (input : List ℕ). IsTrueOfInput wish input c.in-Ok-answer_to.answer) c.deref.ensures.value c.in-Ok-answer_to.ensures.true_of;
     }) c.write_answer.ensures

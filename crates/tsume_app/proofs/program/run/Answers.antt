@@ -42,10 +42,11 @@ returns-clause-own_no_mate g c = λ certificate is.
     own_no_mate_of (texts_of c.args.words.items) source sink c.words_ended.result certificate c.words_ended.ensures.ended c.words_ended.ensures.words is
 
 pub returns-clause-accepted : goal.returns-clause-accepted
-returns-clause-accepted g c = λ input claim entries asks told whole.
+returns-clause-accepted g c = λ problem input claim entries asks told whole.
     let source = shown g.S.Source.left g.S.Source.faults c.args.source.now c.words_ended.new.source in
     let sink = shown g.K.Sink.kept g.K.Sink.faults c.args.sink.now c.words_ended.new.sink in
-    accepted_of asks.0 source sink input claim entries c.words_ended.result (c.words_ended.ensures.ended (to_check asks.0) asks.1) told whole
+    accepted_of c.sfen_laws.ensures.outcomes asks.0 problem source sink input claim entries c.words_ended.result
+    (c.words_ended.ensures.ended (to_check asks.0 problem) asks.1) told whole
 
 pub returns-clause-complete : goal.returns-clause-complete
 returns-clause-complete g c = λ wish asks posed sound kept.

@@ -1,24 +1,47 @@
-use Rattle.std.proofs.Common.{◌≡◌, ◌⊎◌, inl, inr, Result, Ok, Err, ap, ◌∙◌}
-use Rattle.tsume_words.specs.declared.command.Command.{Command}
+use Rattle.std.proofs.Common.{◌≡◌, ◌⊎◌, inl, inr, List, String, Global, Result, Ok, Err, ap, sym, subst, ◌∙◌}
+use Rattle.tsume_words.specs.Meaning.{FailsFirst, texts_of}
+use Rattle.tsume_words.specs.declared.command.Asked.{Asked}
 use Rattle.tsume_words.specs.declared.faults.WordFault.{WordFault}
 use Rattle.tsume_words.specs.declared.faults.WordsEnd.{WordsEnd}
 use Rattle.tsume_words.specs.declared.faults.WordsEnd.TheVariants as ends
+use Rattle.tsume_app.specs.declared.answer.Answer.TheVariants as answers
+use Rattle.tsume_app.specs.Outside.{shown}
+use Rattle.tsume_app.proofs.Running.{help_of}
 use Rattle.tsume_app.proofs.program.words_ended.Goals as goal
 
-taken_not_stopped : (r : Result Command WordsEnd) (command : Command) (a b : WordsEnd) → r ≡ Ok command → (r ≡ Err a) ⊎ (r ≡ Err b) → ⊥
+taken_not_stopped : (r : Result Asked WordsEnd) (command : Asked) (a b : WordsEnd) → r ≡ Ok command → (r ≡ Err a) ⊎ (r ≡ Err b) → ⊥
 taken_not_stopped r command a b is (inl e) = absurd (cc)
 taken_not_stopped r command a b is (inr e) = absurd (cc)
 
-same_fault : (r : Result Command WordsEnd) (f fault : WordFault) → r ≡ Err (ends.Fault f) → (r ≡ Err (ends.Fault fault)) ⊎ (r ≡ Err ends.NoMemory) → f ≡ fault
+help_not_stopped : (r : Result Asked WordsEnd) (text : String Global) (fault : WordFault) → r ≡ Err (ends.Help text)
+    → (r ≡ Err (ends.Fault fault)) ⊎ (r ≡ Err ends.NoMemory) → ⊥
+help_not_stopped r text fault is (inl e) = absurd (cc)
+help_not_stopped r text fault is (inr e) = absurd (cc)
+
+same_fault : (r : Result Asked WordsEnd) (f fault : WordFault) → r ≡ Err (ends.Fault f) → (r ≡ Err (ends.Fault fault)) ⊎ (r ≡ Err ends.NoMemory) → f ≡ fault
 same_fault r f fault is (inl e) = cc
 same_fault r f fault is (inr e) = absurd (cc)
 
 pub returns-in-Ok-clause-stopped : goal.returns-in-Ok-clause-stopped
 returns-in-Ok-clause-stopped g c = λ fault fails.
-    absurd (taken_not_stopped c.read_words.result c.in-Ok.command (ends.Fault fault) ends.NoMemory c.in-Ok.is (c.read_words.ensures.stopped fault fails))
+    let fails_so = subst (λ (ws : List (String Global)). FailsFirst (texts_of ws) fault) (sym c.deref.ensures.value) fails in
+    absurd (taken_not_stopped c.read_words.result c.in-Ok.asked (ends.Fault fault) ends.NoMemory c.in-Ok.is (c.read_words.ensures.stopped fault fails_so))
 
 pub returns-in-Err-Fault-clause-stopped : goal.returns-in-Err-Fault-clause-stopped
 returns-in-Err-Fault-clause-stopped g c = λ fault fails.
-    let same = same_fault c.read_words.result c.in-Err-Fault.fault fault (c.in-Err-Fault.is ∙ ap (λ (e : WordsEnd). Err e) c.in-Err-Fault.field-0-is) (c.read_words.ensures.stopped fault fails) in
+    let fails_so = subst (λ (ws : List (String Global)). FailsFirst (texts_of ws) fault) (sym c.deref.ensures.value) fails in
+    let same = same_fault c.read_words.result c.in-Err-Fault.fault fault (c.in-Err-Fault.is ∙ ap (λ (e : WordsEnd). Err e) c.in-Err-Fault.field-0-is)
+    (c.read_words.ensures.stopped fault fails_so) in
     let empty = c.none.ensures in
     inl (cc)
+
+pub returns-in-Err-Help-clause-stopped : goal.returns-in-Err-Help-clause-stopped
+returns-in-Err-Help-clause-stopped g c = λ fault fails.
+    let fails_so = subst (λ (ws : List (String Global)). FailsFirst (texts_of ws) fault) (sym c.deref.ensures.value) fails in
+    absurd (help_not_stopped c.read_words.result c.in-Err-Help.text fault (c.in-Err-Help.is ∙ ap (λ (e : WordsEnd). Err e) c.in-Err-Help.field-0-is)
+    (c.read_words.ensures.stopped fault fails_so))
+
+pub returns-in-Err-Help-clause-help : goal.returns-in-Err-Help-clause-help
+returns-in-Err-Help-clause-help g c = λ asks kept.
+    help_of (shown g.K.Sink.kept g.K.Sink.faults c.args.sink.now c.write_answer.new.sink) (answers.Help c.in-Err-Help.text) c.write_answer.result tt
+    c.write_answer.ensures kept
