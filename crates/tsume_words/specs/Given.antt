@@ -30,8 +30,8 @@ is_help DisplayHelp = true
 is_help DisplayVersion = true
 is_help other = false
 
--- Clap's first fault may be a request for help or for the version: one of the kinds that clap names for it is. (Clap names one kind for
--- each fault, but for the command `help` two: that request, or that what follows it is no command.)
+-- Clap's first fault may be a request for help or for the version: one of the kinds that clap names for it is. (For the command
+-- `help` clap names two: that request, and that what follows is no command.)
 abbrev pub MayAskForHelp : List Text → Type 0
 MayAskForHelp words = (kind : ErrorKind) × IsAmong kind (clap_faults words) × (is_help kind ≡ true)
 

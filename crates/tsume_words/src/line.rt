@@ -170,7 +170,7 @@ fn solve_command<'a>(alloc: Global) -> Result<Command<'a>, AllocError>
         .arg(rest_flag(alloc))?
         .arg(file_word(
             alloc,
-            "The problem's file, of 65536 bytes at most; standard input if - or none",
+            "The problem's file, 65536 bytes at most; - or none: standard input",
         ))
 }
 
@@ -190,7 +190,7 @@ fn check_command<'a>(alloc: Global) -> Result<Command<'a>, AllocError>
         .arg(problem_option(alloc))?
         .arg(file_word(
             alloc,
-            "The certificate's file, 268435456 bytes at most; standard input if - or\nnone",
+            "The certificate's file, 268435456 bytes at most; - or none: standard\ninput",
         ))
 }
 
