@@ -1,0 +1,98 @@
+// What a text that isn't what was expected looks like.
+use memchr::memmem;
+
+/// What a text looks like.
+#[derive(Clone, Copy, PartialEq, Eq, Debug)]
+pub(crate) enum Look {
+    /// Nothing but blanks.
+    Blank,
+    /// One that begins with a byte-order mark.
+    ByteOrderMark,
+    /// UTF-16.
+    Utf16,
+    /// The answer that a search gave up.
+    GaveUp,
+    /// Another answer, or a certificate.
+    Answer,
+    /// The same with carriage returns before its line feeds.
+    AnswerWithReturns,
+    /// A game record or a diagram (KIF, KI2, BOD, CSA).
+    Record,
+    /// One in quotes.
+    Quoted,
+    /// The word for the start of a game (USI protocol: `startpos`).
+    Start,
+    /// An SFEN, or anything else.
+    Other,
+}
+
+/// Whether this word stands anywhere in the text.
+pub(crate) fn holds(text: &[u8], word: &[u8]) -> bool {
+    memmem::find(text, word).is_some()
+}
+
+// Whether it is UTF-16, by its byte-order mark or by a zero byte at its front.
+fn is_utf16(text: &[u8]) -> bool {
+    text.starts_with(b"\xff\xfe")
+        || text.starts_with(b"\xfe\xff")
+        || text.iter().take(2).any(|byte| *byte == 0)
+}
+
+// Words that stand in records and diagrams, in ASCII, UTF-8 and Shift JIS (in Japanese: handicap, in hand, moves to come).
+const WORDS_OF_RECORDS: [&[u8]; 8] = [
+    b"+----",
+    b"P1-",
+    b"\xe6\x89\x8b\xe5\x90\x88\xe5\x89\xb2",
+    b"\xe6\x8c\x81\xe9\xa7\x92",
+    b"\xe6\x89\x8b\xe6\x95\xb0",
+    b"\x8e\xe8\x8d\x87\x8a\x84",
+    b"\x8e\x9d\x8b\xee",
+    b"\x8e\xe8\x90\x94",
+];
+
+fn is_record(text: &[u8]) -> bool {
+    text.starts_with(b"#")
+        || text.starts_with(b"V2")
+        || WORDS_OF_RECORDS.iter().any(|word| holds(text, word))
+}
+
+fn is_quoted(text: &[u8]) -> bool {
+    text.starts_with(b"\"") || text.starts_with(b"'") || text.starts_with(b"`")
+}
+
+fn answer_look(text: &[u8]) -> Look {
+    if text.starts_with(b"checkmate timeout") {
+        return Look::GaveUp;
+    }
+    if holds(text, b"\r") {
+        return Look::AnswerWithReturns;
+    }
+    Look::Answer
+}
+
+/// What a text looks like.
+pub(crate) fn look_of(text: &[u8]) -> Look {
+    if text.starts_with(b"\xef\xbb\xbf") {
+        return Look::ByteOrderMark;
+    }
+    if is_utf16(text) {
+        return Look::Utf16;
+    }
+    let text = text.trim_ascii();
+    if text.is_empty() {
+        return Look::Blank;
+    }
+    if text.starts_with(b"checkmate") || text.starts_with(b"certificate") {
+        return answer_look(text);
+    }
+    if is_record(text) {
+        return Look::Record;
+    }
+    if is_quoted(text) {
+        return Look::Quoted;
+    }
+    if holds(text, b"startpos") {
+        return Look::Start;
+    }
+    Look::Other
+}

@@ -1,0 +1,183 @@
+// What is told of a fault behind its first line.
+use crate::advice::{
+    ON_DEFENDER_IN_CHECK, ON_LENGTH, ON_NO_MEMORY, ON_PROBLEM_TO_CHECK, ON_READ, ON_SEVERAL_LINES,
+    ON_TABS, ON_WRITE, advice_on_certificate, advice_on_certificate_look, advice_on_problem,
+    advice_on_problem_look,
+};
+use crate::line::{append_line, append_place, line_of};
+use crate::look::{Look, holds, look_of};
+use crate::trouble::Trouble;
+use cert_text::CertFault;
+use sfen_text::TextFault;
+use std::alloc::{AllocError, Global};
+
+fn append(out: &mut Vec<u8>, text: &str) -> Result<(), AllocError> {
+    out.extend_from_slice(text.as_bytes())
+}
+
+// The byte at which the text stops being a position's; none where it is one's.
+fn place_of(fault: TextFault) -> Option<usize> {
+    match fault {
+        TextFault::BadRow(at)
+        | TextFault::BadPiece(at)
+        | TextFault::BadSide(at)
+        | TextFault::BadHand(at)
+        | TextFault::HandTwice(at)
+        | TextFault::Trailing(at) => Some(at),
+        TextFault::BadPosition(_) => None,
+    }
+}
+
+// Whether the rest of the field at this byte has that one.
+fn field_holds(text: &[u8], at: usize, byte: u8) -> bool {
+    let mut rest = text
+        .trim_ascii_end()
+        .iter()
+        .skip(at)
+        .take_while(|found| **found != b' ');
+    rest.any(|found| *found == byte)
+}
+
+// Whether the field at this byte stands on more than one line, or behind the first.
+fn is_behind_a_line(text: &[u8], at: usize) -> bool {
+    let front = text.get(..at).unwrap_or(text);
+    holds(front.trim_ascii(), b"\n") || field_holds(text, at, b'\n')
+}
+
+// Whether the line with a fault is of use to the reader of a text that looks so.
+fn is_worth_showing(look: Look) -> bool {
+    !matches!(
+        look,
+        Look::Blank | Look::Utf16 | Look::Record | Look::GaveUp
+    )
+}
+
+fn advice_at(fault: TextFault, text: &[u8], at: usize) -> &'static str {
+    if let Some(advice) = advice_on_problem_look(look_of(text)) {
+        return advice;
+    }
+    if is_behind_a_line(text, at) {
+        return ON_SEVERAL_LINES;
+    }
+    if field_holds(text, at, b'\t') {
+        return ON_TABS;
+    }
+    advice_on_problem(fault)
+}
+
+fn append_problem_note(
+    alloc: Global,
+    out: &mut Vec<u8>,
+    fault: TextFault,
+    text: &[u8],
+) -> Result<(), AllocError> {
+    let Some(at) = place_of(fault) else {
+        return append(out, advice_on_problem(fault));
+    };
+    if is_worth_showing(look_of(text)) {
+        append_place(alloc, out, text, at)?;
+    }
+    append(out, advice_at(fault, text, at))
+}
+
+// The number of the line `certificate ..`, from 1: a line of an answer may stand before it.
+fn number_of_claim(text: &[u8]) -> usize {
+    if line_of(text, 1).bytes.starts_with(b"checkmate") {
+        return 2;
+    }
+    1
+}
+
+fn is_claim(line: &[u8]) -> bool {
+    line.starts_with(b"certificate 1 mate ") || line.starts_with(b"certificate 1 escape ")
+}
+
+// The first line of the head that doesn't begin as it has to; else the first of all.
+fn number_of_bad_line(text: &[u8]) -> usize {
+    let claim = number_of_claim(text);
+    if !is_claim(line_of(text, claim).bytes) {
+        return claim;
+    }
+    let problem = claim.saturating_add(1);
+    if !line_of(text, problem).bytes.starts_with(b"problem ") {
+        return problem;
+    }
+    1
+}
+
+// What is said where the head is none.
+fn advice_on_head(text: &[u8]) -> &'static str {
+    if let Some(advice) = advice_on_certificate_look(look_of(text)) {
+        return advice;
+    }
+    if number_of_claim(text) == 1 && holds(line_of(text, 1).bytes, b"/") {
+        return ON_PROBLEM_TO_CHECK;
+    }
+    advice_on_certificate(CertFault::BadHead)
+}
+
+fn append_head_note(alloc: Global, out: &mut Vec<u8>, text: &[u8]) -> Result<(), AllocError> {
+    if is_worth_showing(look_of(text)) {
+        append_line(alloc, out, line_of(text, number_of_bad_line(text)))?;
+    }
+    append(out, advice_on_head(text))
+}
+
+// What is said of a line behind the problem's.
+fn advice_on_line(fault: CertFault, line: &[u8]) -> &'static str {
+    if line.ends_with(b"\r")
+        && let Some(advice) = advice_on_certificate_look(Look::AnswerWithReturns)
+    {
+        return advice;
+    }
+    advice_on_certificate(fault)
+}
+
+fn append_line_note(
+    alloc: Global,
+    out: &mut Vec<u8>,
+    fault: CertFault,
+    behind: u64,
+    text: &[u8],
+) -> Result<(), AllocError> {
+    let behind = usize::try_from(behind).unwrap_or(usize::MAX);
+    let number = number_of_claim(text)
+        .saturating_add(1)
+        .saturating_add(behind);
+    let line = line_of(text, number);
+    append_line(alloc, out, line)?;
+    append(out, advice_on_line(fault, line.bytes))
+}
+
+fn append_certificate_note(
+    alloc: Global,
+    out: &mut Vec<u8>,
+    fault: CertFault,
+    text: &[u8],
+) -> Result<(), AllocError> {
+    match fault {
+        CertFault::BadHead => append_head_note(alloc, out, text),
+        CertFault::BadLine(behind) | CertFault::NotRising(behind) => {
+            append_line_note(alloc, out, fault, behind, text)
+        }
+        CertFault::WrongCount | CertFault::NoEnd => append(out, advice_on_certificate(fault)),
+    }
+}
+
+/// What is told of a trouble behind its first line: where a line of the input is at fault, that line with its number, and with the place
+/// marked where there is one; then what was expected, or what to do. The input is the whole text at fault; of a trouble that isn't a
+/// text's it doesn't count. Lines are of less than 80 columns, of printable ASCII, and end with a line feed. Errors: want of memory
+/// alone.
+pub fn explain(alloc: Global, trouble: Trouble, input: &[u8]) -> Result<Vec<u8>, AllocError> {
+    let mut out = Vec::new(alloc);
+    match trouble {
+        Trouble::Problem(fault) => append_problem_note(alloc, &mut out, fault, input)?,
+        Trouble::DefenderInCheck => append(&mut out, ON_DEFENDER_IN_CHECK)?,
+        Trouble::Certificate(fault) => append_certificate_note(alloc, &mut out, fault, input)?,
+        Trouble::TooLong => append(&mut out, ON_LENGTH)?,
+        Trouble::Read => append(&mut out, ON_READ)?,
+        Trouble::Write => append(&mut out, ON_WRITE)?,
+        Trouble::NoMemory => append(&mut out, ON_NO_MEMORY)?,
+    }
+    Ok(out)
+}

@@ -1,0 +1,22 @@
+// What is explained.
+use cert_text::CertFault;
+use sfen_text::TextFault;
+
+/// What is explained to the user.
+#[derive(Clone, Copy, PartialEq, Eq, Debug)]
+pub enum Trouble {
+    /// The input is no position: the first fault of its text.
+    Problem(TextFault),
+    /// The input is a position, and the side that isn't to move is in check.
+    DefenderInCheck,
+    /// The input is no certificate: its first fault.
+    Certificate(CertFault),
+    /// The input has more bytes than one may have.
+    TooLong,
+    /// The input couldn't be read to its end.
+    Read,
+    /// The answer couldn't be written whole.
+    Write,
+    /// Memory was wanted and not there.
+    NoMemory,
+}
