@@ -136,10 +136,6 @@ pub(crate) fn advice_on_certificate(fault: CertFault) -> &'static str {
 pub(crate) const ON_LENGTH: &str =
     "A problem has at most 65,536 bytes, and a certificate 268,435,456. Is this the\nright input?\n";
 
-/// What is said where the input couldn't be read.
-pub(crate) const ON_READ: &str =
-    "The input couldn't be read to its end, so nothing was answered.\n";
-
 /// What is said where the answer couldn't be written.
 pub(crate) const ON_WRITE: &str =
     "The answer couldn't be written whole, so don't rely on what stands there of it.\nIs the disk full, or did the reader of a pipe end?\n";

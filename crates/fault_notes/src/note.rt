@@ -1,9 +1,5 @@
 // What is told of a fault behind its first line.
-use crate::advice::{
-    ON_DEFENDER_IN_CHECK, ON_LENGTH, ON_NO_MEMORY, ON_PROBLEM_TO_CHECK, ON_READ, ON_SEVERAL_LINES,
-    ON_TABS, ON_WRITE, advice_on_certificate, advice_on_certificate_look, advice_on_problem,
-    advice_on_problem_look,
-};
+use crate::advice::{ON_DEFENDER_IN_CHECK, ON_LENGTH, ON_NO_MEMORY, ON_PROBLEM_TO_CHECK, ON_SEVERAL_LINES, ON_TABS, ON_WRITE, advice_on_certificate, advice_on_certificate_look, advice_on_problem, advice_on_problem_look};
 use crate::line::{append_line, append_place, line_of};
 use crate::look::{Look, holds, look_of};
 use crate::trouble::Trouble;
@@ -175,7 +171,6 @@ pub fn explain(alloc: Global, trouble: Trouble, input: &[u8]) -> Result<Vec<u8>,
         Trouble::DefenderInCheck => append(&mut out, ON_DEFENDER_IN_CHECK)?,
         Trouble::Certificate(fault) => append_certificate_note(alloc, &mut out, fault, input)?,
         Trouble::TooLong => append(&mut out, ON_LENGTH)?,
-        Trouble::Read => append(&mut out, ON_READ)?,
         Trouble::Write => append(&mut out, ON_WRITE)?,
         Trouble::NoMemory => append(&mut out, ON_NO_MEMORY)?,
     }

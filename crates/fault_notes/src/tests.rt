@@ -181,10 +181,6 @@ fn each_fault_is_explained(rt: HostRuntime) {
             "A problem has at most 65,536 bytes, and a certificate 268,435,456. Is this the\nright input?\n",
         ),
         (
-            Trouble::Read,
-            "The input couldn't be read to its end, so nothing was answered.\n",
-        ),
-        (
             Trouble::Write,
             "The answer couldn't be written whole, so don't rely on what stands there of it.\nIs the disk full, or did the reader of a pipe end?\n",
         ),

@@ -13,8 +13,6 @@ pub enum Trouble {
     Certificate(CertFault),
     /// The input has more bytes than one may have.
     TooLong,
-    /// The input couldn't be read to its end.
-    Read,
     /// The answer couldn't be written whole.
     Write,
     /// Memory was wanted and not there.

@@ -1,5 +1,5 @@
 -- What the user is told beside the answer, on the standard error.
-use Rattle.std.specs.Prelude.{◌≡◌, ℕ, List, [], ◌∷◌, ◌++◌, Some, None, codes}
+use Rattle.std.specs.Prelude.{◌≡◌, ℕ, List, [], ◌∷◌, ◌++◌, Some, None, codes, IsTrue}
 use Rattle.clap.specs.Words.{Text as Word}
 use Rattle.tsume_io.specs.Faults.{Rose}
 use Rattle.tsume_io.specs.Sink.{GrewBy, GrewByPrefix}
@@ -12,7 +12,7 @@ use Rattle.tsume_app.specs.declared.telling.Told.TheVariants.{Whole, InPart, Not
 use Rattle.tsume_app.specs.FaultText.{ended_text}
 use Rattle.tsume_app.specs.Outside.{Shown, NeverFailed, IsUntouched}
 use Rattle.tsume_app.specs.Run.{IsEnded, IsEndedUnasked}
-use Rattle.tsume_app.specs.Status.{status_of}
+use Rattle.tsume_app.specs.Status.{status_of, is_answered}
 
 -- A line for the user: `tsume: `, a text, and a line feed.
 abbrev pub told_line : List ℕ → List ℕ
@@ -24,10 +24,30 @@ told_text (Answered answer) = []
 told_text (CutShort answer) = told_line (ended_text (CutShort answer))
 told_text (Failed fault input) = told_line (ended_text (Failed fault input))
 
+-- A text begins with what the user is told of a run. Behind it more may stand for a reader, but not where the run was answered.
+pub record BeginsAsTold (ended : Ended) (text : List ℕ) : Type 0 where
+  pub more : List ℕ
+  pub begins : text ≡ told_text ended ++ more
+  pub answered : IsTrue (is_answered ended) → more ≡ []
+
+-- The user was told a text that begins so, to its end.
+pub record IsToldWhole (errors : Shown) (ended : Ended) : Type 0 where
+  pub text : List ℕ
+  pub begins : BeginsAsTold ended text
+  pub grew : GrewBy errors.told errors.told_after text
+  pub faultless : NeverFailed errors
+
+-- The user was told a part of a text that begins so, since the sink failed.
+pub record IsToldInPart (errors : Shown) (ended : Ended) : Type 0 where
+  pub text : List ℕ
+  pub begins : BeginsAsTold ended text
+  pub grew : GrewByPrefix errors.told errors.told_after text
+  pub failed : Rose errors.faults errors.faults_after
+
 -- How much of a run's ending the user was told: all; a part, where the sink failed; or nothing, for want of memory, which is free.
 abbrev pub IsTold : Shown → Ended → Told → Type 0
-IsTold errors ended Whole = GrewBy errors.told errors.told_after (told_text ended) × NeverFailed errors
-IsTold errors ended InPart = GrewByPrefix errors.told errors.told_after (told_text ended) × Rose errors.faults errors.faults_after
+IsTold errors ended Whole = IsToldWhole errors ended
+IsTold errors ended InPart = IsToldInPart errors ended
 IsTold errors ended Nothing = IsUntouched errors
 
 -- A run ended as runs do, the user was told of it, and the status is the ending's.

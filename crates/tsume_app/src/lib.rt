@@ -10,6 +10,7 @@ mod exit;
 mod fault;
 mod input;
 mod judgement;
+mod note;
 mod program;
 mod solution;
 mod telling;

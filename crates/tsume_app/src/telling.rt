@@ -1,13 +1,14 @@
 // What the user is told beside the answer, and the program as a whole.
-ghost use Rattle.std.specs.Prelude.{◌≡◌, ◌++◌, OnOk};
+ghost use Rattle.std.specs.Prelude.{◌≡◌, ◌++◌, OnOk, IfOk};
 ghost use Rattle.tsume_words.specs.Meaning.{texts_of};
 ghost use Rattle.tsume_app.specs.Outside.{shown};
-ghost use Rattle.tsume_app.specs.Told.{told_text, IsTold, IsToldRun};
+ghost use Rattle.tsume_app.specs.Told.{told_text, BeginsAsTold, IsTold, IsToldRun};
 
 use crate::ended::Ended;
 use crate::exit::Exit;
 use crate::fault::Fault;
 use crate::input::Input;
+use crate::note::note_of;
 use crate::program::{named_file, run};
 use search_gate::{Gate, OpenGate};
 use std::alloc::{AllocError, Global};
@@ -38,15 +39,30 @@ fn append_told(alloc: Global, out: &mut Vec<u8>, ended: &Ended) -> Result<(), Al
     Ok(())
 }
 
+// The line for the user, and what stands behind it; where memory for that is wanted, the line alone.
+fn text_of(alloc: Global, ended: &Ended) -> Result<Vec<u8>, AllocError>
+    ensures { IfOk result (λ text. BeginsAsTold ended.now text.items) }
+{
+    let mut text = Vec::new(alloc);
+    append_told(alloc, &mut text, ended)?;
+    if ended.is_answered() {
+        return Ok(text);
+    }
+    if let Ok(note) = note_of(alloc, ended) {
+        text.extend_from_slice(&note).ok();
+    }
+    Ok(text)
+}
+
 /// Tells the user how a run ended, on a sink beside that of the answer: nothing where it was answered, else a line with `tsume: ` and
-/// what the ending prints.
+/// what the ending prints. Behind it lines may stand for a reader: what is at fault, what was expected, and what to do. No clause
+/// says which.
 pub fn tell<K: Sink>(alloc: Global, ended: &Ended, errors: &mut K) -> Told
     ensures { IsTold (shown K.kept K.faults errors.old errors.new) ended.now result }
 {
-    let mut text = Vec::new(alloc);
-    if append_told(alloc, &mut text, ended).is_err() {
+    let Ok(text) = text_of(alloc, ended) else {
         return Told::Nothing;
-    }
+    };
     if write_all(errors, &text).is_err() {
         return Told::InPart;
     }

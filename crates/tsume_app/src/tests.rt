@@ -406,14 +406,21 @@ fn the_user_is_told_how_a_run_ended(rt: HostRuntime) -> Result<(), Fail> {
     let table = [
         ("solve", GOLD, 0, 0, 0, ""),
         ("solve --expansions 1", TWO_ROOKS, 0, 0, 1, ""),
-        ("solve", "", 0, 0, 3, "tsume: bad row at 0\n"),
+        (
+            "solve",
+            "",
+            0,
+            0,
+            3,
+            "tsume: bad row at 0\nThe input is empty. A problem is one line, an SFEN: the board, the side to\nmove, and the hands.\n",
+        ),
         (
             "solve",
             "4k4/9/9/9/9/9/9/9/4R4 b - 1\n",
             0,
             0,
             3,
-            "tsume: defender in check\n",
+            "tsume: defender in check\nThe side to move attacks, and the other king is in check already: no legal move\nled here. Is the other side to move?\n",
         ),
         (
             "solve --rows 24",
@@ -423,7 +430,14 @@ fn the_user_is_told_how_a_run_ended(rt: HostRuntime) -> Result<(), Fail> {
             2,
             "tsume: rows is no power of two\n",
         ),
-        ("solve", GOLD, 1, 0, 5, "tsume: write fault\n"),
+        (
+            "solve",
+            GOLD,
+            1,
+            0,
+            5,
+            "tsume: write fault\nThe answer couldn't be written whole, so don't rely on what stands there of it.\nIs the disk full, or did the reader of a pipe end?\n",
+        ),
         ("check", OPEN_ESCAPE, 0, 0, 7, ""),
         ("check", GOLD, 0, 2, 3, "tsume: bad "),
     ];
