@@ -1,5 +1,9 @@
 // What is told of a fault behind its first line.
-use crate::advice::{ON_DEFENDER_IN_CHECK, ON_LENGTH, ON_NO_MEMORY, ON_PROBLEM_TO_CHECK, ON_SEVERAL_LINES, ON_TABS, ON_WRITE, advice_on_certificate, advice_on_certificate_look, advice_on_problem, advice_on_problem_look};
+use crate::advice::{
+    ON_DEFENDER_IN_CHECK, ON_LENGTH, ON_NO_MEMORY, ON_PROBLEM_TO_CHECK, ON_SEVERAL_LINES, ON_TABS,
+    ON_WRITE, advice_on_certificate, advice_on_certificate_look, advice_on_problem,
+    advice_on_problem_look,
+};
 use crate::line::{append_line, append_place, line_of};
 use crate::look::{Look, holds, look_of};
 use crate::trouble::Trouble;
