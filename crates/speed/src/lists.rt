@@ -1,88 +1,15 @@
 // Lists of checks and of evasions, and how long they are, over the problems of the standard input and the positions behind them.
-ghost use Rattle.shogi_rules.specs.Rules.{IsQuiet};
-
 use crate::pace::print_done;
 use crate::part::Done;
+use crate::trees::{Standing, Tree, trees};
 use crate::words::Asked;
-use board_core::{Move, Position};
-use check_moves::{checks, checks_into, count_checks};
-use evasions::{answers, answers_into, count_answers};
+use check_moves::{checks_into, count_checks};
+use evasions::{answers_into, count_answers};
 use move_lists::Moves;
-use sfen_text::read_sfen;
-use shogi_rules::{Problem, accept_problem, apply, legal};
-use std::alloc::{AllocError, Global};
-use std::io::{self, BufRead, BufReader};
+use shogi_rules::Problem;
+use std::alloc::AllocError;
+use std::io;
 use std::time::Instant;
-
-// A position of a problem or after legal moves, with what every such position has.
-#[derive(Clone, Copy)]
-struct Standing {
-    position: Position,
-    ghost quiet: { IsQuiet position },
-}
-
-// A problem, and where its checks and the evasions to them lead.
-#[derive(Drop)]
-struct Tree {
-    problem: Problem,
-    // The problem's position, and those after a check and an evasion.
-    attacking: Vec<Standing>,
-    // Those after a check.
-    defending: Vec<Standing>,
-}
-
-fn add_after(
-    standing: &Standing,
-    moves: &[Move],
-    after: &mut Vec<Standing>,
-) -> Result<(), AllocError> {
-    for by in moves {
-        if legal(&standing.position, *by).is_ok() {
-            after.push(Standing {
-                position: apply(&standing.position, *by),
-            })?;
-        }
-    }
-    Ok(())
-}
-
-fn grown(alloc: Global, problem: Problem) -> Result<Tree, AllocError> {
-    let root = Standing {
-        position: problem.position,
-    };
-    let mut attacking = Vec::new(alloc);
-    let mut defending = Vec::new(alloc);
-    let first = checks(alloc, &problem, &root.position)?;
-    add_after(&root, first.as_slice(), &mut defending)?;
-    attacking.push(root)?;
-    for checked in defending.iter() {
-        let evasions = answers(alloc, &problem, &checked.position)?;
-        add_after(checked, evasions.as_slice(), &mut attacking)?;
-    }
-    Ok(Tree {
-        problem,
-        attacking,
-        defending,
-    })
-}
-
-// The problem of a line: an SFEN, with notes behind a tab; none where the line has none.
-fn problem_of(line: &[u8]) -> Option<Problem> {
-    let text = line.split(|byte| *byte == b'\t').next()?;
-    let position = read_sfen(text).ok()?;
-    accept_problem(position).ok()
-}
-
-fn trees(rt: &HostRuntime) -> io::Result<Vec<Tree>> {
-    let mut trees = Vec::new(rt.alloc());
-    let input = BufReader::new(rt.alloc(), rt.reader())?;
-    for line in input.split(rt.alloc(), b'\n') {
-        if let Some(problem) = problem_of(line?.as_slice()) {
-            trees.push(grown(rt.alloc(), problem)?)?;
-        }
-    }
-    Ok(trees)
-}
 
 // What is done at each position.
 #[derive(Clone, Copy)]

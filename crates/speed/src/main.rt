@@ -1,7 +1,8 @@
 //! Measures the parts of the solver, one by one: `speed WHAT [ROUNDS] [times]`.
 //!
 //! WHAT is `read`, which reads the standard input whole; `lists`, which makes the lists of checks and evasions, and their counts, at
-//! the problems of the standard input, a line each, and at the positions behind their checks and the evasions to these; the word of
+//! the problems of the standard input, a line each, and at the positions behind their checks and the evasions to these; `start`, which
+//! asks at the same positions for the numbers with which the search begins behind each check, and behind each evasion; the word of
 //! a part, as [`part::ROWS`] lists them; or `all`, every part. A part does its work ROUNDS times, 1 where no number is given, and a line says how many calls that were and a
 //! check sum of what they answered, the same on every machine. With `times` the line also says how long each took, in
 //! nanoseconds, and how many a second there were. Other words end with status 1.
@@ -14,6 +15,8 @@ mod part;
 mod positions;
 mod reading;
 mod rules;
+mod starts;
+mod trees;
 mod words;
 
 use boards::Boards;
@@ -33,6 +36,9 @@ fn main(rt: HostRuntime) -> io::Result<()> {
     if asked.what.as_str() == "lists" {
         return lists::lists(&rt, &asked);
     }
+    if asked.what.as_str() == "start" {
+        return starts::starts(&rt, &asked);
+    }
     let Some(boards) = Boards::set_up(rt.alloc())? else {
         return Err(io::Error::from(io::ErrorKind::Other));
     };
@@ -47,7 +53,9 @@ fn main(rt: HostRuntime) -> io::Result<()> {
 }
 
 fn usage(rt: &HostRuntime) -> io::Result<()> {
-    eprintln!(rt; "usage: speed WHAT [ROUNDS] [times], where WHAT is all, read, lists, or one of")?;
+    eprintln!(rt;
+        "usage: speed WHAT [ROUNDS] [times], where WHAT is all, read, lists, start, or one of"
+    )?;
     for (word, title, _) in ROWS {
         eprintln!(rt; "  {word}: {title}")?;
     }
