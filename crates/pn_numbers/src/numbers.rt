@@ -5,7 +5,7 @@ ghost use Rattle.std.specs.Prelude.{◌≡◌, ◌≤◌, ◌↔◌, ◌⊎◌, 
 pub const CAP: u32 = 100_000_000;
 
 /// The number of what can't be done: the disproof number of a proved node, the proof number of a disproved one, and a threshold that
-/// is never reached.
+/// no unsolved node reaches.
 pub const INFINITE: u32 = 100_000_001;
 
 /// The proof and the disproof number of a node: estimates of how many positions below it have to be looked at before it is proved
@@ -31,7 +31,7 @@ impl Numbers {
         pn: INFINITE,
         dn: 0,
     };
-    /// Of a node of which nothing is known.
+    /// Of the problem, when its search begins.
     pub const ONE: Numbers = Numbers { pn: 1, dn: 1 };
 
     /// Whether one of the numbers has come to its threshold, so that the visit of the node ends. (Nagai 2002.)

@@ -1,6 +1,6 @@
 // The reckoning by rows.
 use crate::{
-    CAP, Child, INFINITE, Node, Numbers, and_numbers, child_thresholds, or_numbers, select,
+    Child, INFINITE, Node, Numbers, and_numbers, child_thresholds, or_numbers, select,
 };
 
 fn numbers(pn: u32, dn: u32) -> Numbers {
@@ -20,9 +20,10 @@ fn numbers_are_combined_children_selected_and_thresholds_set(rt: HostRuntime) {
     assert_eq!(rt; or_numbers(&two), numbers(1, 7));
     assert_eq!(rt; and_numbers(&two), numbers(3, 3));
     assert_eq!(rt;
-        or_numbers(&[numbers(1, CAP), numbers(1, CAP)]),
-        numbers(1, CAP)
+        or_numbers(&[numbers(1, 100_000_000), numbers(1, 100_000_000)]),
+        numbers(1, 100_000_000)
     );
+    assert_eq!(rt; Numbers::PROVED, numbers(0, 100_000_001));
     assert_eq!(rt;
         or_numbers(&[numbers(2, 3), Numbers::PROVED]),
         Numbers::PROVED

@@ -1,4 +1,4 @@
--- The numbers of a position that was never visited, from the position before it and the move.
+-- The numbers of a position of which none are known, from the position before it and the move.
 use Rattle.std.specs.Prelude.{◌≡◌, ◌<◌, ◌+◌, ◌*◌, ◌==◌, ◌↔◌, ℕ, List, length, Bool, nat_le, nat_lt, is_some, if◌then◌else◌}
 use Rattle.bit_boards.specs.declared.piece.Side.{Side}
 use Rattle.bit_boards.specs.declared.mask.Mask.{Mask}

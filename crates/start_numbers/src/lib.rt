@@ -1,5 +1,5 @@
-//! The numbers with which a position begins that the search has never visited: from the position before it and the move that leads
-//! to it, with no list and no memory. Its speed decides the search's, since every child of every visited position is asked for.
+//! The numbers with which a position begins of which the search knows none: from the position before it and the move that leads to it,
+//! with no list and no memory. Its speed decides the search's, since most children of visited positions are such.
 #![tactic(auto)]
 
 mod starting;

@@ -1,4 +1,4 @@
-// The numbers of a position that was never visited.
+// The numbers of a position of which none are known.
 ghost use Rattle.std.specs.Prelude.{◌≡◌, ◌≤◌, ◌+◌, ◌↔◌, ℕ, List, [], length, is_some};
 ghost use Rattle.bit_boards.specs.declared.mask.Mask.{Mask};
 ghost use Rattle.bit_boards.specs.declared.piece.Side.{Side};
@@ -106,14 +106,14 @@ fn start_of_evasion(problem: &Problem, position: &Position, by: Move) -> Numbers
     }
 }
 
-/// The numbers with which the position after a move begins, as long as it was never visited: the move is a check of the problem's
+/// The numbers with which the position after a move begins, as long as none are known of it: the move is a check of the problem's
 /// attacker at the position, or an evasion of his defender. Takes no memory.
 ///
 /// After a check the proof number is two for each answer, drops on one square being one; two more where no more pieces of the attacker
 /// than of the defender reach the square to which it went, and one more where two of the defender's do. The disproof number is 2; where
 /// the attacker has more pieces there, it is 4, and 5 where the check takes a piece. After an evasion the proof number is 2, and
 /// the disproof number two for each check. A check that leaves no answer has the proof number 1, an evasion that leaves no check the
-/// disproof number 1: so the search turns to these first, and one visit settles them.
+/// disproof number 1: so the search visits these first, and one visit settles them.
 ///
 /// A piece reaches a square as if nothing were pinned; the piece that moves and the king count, and so does a piece that is dropped. The
 /// side not to move must not be in check. (In place of 1 and 1, with which a search begins after Nagai 2002.)
