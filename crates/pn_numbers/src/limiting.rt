@@ -38,8 +38,8 @@ fn bounded(threshold: u64, child: u32) -> u32
 ///
 /// At an attacker's node the child may come to the second best proof number and an eighth of it more, but not past its node's
 /// threshold; and its disproof number may grow by what the node's may, without limit where the node's threshold is [`INFINITE`]. At a
-/// defender's node it is the other way round. Both are above the child's own numbers where these aren't infinite, so that it is visited at all, and at most
-/// infinite. (Nagai 2002; the eighth: Pawlewicz and Lew 2006.)
+/// defender's node it is the other way round. Both are above the child's own numbers where these aren't infinite, so that it is
+/// visited at all, and at most infinite. (Nagai 2002; the eighth: Pawlewicz and Lew 2006.)
 pub fn child_thresholds(
     node: Node,
     limits: Numbers,

@@ -129,8 +129,9 @@ fn place_with(node: Node, number: u128, children: &[Child], before: usize) -> Op
 ///
 /// The selecting number of a child is its proof number at an attacker's node, its disproof number at a defender's, and
 /// [`WEIGHT`] more for each worker below it; a child that is [`INFINITE`] here has none. Of the k children with the least one, worker
-/// w, from 1, takes that at place (w - 1) mod k, in order and from 0; so workers who see the same numbers part where several children have the least. The second is the
-/// least selecting number of the other children, INFINITE where they have none. Worker 0 counts as worker 1.
+/// w, from 1, takes that at place (w - 1) mod k, in order and from 0; so workers who see the same numbers part where several
+/// children have the least. The second is the least selecting number of the other children, INFINITE where they have none. Worker 0
+/// counts as worker 1.
 /// (Nagai 2002; virtual numbers: Kaneko 2010.)
 pub fn select(node: Node, children: &[Child], worker: u32) -> Option<(usize, u128)>
     ensures selected { MatchOption result ((place : ℕ) → number_at node children.now place ≡ None) (λ chosen. IsSelected node children.now worker chosen.0 chosen.1) }
