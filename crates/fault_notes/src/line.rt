@@ -43,7 +43,7 @@ fn shown(byte: u8) -> u8 {
     }
 }
 
-// Writes a part of a line, `..` where it is cut, and returns how far it is moved to the left.
+// Writes the part of a line that begins with this byte, and `..` where it is cut.
 fn append_part(out: &mut Vec<u8>, bytes: &[u8], from: usize) -> Result<(), AllocError> {
     out.extend_from_slice(b"    ")?;
     if from > 0 {

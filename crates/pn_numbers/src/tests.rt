@@ -1,7 +1,5 @@
 // The reckoning by rows.
-use crate::{
-    Child, INFINITE, Node, Numbers, and_numbers, child_thresholds, or_numbers, select,
-};
+use crate::{Child, INFINITE, Node, Numbers, and_numbers, child_thresholds, or_numbers, select};
 
 fn numbers(pn: u32, dn: u32) -> Numbers {
     Numbers { pn, dn }

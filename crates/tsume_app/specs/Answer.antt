@@ -11,7 +11,7 @@ use Rattle.cert_text.specs.declared.certificate.Certificate.TheVariants as certi
 use Rattle.cert_text.specs.Certificate.{Mating, Escaping}
 use Rattle.cert_text.specs.declared.head.Claim.{Claim}
 use Rattle.cert_text.specs.Entries.{line}
-use Rattle.cert_text.specs.Kinds.{claim_of, problem_of, positions_in}
+use Rattle.cert_text.specs.Kinds.{claim_of, positions_in}
 use Rattle.cert_text.specs.Text.{claim_word, certificate_text}
 use Rattle.cert_check.specs.declared.verdict.Why.{Why}
 use Rattle.cert_check.specs.declared.verdict.Why.TheVariants.{RootMissing, NotACheck, EvasionOutside, RankNotLower, CheckUnanswered}
