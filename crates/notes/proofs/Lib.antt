@@ -1,0 +1,4 @@
+mod Gathered
+mod Meeting
+mod Said
+mod Truth

@@ -1,0 +1,367 @@
+-- What valid notes say is true.
+use Rattle.std.proofs.Common.{◌≡◌, ◌≢◌, ◌<◌, ◌≤◌, ◌+◌, ◌*◌, ◌⊎◌, inl, inr, ℕ, zero, suc, max, List, [], ◌∷◌, length, Contains, arith, refl, sym, ◌∙◌, ap, subst}
+use Rattle.std.specs.Prelude.{nat_eq}
+use Rattle.std.specs.Cmp.Lexicographic.{pointwise, bytes_decides}
+use Rattle.std.proofs.lemmas.Bool.{cases_Bool}
+use Rattle.std.proofs.lemmas.Option.{slice_get-get_or}
+use Rattle.bit_boards.specs.declared.piece.Side.{Side}
+use Rattle.bit_boards.specs.declared.piece.Side.TheVariants.{Black, White}
+use Rattle.bit_boards.specs.Kind.{other}
+use Rattle.board_core.specs.declared.keys.Key.{Key}
+use Rattle.board_core.specs.declared.moves.Move.{Move}
+use Rattle.board_core.specs.declared.moves.Move.TheVariants as moves
+use Rattle.board_core.specs.Board.{Board}
+use Rattle.board_core.specs.Kept.{IsKept}
+use Rattle.board_core.specs.Key.{key_of}
+use Rattle.list_laws.proofs.Standing.{at_place, contained}
+use Rattle.shogi_rules.specs.Rules.{after}
+use Rattle.shogi_rules.specs.Tsume.{IsCheck, IsEvasion}
+use Rattle.mate_def.specs.Mate.{RankAtMost, RankGrows, IsMatedWithin, EscapesInto, EscapesJoined, CanEvadeTo}
+use Rattle.notes.specs.declared.rule.Rule.{Rule}
+use Rattle.notes.specs.declared.rule.Rule.TheVariants.{MateEnd, MateAll, MateBy, EscapeEnd, EscapeBy, EscapeRepeat, EscapeAll}
+use Rattle.notes.specs.declared.rule.Conclusion.{Conclusion}
+use Rattle.notes.specs.declared.rule.Conclusion.TheVariants.{Mate, Escape}
+use Rattle.notes.specs.Derivation.{Step, Derivation, Derivations, derived, none_under, one_under, listed, rule_of, attacker_of, position_of, tag_of, height_of, conclusion_of, concluded, highest}
+use Rattle.notes.specs.Valid.{Says, SayEach, IsStep, IsValid, AreValid, meets}
+use Rattle.notes.specs.Truth.{StandFor, IsTrueMate, IsTrueMated, IsTrueEscape, IsTrueEvading, NotesAreTrue}
+
+-- 1. Sides
+
+other_apart : (side : Side) → other side ≡ side → ⊥
+other_apart Black e = absurd (cc)
+other_apart White e = absurd (cc)
+
+other_back : (side : Side) → other (other side) ≡ side
+other_back Black = refl
+other_back White = refl
+
+turn_after : (b : Board) (move : Move) → (after b move).side ≡ other b.side
+turn_after b (moves.Board from to promote) = refl
+turn_after b (moves.Drop dropped to) = refl
+
+after_check : (attacker : Side) (b : Board) (check : Move) → IsCheck attacker b check → (after b check).side ≡ other attacker
+after_check attacker b check is = turn_after b check ∙ ap other is.mover
+
+after_evasion : (attacker : Side) (b : Board) (evasion : Move) → IsEvasion attacker b evasion → (after b evasion).side ≡ attacker
+after_evasion attacker b evasion is = turn_after b evasion ∙ (ap other is.mover ∙ other_back attacker)
+
+-- who is to move where a rule is met
+abbrev turn_by : Rule → Side → Side
+turn_by MateEnd attacker = other attacker
+turn_by MateAll attacker = other attacker
+turn_by (MateBy check) attacker = attacker
+turn_by EscapeEnd attacker = attacker
+turn_by (EscapeBy evasion) attacker = other attacker
+turn_by (EscapeRepeat evasion) attacker = other attacker
+turn_by EscapeAll attacker = attacker
+
+-- the first of some elements
+first_of : {X : Type 0} (xs : List X) → 0 < length xs → (x : X) × Contains xs x
+first_of [] some = absurd (omega (arith, some))
+first_of (x ∷ xs) some = (x, (zero, omega arith, refl))
+
+turn_met : (rule : Rule) (s : Step) (notes : List Derivation) → meets rule s notes → s.position.side ≡ turn_by rule s.attacker
+turn_met MateEnd s notes m = m.0.turn
+turn_met MateAll s notes m = let one = first_of m.0.evasions m.0.some in (m.0.lists.sound one.0 one.1).mover
+turn_met (MateBy check) s notes m = m.0.mover
+turn_met EscapeEnd s notes m = m.0.turn
+turn_met (EscapeBy evasion) s notes m = m.0.mover
+turn_met (EscapeRepeat evasion) s notes m = m.0.mover
+turn_met EscapeAll s notes m = let one = first_of m.0.checks m.0.some in (m.0.lists.sound one.0 one.1).mover
+
+-- 2. What a note by a rule says, and what that is by its conclusion and the side to move
+
+abbrev true_by : Rule → Derivation → Type 0
+true_by MateEnd note = IsTrueMated note
+true_by MateAll note = IsTrueMated note
+true_by (MateBy check) note = IsTrueMate note
+true_by EscapeEnd note = IsTrueEscape note
+true_by (EscapeBy evasion) note = IsTrueEvading note
+true_by (EscapeRepeat evasion) note = IsTrueEvading note
+true_by EscapeAll note = IsTrueEscape note
+
+mate_by_rule : (rule : Rule) (note : Derivation) (turn attacker : Side) → turn ≡ turn_by rule attacker → true_by rule note → concluded rule ≡ Mate
+    → turn ≡ attacker → IsTrueMate note
+mate_by_rule MateEnd note turn attacker met says is at = absurd (other_apart attacker (sym met ∙ at))
+mate_by_rule MateAll note turn attacker met says is at = absurd (other_apart attacker (sym met ∙ at))
+mate_by_rule (MateBy check) note turn attacker met says is at = says
+mate_by_rule EscapeEnd note turn attacker met says is at = absurd (cc)
+mate_by_rule (EscapeBy evasion) note turn attacker met says is at = absurd (cc)
+mate_by_rule (EscapeRepeat evasion) note turn attacker met says is at = absurd (cc)
+mate_by_rule EscapeAll note turn attacker met says is at = absurd (cc)
+
+mated_by_rule : (rule : Rule) (note : Derivation) (turn attacker : Side) → turn ≡ turn_by rule attacker → true_by rule note → concluded rule ≡ Mate
+    → turn ≡ other attacker → IsTrueMated note
+mated_by_rule MateEnd note turn attacker met says is at = says
+mated_by_rule MateAll note turn attacker met says is at = says
+mated_by_rule (MateBy check) note turn attacker met says is at = absurd (other_apart attacker (sym at ∙ met))
+mated_by_rule EscapeEnd note turn attacker met says is at = absurd (cc)
+mated_by_rule (EscapeBy evasion) note turn attacker met says is at = absurd (cc)
+mated_by_rule (EscapeRepeat evasion) note turn attacker met says is at = absurd (cc)
+mated_by_rule EscapeAll note turn attacker met says is at = absurd (cc)
+
+escape_by_rule : (rule : Rule) (note : Derivation) (turn attacker : Side) → turn ≡ turn_by rule attacker → true_by rule note → concluded rule ≡ Escape
+    → turn ≡ attacker → IsTrueEscape note
+escape_by_rule MateEnd note turn attacker met says is at = absurd (cc)
+escape_by_rule MateAll note turn attacker met says is at = absurd (cc)
+escape_by_rule (MateBy check) note turn attacker met says is at = absurd (cc)
+escape_by_rule EscapeEnd note turn attacker met says is at = says
+escape_by_rule (EscapeBy evasion) note turn attacker met says is at = absurd (other_apart attacker (sym met ∙ at))
+escape_by_rule (EscapeRepeat evasion) note turn attacker met says is at = absurd (other_apart attacker (sym met ∙ at))
+escape_by_rule EscapeAll note turn attacker met says is at = says
+
+evading_by_rule : (rule : Rule) (note : Derivation) (turn attacker : Side) → turn ≡ turn_by rule attacker → true_by rule note → concluded rule ≡ Escape
+    → turn ≡ other attacker → IsTrueEvading note
+evading_by_rule MateEnd note turn attacker met says is at = absurd (cc)
+evading_by_rule MateAll note turn attacker met says is at = absurd (cc)
+evading_by_rule (MateBy check) note turn attacker met says is at = absurd (cc)
+evading_by_rule EscapeEnd note turn attacker met says is at = absurd (other_apart attacker (sym at ∙ met))
+evading_by_rule (EscapeBy evasion) note turn attacker met says is at = says
+evading_by_rule (EscapeRepeat evasion) note turn attacker met says is at = says
+evading_by_rule EscapeAll note turn attacker met says is at = absurd (other_apart attacker (sym at ∙ met))
+
+-- a valid note of which is known what its rule says
+abbrev Known : Derivation → Type 0
+Known note = ((position_of note).side ≡ turn_by (rule_of note) (attacker_of note)) × true_by (rule_of note) note
+
+known_mate : (note : Derivation) → Known note → conclusion_of note ≡ Mate → (position_of note).side ≡ attacker_of note → IsTrueMate note
+known_mate note k is at = mate_by_rule (rule_of note) note (position_of note).side (attacker_of note) k.0 k.1 is at
+
+known_mated : (note : Derivation) → Known note → conclusion_of note ≡ Mate → (position_of note).side ≡ other (attacker_of note) → IsTrueMated note
+known_mated note k is at = mated_by_rule (rule_of note) note (position_of note).side (attacker_of note) k.0 k.1 is at
+
+known_escape : (note : Derivation) → Known note → conclusion_of note ≡ Escape → (position_of note).side ≡ attacker_of note → IsTrueEscape note
+known_escape note k is at = escape_by_rule (rule_of note) note (position_of note).side (attacker_of note) k.0 k.1 is at
+
+known_evading : (note : Derivation) → Known note → conclusion_of note ≡ Escape → (position_of note).side ≡ other (attacker_of note) → IsTrueEvading note
+known_evading note k is at = evading_by_rule (rule_of note) note (position_of note).side (attacker_of note) k.0 k.1 is at
+
+-- 3. The note under a step after a move
+
+-- a mate after an evasion
+mate_after : (attacker : Side) (q : Board) (note : Derivation) → Known note → Says Mate attacker q note → q.side ≡ attacker
+    → (n : ℕ) × (height_of note ≡ 2 * n) × RankAtMost attacker n q
+mate_after attacker q note k says at =
+    let own = known_mate note k says.concludes (ap (λ (b : Board). b.side) says.about ∙ (at ∙ sym says.same_attacker)) in
+    (own.0, own.1, subst (λ (b : Board). RankAtMost attacker own.0 b) says.about (subst (λ (side : Side). RankAtMost side own.0 (position_of note)) says.same_attacker own.2))
+
+-- a mate after a check
+mated_after : (attacker : Side) (q : Board) (note : Derivation) → Known note → Says Mate attacker q note → q.side ≡ other attacker
+    → (n : ℕ) × (height_of note ≡ 2 * n + 1) × IsMatedWithin attacker n q
+mated_after attacker q note k says at =
+    let own = known_mated note k says.concludes (ap (λ (b : Board). b.side) says.about ∙ (at ∙ ap other (sym says.same_attacker))) in
+    (own.0, own.1, subst (λ (b : Board). IsMatedWithin attacker own.0 b) says.about (subst (λ (side : Side). IsMatedWithin side own.0 (position_of note)) says.same_attacker own.2))
+
+-- an escape after an evasion
+escape_after : (attacker : Side) (q : Board) (note : Derivation) → Known note → Says Escape attacker q note → q.side ≡ attacker
+    → (t : List Board) → StandFor (tag_of note) t → EscapesInto attacker q t
+escape_after attacker q note k says at t stand =
+    let own = known_escape note k says.concludes (ap (λ (b : Board). b.side) says.about ∙ (at ∙ sym says.same_attacker)) t stand in
+    subst (λ (b : Board). EscapesInto attacker b t) says.about (subst (λ (side : Side). EscapesInto side (position_of note) t) says.same_attacker own)
+
+-- an escape after a check
+evading_after : (attacker : Side) (q : Board) (note : Derivation) → Known note → Says Escape attacker q note → q.side ≡ other attacker
+    → (t : List Board) → StandFor (tag_of note) t → CanEvadeTo attacker (λ p. Contains t p ⊎ EscapesInto attacker p t) q
+evading_after attacker q note k says at t stand =
+    let own = known_evading note k says.concludes (ap (λ (b : Board). b.side) says.about ∙ (at ∙ ap other (sym says.same_attacker))) t stand in
+    subst (λ (b : Board). CanEvadeTo attacker (λ p. Contains t p ⊎ EscapesInto attacker p t) b) says.about
+    (subst (λ (side : Side). CanEvadeTo side (λ p. Contains t p ⊎ EscapesInto side p t) (position_of note)) says.same_attacker own)
+
+-- the note after a move of a list
+note_after : (conclusion : Conclusion) (attacker : Side) (b : Board) (listed_moves : List Move) (notes : List Derivation) (move : Move)
+    → SayEach conclusion attacker b listed_moves notes → Contains listed_moves move
+    → (note : Derivation) × Contains notes note × Says conclusion attacker (after b move) note
+note_after conclusion attacker b [] notes move say c = absurd (let inside = c.1 in omega (arith, inside))
+note_after conclusion attacker b (first ∷ rest) [] move say c = absurd (let many = say.as_many in omega (arith, many))
+note_after conclusion attacker b (first ∷ rest) (note ∷ notes) move say c =
+    let inside : c.0 < length (note ∷ notes) = let many = say.as_many in let within = c.1 in omega (arith, many, within) in
+    let there = slice_get-get_or (note ∷ notes) c.0 note inside in
+    (_, contained (note ∷ notes) c.0 _ there, say.each c.0 move _ (at_place (first ∷ rest) move c) there)
+
+-- 4. Heights
+
+height_le : (notes : List Derivation) (note : Derivation) → Contains notes note → height_of note ≤ highest notes
+height_le [] note c = absurd (let inside = c.1 in omega (arith, inside))
+height_le (first ∷ notes) note (zero, inside, e) = let same : height_of first ≡ height_of note = ap height_of e in omega (arith, same)
+height_le (first ∷ notes) note (suc k, inside, e) = let up = height_le notes note (k, omega (arith, inside), e) in omega (arith, up)
+
+-- where all heights are even, so is the greatest
+even_highest : (notes : List Derivation) → ((note : Derivation) → Contains notes note → (n : ℕ) × (height_of note ≡ 2 * n)) → (n : ℕ) × (highest notes ≡ 2 * n)
+even_highest [] all = (0, refl)
+even_highest (first ∷ notes) all =
+    let one = all first (zero, omega arith, refl) in
+    let rest = even_highest notes (λ note c. all note (suc c.0, (let inside = c.1 in omega (arith, inside)), c.2)) in
+    let same = one.1 in let more = rest.1 in
+    (max one.0 rest.0, omega (arith, same, more))
+
+-- 5. What is said of tags
+
+-- where they stand for a joined tag, they stand with the position for each of the tags
+stand_with : (b : Board) (tag one : List Key) (t : List Board) → IsKept b
+    → ((key : Key) → Contains one key → key.0 ≢ key_of b → Contains tag key) → StandFor tag t → StandFor one (b ∷ t)
+stand_with b tag one t kept join stand key c = elim (cases_Bool (pointwise nat_eq key.0 (key_of b))) [
+  | inl same ↦ (b, (zero, omega arith, refl), kept, (bytes_decides key.0 (key_of b)).0 same)
+  | inr differs ↦
+      let other_key : key.0 ≢ key_of b = λ e. absurd (let same = (bytes_decides key.0 (key_of b)).1 e in cc) in
+      let found = stand key (join key c other_key) in
+      (found.0, (suc found.1.0, (let inside = found.1.1 in omega (arith, inside)), found.1.2), found.2, found.3)
+]
+
+-- 6. Each rule
+
+module _ (grows : RankGrows) (joins : EscapesJoined) where
+  mate_all_true : (s : Step) (ds : Derivations) → ((note : Derivation) → Contains (listed ds) note → Known note) → IsStep s (listed ds) → meets MateAll s (listed ds)
+      → IsTrueMated (derived s ds)
+  mate_all_true s ds known step m =
+      let all = m.0 in
+      let back : (note : Derivation) → Contains (listed ds) note → (n : ℕ) × (height_of note ≡ 2 * n) =
+      λ note c.
+      let k = c.0 in
+      let many = all.mates.as_many in
+      let inside : k < length all.evasions = let within = c.1 in omega (arith, many, within) in
+      let one = first_of all.evasions all.some in
+      let move = slice_get-get_or all.evasions k one.0 inside in
+      let says = all.mates.each k _ note move (at_place (listed ds) note c) in
+      let is = all.lists.sound _ (contained all.evasions k _ move) in
+      let found = mate_after s.attacker _ note (known note c) says (after_evasion s.attacker s.position _ is) in
+      (found.0, found.1) in
+      let top = even_highest (listed ds) back in
+      let high = step.height in let even = top.1 in (
+        top.0,
+        (omega (arith, high, even)),
+        λ evasion is.
+            let found = note_after Mate s.attacker s.position all.evasions (listed ds) evasion all.mates (all.lists.complete evasion is) in
+            let mate = mate_after s.attacker _ found.0 (known found.0 found.1) found.2 (after_evasion s.attacker s.position evasion is) in
+            let low = height_le (listed ds) found.0 found.1 in let same = mate.1 in
+            grows s.attacker mate.0 top.0 (after s.position evasion) (omega (arith, low, same, even)) mate.2,
+      )
+
+  mate_by_true : (s : Step) (ds : Derivations) (check : Move) → ((note : Derivation) → Contains (listed ds) note → Known note) → IsStep s (listed ds)
+      → meets (MateBy check) s (listed ds) → IsTrueMate (derived s ds)
+  mate_by_true s ds check known step m =
+      let one = m.1 in
+      let member : Contains (listed ds) one.note = subst (λ (notes : List Derivation). Contains notes one.note) (sym one.alone) (zero, omega arith, refl) in
+      let found = mated_after s.attacker _ one.note (known one.note member) one.says (after_check s.attacker s.position check m.0) in
+      let top : highest (listed ds) ≡ highest (one.note ∷ []) = ap highest one.alone in
+      let high = step.height in let same = found.1 in
+      (suc found.0, omega (arith, high, same, top), (check, m.0, λ evasion is. found.2 evasion is))
+
+  escape_end_true : (s : Step) (ds : Derivations) → meets EscapeEnd s (listed ds) → IsTrueEscape (derived s ds)
+  escape_end_true s ds m t stand = joins s.attacker s.position [] t m.0.turn (λ check is. absurd (m.0.no_check check is)) (λ check c. absurd (let inside = c.1 in omega (arith, inside)))
+
+  escape_all_true : (s : Step) (ds : Derivations) → ((note : Derivation) → Contains (listed ds) note → Known note) → IsStep s (listed ds)
+      → meets EscapeAll s (listed ds) → IsTrueEscape (derived s ds)
+  escape_all_true s ds known step m t stand =
+      let all = m.0 in
+      let one = first_of all.checks all.some in
+      joins s.attacker s.position all.checks t (all.lists.sound one.0 one.1).mover (λ check is. all.lists.complete check is) (λ check c.
+      let is = all.lists.sound check c in
+      let found = note_after Escape s.attacker s.position all.checks (listed ds) check all.escapes c in
+      let way = evading_after s.attacker _ found.0 (known found.0 found.1) found.2 (after_check s.attacker s.position check is) (s.position ∷ t)
+      (stand_with s.position s.tag (tag_of found.0) t step.kept (λ key held differs. (m.1 key).1 ((found.0, found.1, held), differs)) stand) in
+      record { evasion = way.evasion; is_evasion = way.is_evasion; leads = way.leads })
+
+  escape_by_true : (s : Step) (ds : Derivations) (evasion : Move) → ((note : Derivation) → Contains (listed ds) note → Known note)
+      → meets (EscapeBy evasion) s (listed ds) → IsTrueEvading (derived s ds)
+  escape_by_true s ds evasion known m t stand =
+      let one = m.1.0 in
+      let member : Contains (listed ds) one.note = subst (λ (notes : List Derivation). Contains notes one.note) (sym one.alone) (zero, omega arith, refl) in
+      let found = escape_after s.attacker _ one.note (known one.note member) one.says (after_evasion s.attacker s.position evasion m.0) t
+      (subst (λ (tag : List Key). StandFor tag t) m.1.1 stand) in
+      record { evasion = evasion; is_evasion = m.0; leads = inr found }
+
+  escape_repeat_true : (s : Step) (ds : Derivations) (evasion : Move) → meets (EscapeRepeat evasion) s (listed ds) → IsTrueEvading (derived s ds)
+  escape_repeat_true s ds evasion m t stand =
+      let one = m.2 in
+      let found = stand one.key (subst (λ (tag : List Key). Contains tag one.key) (sym one.alone) (zero, omega arith, refl)) in
+      let same : found.0 ≡ after s.position evasion = one.of_no_other found.0 found.2 (sym found.3) in
+      record { evasion = evasion; is_evasion = m.0; leads = inl (subst (λ (q : Board). Contains t q) same found.1) }
+
+  true_step : (rule : Rule) (s : Step) (ds : Derivations) → ((note : Derivation) → Contains (listed ds) note → Known note) → IsStep s (listed ds)
+      → meets rule s (listed ds) → true_by rule (derived s ds)
+  true_step MateEnd s ds known step m =
+      let none : highest (listed ds) ≡ 0 = ap highest m.1 in
+      let high = step.height in
+      (0, omega (arith, high, none), λ evasion is. absurd (m.0.no_evasion evasion is))
+  true_step MateAll s ds known step m = mate_all_true s ds known step m
+  true_step (MateBy check) s ds known step m = mate_by_true s ds check known step m
+  true_step EscapeEnd s ds known step m = escape_end_true s ds m
+  true_step (EscapeBy evasion) s ds known step m = escape_by_true s ds evasion known m
+  true_step (EscapeRepeat evasion) s ds known step m = escape_repeat_true s ds evasion m
+  true_step EscapeAll s ds known step m = escape_all_true s ds known step m
+
+  mutual
+    known_note : (note : Derivation) → IsValid note → Known note
+    known_note (derived s ds) v =
+        (turn_met s.rule s (listed ds) v.1.rule, true_step s.rule s ds (known_under ds v.0) v.1 v.1.rule)
+
+    known_under : (ds : Derivations) → AreValid ds → (note : Derivation) → Contains (listed ds) note → Known note
+    known_under none_under v note c = absurd (let inside = c.1 in omega (arith, inside))
+    known_under (one_under first ds) v note (zero, inside, e) = subst Known e (known_note first v.0)
+    known_under (one_under first ds) v note (suc k, inside, e) = known_under ds v.1 note (k, omega (arith, inside), e)
+
+-- 7. Tags
+
+untagged_by : (rule : Rule) (s : Step) (notes : List Derivation) → meets rule s notes → concluded rule ≡ Mate → s.tag ≡ []
+untagged_by MateEnd s notes m is = m.2
+untagged_by MateAll s notes m is = m.1
+untagged_by (MateBy check) s notes m is = m.2
+untagged_by EscapeEnd s notes m is = absurd (cc)
+untagged_by (EscapeBy evasion) s notes m is = absurd (cc)
+untagged_by (EscapeRepeat evasion) s notes m is = absurd (cc)
+untagged_by EscapeAll s notes m is = absurd (cc)
+
+mate_untagged : (note : Derivation) → IsValid note → conclusion_of note ≡ Mate → tag_of note ≡ []
+mate_untagged (derived s ds) v is = untagged_by s.rule s (listed ds) v.1.rule is
+
+-- the one element of a list of one
+only : {X : Type 0} (x y : X) → Contains (x ∷ []) y → x ≡ y
+only x y (zero, inside, e) = e
+only x y (suc k, inside, e) = absurd (omega (arith, inside))
+
+-- each key of a tag is that of a position
+abbrev AreKeys : List Key → Type 0
+AreKeys tag = (key : Key) → Contains tag key → (q : Board) × IsKept q × (key.0 ≡ key_of q)
+
+no_keys : (tag : List Key) → tag ≡ [] → AreKeys tag
+no_keys tag none key c = absurd (let gone = subst (λ (keys : List Key). Contains keys key) none c in let inside = gone.1 in omega (arith, inside))
+
+keys_by : (rule : Rule) (s : Step) (notes : List Derivation) → meets rule s notes → ((note : Derivation) → Contains notes note → AreKeys (tag_of note))
+    → AreKeys s.tag
+keys_by MateEnd s notes m under key c = no_keys s.tag m.2 key c
+keys_by MateAll s notes m under key c = no_keys s.tag m.1 key c
+keys_by (MateBy check) s notes m under key c = no_keys s.tag m.2 key c
+keys_by EscapeEnd s notes m under key c = no_keys s.tag m.2 key c
+keys_by (EscapeBy evasion) s notes m under key c =
+    let one = m.1.0 in
+    under one.note (subst (λ (all : List Derivation). Contains all one.note) (sym one.alone) (zero, omega arith, refl)) key
+    (subst (λ (tag : List Key). Contains tag key) m.1.1 c)
+keys_by (EscapeRepeat evasion) s notes m under key c =
+    let one = m.2 in
+    let alone = subst (λ (tag : List Key). Contains tag key) one.alone c in
+    (after s.position evasion, one.kept, sym (ap (λ (k : Key). k.0) (only one.key key alone)) ∙ one.is_key)
+keys_by EscapeAll s notes m under key c = let from = (m.1 key).0 c in under from.0.0 from.0.1 key from.0.2
+
+mutual
+  keys_of : (note : Derivation) → IsValid note → AreKeys (tag_of note)
+  keys_of (derived s ds) v = keys_by s.rule s (listed ds) v.1.rule (keys_under ds v.0)
+
+  keys_under : (ds : Derivations) → AreValid ds → (note : Derivation) → Contains (listed ds) note → AreKeys (tag_of note)
+  keys_under none_under v note c = absurd (let inside = c.1 in omega (arith, inside))
+  keys_under (one_under first ds) v note (zero, inside, e) = subst (λ (n : Derivation). AreKeys (tag_of n)) e (keys_of first v.0)
+  keys_under (one_under first ds) v note (suc k, inside, e) = keys_under ds v.1 note (k, omega (arith, inside), e)
+
+-- 8. All of it
+
+pub notes_are_true : RankGrows → EscapesJoined → NotesAreTrue
+notes_are_true grows joins note v =
+    let k = known_note grows joins note v in
+    record {
+      mate = λ is at. known_mate note k is at;
+      mated = λ is at. known_mated note k is at;
+      escape = λ is at. known_escape note k is at;
+      evading = λ is at. known_evading note k is at;
+      untagged = λ is. mate_untagged note v is;
+      escapes = λ is at none. known_escape note k is at [] (λ key held. absurd (let gone = subst (λ (keys : List Key). Contains keys key) none held in let inside = gone.1 in omega (arith, inside)));
+      keys = keys_of note v;
+    }

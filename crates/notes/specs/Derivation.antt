@@ -1,0 +1,108 @@
+-- What contracts see of a note: a tree of steps, each by one of the seven rules.
+use Rattle.std.specs.Prelude.{◌≡◌, ◌+◌, ℕ, max, List, [], ◌∷◌}
+use Rattle.bit_boards.specs.declared.piece.Side.{Side}
+use Rattle.board_core.specs.declared.keys.Key.{Key}
+use Rattle.board_core.specs.Board.{Board}
+use Rattle.notes.specs.declared.rule.Rule.{Rule}
+use Rattle.notes.specs.declared.rule.Rule.TheVariants.{MateEnd, MateAll, MateBy, EscapeEnd, EscapeBy, EscapeRepeat, EscapeAll}
+use Rattle.notes.specs.declared.rule.Conclusion.{Conclusion}
+use Rattle.notes.specs.declared.rule.Conclusion.TheVariants.{Mate, Escape}
+
+-- A step: its rule, the side that attacks, the position that it is about, its tag (the keys, rising, of the positions on whose
+-- repetition it depends), and its height.
+pub record Step : Type 0 where
+  pub rule : Rule
+  pub attacker : Side
+  pub position : Board
+  pub tag : List Key
+  pub height : ℕ
+
+-- A derivation: its last step, and the derivations under it, in their order.
+mutual
+  pub data Derivation : Type 0 where
+    derived : Step → Derivations → Derivation
+
+  pub data Derivations : Type 0 where
+    none_under : Derivations
+    one_under : Derivation → Derivations → Derivations
+
+-- The derivations of a list.
+abbrev pub derivations : List Derivation → Derivations
+derivations [] = none_under
+derivations (note ∷ notes) = one_under note (derivations notes)
+
+-- The list of derivations.
+abbrev pub listed : Derivations → List Derivation
+listed none_under = []
+listed (one_under note notes) = note ∷ listed notes
+
+-- The list is that of its derivations.
+pub listed-derivations : (notes : List Derivation) → listed (derivations notes) ≡ notes
+listed-derivations [] = λ i. []
+listed-derivations (note ∷ notes) = λ i. note ∷ listed-derivations notes i
+
+-- The step with these parts.
+abbrev pub step_over : Rule → Side → Board → List Key → ℕ → Step
+step_over its_rule its_attacker its_position its_tag its_height =
+    record { rule = its_rule; attacker = its_attacker; position = its_position; tag = its_tag; height = its_height }
+
+-- The note whose last step has these parts, over these notes.
+abbrev pub note_over : Rule → Side → Board → List Key → ℕ → List Derivation → Derivation
+note_over its_rule its_attacker its_position its_tag its_height notes =
+    derived (step_over its_rule its_attacker its_position its_tag its_height) (derivations notes)
+
+-- A note's last step.
+abbrev pub step_of : Derivation → Step
+step_of (derived step notes) = step
+
+-- The notes under a note, in their order.
+abbrev pub under_of : Derivation → List Derivation
+under_of (derived step notes) = listed notes
+
+-- The rule of a note's last step.
+abbrev pub rule_of : Derivation → Rule
+rule_of note = (step_of note).rule
+
+-- The side that attacks.
+abbrev pub attacker_of : Derivation → Side
+attacker_of note = (step_of note).attacker
+
+-- The position that a note is about.
+abbrev pub position_of : Derivation → Board
+position_of note = (step_of note).position
+
+-- The keys of the positions on whose repetition a note depends.
+abbrev pub tag_of : Derivation → List Key
+tag_of note = (step_of note).tag
+
+-- A note's height.
+abbrev pub height_of : Derivation → ℕ
+height_of note = (step_of note).height
+
+-- What a rule concludes.
+abbrev pub concluded : Rule → Conclusion
+concluded MateEnd = Mate
+concluded MateAll = Mate
+concluded (MateBy move) = Mate
+concluded EscapeEnd = Escape
+concluded (EscapeBy move) = Escape
+concluded (EscapeRepeat move) = Escape
+concluded EscapeAll = Escape
+
+-- What a note concludes.
+abbrev pub conclusion_of : Derivation → Conclusion
+conclusion_of note = concluded (rule_of note)
+
+-- The greatest height of some notes; 0 of none.
+abbrev pub highest : List Derivation → ℕ
+highest [] = 0
+highest (note ∷ notes) = max (height_of note) (highest notes)
+
+-- How many steps a derivation has, each as often as it stands in the tree.
+abbrev mutual
+  pub steps_of : Derivation → ℕ
+  steps_of (derived step notes) = steps_under notes + 1
+
+  pub steps_under : Derivations → ℕ
+  steps_under none_under = 0
+  steps_under (one_under note notes) = steps_of note + steps_under notes
