@@ -1,0 +1,2 @@
+-- Lemmas of the desk and its settings.
+mod Powers
