@@ -1,0 +1,4 @@
+mod Noted
+mod Rows
+mod Used
+mod Places

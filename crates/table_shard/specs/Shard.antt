@@ -1,0 +1,43 @@
+-- A shard: rows, and which of them a position has.
+use Rattle.std.specs.Prelude.{◌≡◌, ◌<◌, ◌+◌, ◌*◌, ◌%◌, ℕ, List, [], fold, length, slice_index, slice_index_or, slice_set}
+use Rattle.board_core.specs.declared.keys.Key.{Key}
+use Rattle.pn_numbers.specs.declared.numbers.Numbers.{Numbers}
+use Rattle.notes.specs.declared.words.Kept.{Kept}
+use Rattle.table_shard.specs.Entry.{Held}
+use Rattle.table_shard.specs.Row.{HoldsAt, Enters}
+use Rattle.table_shard.specs.declared.hash.TheConstants.{MULTIPLIER, MODULUS}
+
+-- The hash after another word.
+abbrev pub hashed : ℕ → ℕ → ℕ
+hashed hash word = (hash + word) * MULTIPLIER % MODULUS
+
+-- The hash of a key's words, the first first.
+abbrev pub hash_of : List ℕ → ℕ
+hash_of words = fold hashed 0 words
+
+-- Which of so many rows a key has.
+abbrev pub place_of : Key → ℕ → ℕ
+place_of key rows = hash_of key.0 % rows
+
+-- The key's row.
+abbrev pub row_of : List (List Held) → Key → List Held
+row_of rows key = slice_index_or rows (place_of key (length rows)) []
+
+-- The rows with another in place of the key's.
+abbrev pub with_row : List (List Held) → Key → List Held → List (List Held)
+with_row rows key row = slice_set rows (place_of key (length rows)) row
+
+-- What entering the key with these numbers answers, and the rows after it: the key's row does what rows do, and the others stay.
+pub record EntersIn (rows : List (List Held)) (pins : List ℕ) (key : Key) (numbers : Numbers) (kept : Kept) (after : List (List Held)) : Type 0 where
+  pub row : List Held
+  pub enters : Enters (row_of rows key) pins key numbers kept row
+  pub others : after ≡ with_row rows key row
+
+-- An entry of the key that is in the slot stays there.
+abbrev pub StaysAt : List (List Held) → List (List Held) → Key → ℕ → Type 0
+StaysAt rows after key slot = HoldsAt (row_of rows key) slot key → HoldsAt (row_of after key) slot key
+
+-- Every entry that is in the key's row with a worker below it, or in another row, stays in its slot.
+abbrev pub KeepsPinned : List (List Held) → List ℕ → Key → List (List Held) → Type 0
+KeepsPinned rows pins key after =
+    (other : Key) (slot : ℕ) → (place_of other (length rows) ≡ place_of key (length rows) → 0 < slice_index pins slot) → StaysAt rows after other slot

@@ -1,0 +1,199 @@
+// A row of eight slots.
+ghost use Rattle.std.specs.Prelude.{◌≡◌, ◌≢◌, ◌<◌, ◌≤◌, ◌++◌, ◌==◌, ◌↔◌, [], ◌∷◌, ℕ, IfOk, IfSome, IfNone, MatchOption, IsSomeAnd, All, IsTrue, false, length, slice_get, slice_set, slice_index};
+ghost use Rattle.pn_numbers.specs.Numbers.{IsOpen};
+ghost use Rattle.table_shard.specs.Entry.{Held, IsEntry, FitsKey};
+ghost use Rattle.table_shard.specs.Row.{HoldsAt, Lacks, IsRow, Looks, IsIdle, IsIdleUnsolved, IsFirst, IsGivenUp, Enters, left};
+
+use crate::entry::Entry;
+use arrayvec::ArrayVec;
+use board_core::Key;
+use notes::{Kept, Seen, Update};
+use path_tags::Path;
+use pn_numbers::Numbers;
+use std::alloc::AllocError;
+use std::marker::Model;
+
+// How many slots a row has.
+pub(crate) const SLOTS: usize = 8;
+
+// The entries in the order of their slots; the slots behind them are free. Contracts see the list.
+#[derive(Drop)]
+pub(crate) struct Row {
+    entries: ArrayVec<Entry, SLOTS>,
+}
+
+// Beside what its notes stand on, a row takes at most 1 KiB.
+const _: () = prove!(size_of::<Row>() <= 1024);
+
+impl Model for Row {
+    ghost use Rattle.std.specs.Prelude.{List};
+    ghost use Rattle.table_shard.specs.Entry.{Held};
+    ghost use Rattle.table_shard.specs.Row.{IsRow};
+    ghost use Rattle.std.specs.Coded.{codes};
+    ghost use Rattle.table_shard.specs.contracts.entry.Entry as entry;
+
+    ghost Value = { List Held };
+
+    ghost coded = { Prim.hlevel (codes, entry.the_row.coded) };
+
+    ghost view = { λ r. r.entries.items };
+
+    ghost invariant = { λ r. IsRow r.entries.items };
+}
+
+impl Row {
+    // The row whose slots are all free.
+    pub(crate) fn empty() -> Row
+        ensures { result ≡ [] }
+    {
+        Row {
+            entries: ArrayVec::new(),
+        }
+    }
+
+    // Whether all slots are free.
+    pub(crate) fn is_empty(&self) -> bool
+        ensures { result ≡ (length self.now == 0) }
+    {
+        self.entries.is_empty()
+    }
+
+    // Frees all slots.
+    pub(crate) fn clear(&mut self)
+        ensures { self.new ≡ [] }
+    {
+        self.entries.clear();
+    }
+
+    // What is kept of every row. Does nothing.
+    pub(crate) fn laws(&self)
+        ensures { IsRow self.now }
+    {
+        let _kept = &self.entries;
+    }
+
+    // The slot with the key's entry.
+    fn slot_of(&self, key: &Key) -> Option<usize>
+        ensures there { IfSome result (λ slot. slot < 8) }
+        ensures some { IfSome result (λ slot. HoldsAt self.now slot key.now) }
+        ensures none { IfNone result (Lacks self.now key.now) }
+    {
+        slot_of(self.entries.as_slice(), key)
+    }
+
+    // What a look for the key shows. Errors: want of memory alone.
+    pub(crate) fn look(&self, key: &Key, path: &Path, pins: &[u64; 8]) -> Result<Seen, AllocError>
+        ensures { IfOk result (λ seen. Looks self.now pins.now key.now path.now seen) }
+    {
+        let Some(slot) = slot_of(self.entries.as_slice(), key) else {
+            return Ok(Seen::New);
+        };
+        self.entries.as_slice()[slot].show(path, pins[slot])
+    }
+
+    // Enters the key, with these numbers where it is new.
+    pub(crate) fn enter(&mut self, key: &Key, numbers: Numbers, pins: &[u64; 8]) -> Kept
+        requires { IsOpen numbers }
+        ensures { Enters self.old pins.now key.now numbers result self.new }
+    {
+        if let Some(slot) = self.slot_of(key) {
+            return Kept::Slot(slot as u8);
+        }
+        let entry = Entry::fresh(*key, numbers);
+        if self.entries.len() < SLOTS {
+            let slot = self.entries.len();
+            self.push(entry);
+            return Kept::Slot(slot as u8);
+        }
+        let Some(slot) = given_up(self.entries.as_slice(), pins) else {
+            return Kept::Unkept;
+        };
+        self.put(slot, entry);
+        Kept::Slot(slot as u8)
+    }
+
+    // Puts an entry of another key into the first free slot.
+    fn push(&mut self, entry: Entry)
+        requires room { length self.old < 8 }
+        requires entry { IsEntry entry }
+        requires other { Lacks self.old entry.key }
+        ensures { self.new ≡ self.old ++ entry ∷ [] }
+    {
+        self.entries.push(entry);
+    }
+
+    // Puts an entry of another key into a slot that isn't free.
+    fn put(&mut self, slot: usize, entry: Entry)
+        requires there { slot < length self.old }
+        requires entry { IsEntry entry }
+        requires other { Lacks self.old entry.key }
+        ensures { self.new ≡ slice_set self.old slot entry }
+    {
+        self.entries.as_mut_slice()[slot] = entry;
+    }
+
+    // Makes an update to a slot's entry.
+    pub(crate) fn leave(&mut self, slot: usize, update: Update)
+        requires { IsSomeAnd (slice_get self.old slot) (λ entry. FitsKey entry.key update) }
+        ensures { self.new ≡ left self.old slot update }
+    {
+        let entry = &mut self.entries.as_mut_slice()[slot];
+        entry.make(update);
+        entry.laws();
+    }
+}
+
+// The slot with the key's entry.
+fn slot_of(entries: &[Entry], key: &Key) -> Option<usize>
+    ensures there { IfSome result (λ slot. slot < length entries.now) }
+    ensures some { IfSome result (λ slot. HoldsAt entries.now slot key.now) }
+    ensures none { IfNone result (Lacks entries.now key.now) }
+{
+    for (slot, entry) in entries.iter().enumerate() {
+        if entry.is_of(key) {
+            return Some(slot);
+        }
+    }
+    None
+}
+
+// The slot whose entry is given up for another; none where workers are below each.
+fn given_up(entries: &[Entry], pins: &[u64; 8]) -> Option<usize>
+    requires { length entries.now ≤ 8 }
+    ensures some { IfSome result (λ slot. IsGivenUp entries.now pins.now slot) }
+    ensures there { IfSome result (λ slot. slot < length entries.now) }
+    ensures none { IfNone result ((slot : ℕ) → ¬ IsIdle entries.now pins.now slot) }
+{
+    if let Some(slot) = first_idle_unsolved(entries, pins) {
+        return Some(slot);
+    }
+    first_idle(entries, pins)
+}
+
+// The first slot whose entry no worker is below and none of whose notes holds on every path.
+fn first_idle_unsolved(entries: &[Entry], pins: &[u64; 8]) -> Option<usize>
+    requires { length entries.now ≤ 8 }
+    ensures some { IfSome result (IsFirst (IsIdleUnsolved entries.now pins.now)) }
+    ensures none { IfNone result ((slot : ℕ) → ¬ IsIdleUnsolved entries.now pins.now slot) }
+{
+    for (slot, entry) in entries.iter().enumerate() {
+        if pins[slot] == 0 && !entry.is_closed() {
+            return Some(slot);
+        }
+    }
+    None
+}
+
+// The first slot whose entry no worker is below.
+fn first_idle(entries: &[Entry], pins: &[u64; 8]) -> Option<usize>
+    requires { length entries.now ≤ 8 }
+    ensures some { IfSome result (IsFirst (IsIdle entries.now pins.now)) }
+    ensures none { IfNone result ((slot : ℕ) → ¬ IsIdle entries.now pins.now slot) }
+{
+    for slot in 0..entries.len() {
+        if pins[slot] == 0 {
+            return Some(slot);
+        }
+    }
+    None
+}

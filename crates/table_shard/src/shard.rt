@@ -1,0 +1,126 @@
+// A shard of the table.
+ghost use Rattle.std.specs.Prelude.{◌≡◌, ◌<◌, [], ℕ, List, IfOk, All, length, replicate};
+ghost use Rattle.board_core.specs.declared.keys.Key.{Key};
+ghost use Rattle.pn_numbers.specs.Numbers.{IsOpen};
+ghost use Rattle.table_shard.specs.Entry.{Held, FitsKey};
+ghost use Rattle.table_shard.specs.Row.{HoldsAt, IsRow, IsKeptAt, Looks, left};
+ghost use Rattle.table_shard.specs.Shard.{row_of, with_row, EntersIn, KeepsPinned, StaysAt};
+
+use crate::hash::place_of;
+use crate::row::Row;
+use board_core::Key;
+use notes::{Kept, Seen, Update};
+use path_tags::Path;
+use pn_numbers::Numbers;
+use std::alloc::{AllocError, Global};
+use std::marker::Model;
+
+/// Rows of eight slots, in which a search keeps what it knows of positions. Which row a position has, its key says.
+///
+/// It keeps that it has a row, that each entry is true (its numbers are both from 1 to the cap, its notes are about its position, and
+/// one that holds on every path stands alone), and that no two entries of a row are of one position.
+///
+/// Looking and entering are handed the row's eight counts of workers below the slots' entries, as `pins`. A full row gives up an
+/// entry that no worker is below; only looking can want memory once the shard is made.
+#[derive(Drop)]
+pub struct Shard {
+    rows: Vec<Row>,
+    // The places of the rows that have entries.
+    used: Vec<usize>,
+}
+
+impl Model for Shard {
+    ghost use Rattle.std.specs.Prelude.{List, vec_capacity};
+    ghost use Rattle.std.specs.Coded.{codes};
+    ghost use Rattle.table_shard.specs.contracts.row.Row as row;
+    ghost use Rattle.table_shard.specs.Entry.{Held};
+    ghost use Rattle.table_shard.specs.Used.{IsShard};
+
+    ghost Value = { List (List Held) };
+
+    ghost coded = { Prim.hlevel (codes, row.the_row.coded) };
+
+    ghost view = { λ s. s.rows.items };
+
+    ghost invariant = { λ s. IsShard s.rows.items s.used.items (vec_capacity s.used) };
+}
+
+impl Shard {
+    /// A shard of so many rows, which needs at least one, and all its memory but for that of the notes: about 912 bytes a row.
+    /// Errors: want of memory alone.
+    pub fn make(alloc: Global, rows: usize) -> Result<Shard, AllocError>
+        requires { 0 < rows }
+        ensures { IfOk result (λ shard. shard ≡ replicate rows []) }
+    {
+        let used = Vec::with_capacity(alloc, rows)?;
+        let mut made = Vec::with_capacity(alloc, rows)?;
+        while made.len() < rows {
+            made.push(Row::empty())?;
+        }
+        Ok(Shard { rows: made, used })
+    }
+
+    /// What the type keeps: it has a row, and each row has at most eight entries, each true, no two of one position. Does nothing;
+    /// whoever wants to know this of a shard calls it. Takes no memory.
+    pub fn laws(&self)
+        ensures some { 0 < length self.now }
+        ensures rows { All IsRow self.now }
+    {
+        let _kept = &self.rows;
+    }
+
+    /// Takes all entries out, for the search of another problem, in the time of the rows that have some. Takes no memory.
+    pub fn empty(&mut self)
+        ensures { self.new ≡ replicate (length self.old) [] }
+    {
+        while let Some(place) = self.used.pop() {
+            let row = &mut self.rows[place];
+            row.clear();
+        }
+    }
+
+    /// What the table shows of a position to a worker on the path: New exactly where it has no entry of the key; Solved with the first
+    /// note that holds on the path, where one does; else Open with the numbers and how many workers are below. The note is shared.
+    /// Errors: want of memory alone.
+    pub fn look(&self, key: &Key, path: &Path, pins: &[u64; 8]) -> Result<Seen, AllocError>
+        ensures { IfOk result (λ seen. Looks (row_of self.now key.now) pins.now key.now path.now seen) }
+    {
+        self.rows[place_of(key, self.rows.len())].look(key, path, pins)
+    }
+
+    /// Enters a position: answers the slot of its entry. Where it has none, it gets one with these numbers, both from 1 to the cap, in
+    /// the row's first free slot, else in that of an entry that no worker is below, which is given up: the first without a note that
+    /// holds on every path, else the first. Unkept exactly where eight other entries have workers below. Takes no memory.
+    pub fn enter(&mut self, key: &Key, numbers: Numbers, pins: &[u64; 8]) -> Kept
+        requires { IsOpen numbers }
+        ensures entered { EntersIn self.old pins.now key.now numbers result self.new }
+        ensures kept { IsKeptAt (row_of self.new key.now) key.now result }
+        ensures pinned { KeepsPinned self.old pins.now key.now self.new }
+    {
+        let place = place_of(key, self.rows.len());
+        let is_new = self.rows[place].is_empty();
+        let row = &mut self.rows[place];
+        let kept = row.enter(key, numbers, pins);
+        row.laws();
+        if is_new {
+            // There is room for the place of each row.
+            self.used.push_reserved(place);
+        }
+        kept
+    }
+
+    /// Leaves a position whose entry is in the slot, with what was found out. A note that holds on every path replaces all notes; any
+    /// other goes last, unless one that holds on every path is there or it depends on more than 32 positions, and where there are four
+    /// the first goes. A note leaves the numbers as they are. Takes no memory.
+    pub fn leave(&mut self, slot: u8, key: &Key, update: Update)
+        requires there { HoldsAt (row_of self.old key.now) slot key.now }
+        requires fits { FitsKey key.now update }
+        ensures left { self.new ≡ with_row self.old key.now (left (row_of self.old key.now) slot update) }
+        ensures stays { (other : Key) (place : ℕ) → StaysAt self.old self.new other place }
+    {
+        let place = place_of(key, self.rows.len());
+        let row = &mut self.rows[place];
+        row.leave(slot as usize, update);
+        row.laws();
+    }
+}
