@@ -2,8 +2,9 @@
 //!
 //! WHAT is `read`, which reads the standard input whole; `lists`, which makes the lists of checks and evasions, and their counts, at
 //! the problems of the standard input, a line each, and at the positions behind their checks and the evasions to these; `start`, which
-//! asks at the same positions for the numbers with which the search begins behind each check, and behind each evasion; the word of
-//! a part, as [`part::ROWS`] lists them; or `all`, every part. A part does its work ROUNDS times, 1 where no number is given, and a line says how many calls that were and a
+//! asks at the same positions for the numbers with which the search begins behind each check, and behind each evasion; `looks` or
+//! `enters`, which ask tables that are full; the word of a part, as [`part::ROWS`] lists them; or `all`, every part. A part does its
+//! work ROUNDS times, 1 where no number is given, and a line says how many calls that were and a
 //! check sum of what they answered, the same on every machine. With `times` the line also says how long each took, in
 //! nanoseconds, and how many a second there were. Other words end with status 1.
 #![tactic(auto)]
@@ -16,6 +17,7 @@ mod positions;
 mod reading;
 mod rules;
 mod starts;
+mod tables;
 mod trees;
 mod words;
 
@@ -39,6 +41,12 @@ fn main(rt: HostRuntime) -> io::Result<()> {
     if asked.what.as_str() == "start" {
         return starts::starts(&rt, &asked);
     }
+    if asked.what.as_str() == "looks" {
+        return tables::looks(&rt, &asked);
+    }
+    if asked.what.as_str() == "enters" {
+        return tables::enters(&rt, &asked);
+    }
     let Some(boards) = Boards::set_up(rt.alloc())? else {
         return Err(io::Error::from(io::ErrorKind::Other));
     };
@@ -54,7 +62,7 @@ fn main(rt: HostRuntime) -> io::Result<()> {
 
 fn usage(rt: &HostRuntime) -> io::Result<()> {
     eprintln!(rt;
-        "usage: speed WHAT [ROUNDS] [times], where WHAT is all, read, lists, start, or one of"
+        "usage: speed WHAT [ROUNDS] [times], where WHAT is all, read, lists, start, looks, enters, or one of"
     )?;
     for (word, title, _) in ROWS {
         eprintln!(rt; "  {word}: {title}")?;

@@ -1,0 +1,116 @@
+// Looks, enters and leaves at random keys in a table that is full.
+ghost use Rattle.std.specs.Prelude.{◌<◌};
+
+use crate::pace::print_done;
+use crate::part::Done;
+use crate::words::Asked;
+use board_core::Key;
+use notes::{Kept, Seen, Update};
+use path_tags::Path;
+use pn_numbers::Numbers;
+use std::alloc::{AllocError, Global};
+use std::io;
+use std::time::Instant;
+use table_shard::Shard;
+
+// Nobody is below any entry.
+const NOBODY: [u64; 8] = [0; 8];
+
+// The numbers that entries are given.
+const NUMBERS: Numbers = Numbers { pn: 2, dn: 3 };
+
+// A key that no other number has, with words that look random.
+fn key(number: u64) -> Key {
+    let mut mixed = number.wrapping_mul(0x9e37_79b9_7f4a_7c15);
+    mixed = (mixed ^ (mixed >> 30)).wrapping_mul(0xbf58_476d_1ce4_e5b9);
+    mixed = mixed ^ (mixed >> 27);
+    Key([mixed, number, mixed, number, mixed, number, mixed, mixed])
+}
+
+// Numbers in a random order, each below a limit.
+#[derive(Drop)]
+struct Numbering {
+    state: u64,
+    limit: u64,
+}
+
+impl Numbering {
+    fn next(&mut self) -> u64 {
+        self.state = self
+            .state
+            .wrapping_mul(6_364_136_223_846_793_005)
+            .wrapping_add(1_442_695_040_888_963_407);
+        (self.state >> 20).checked_rem(self.limit).unwrap_or(0)
+    }
+}
+
+// A shard of so many rows, nearly all of them full, and the numbers of keys of which nearly all are in it.
+fn filled(alloc: Global, rows: usize) -> Result<(Shard, Numbering), AllocError>
+    requires { 0 < rows }
+{
+    let mut shard = Shard::make(alloc, rows)?;
+    let limit = (rows as u64).saturating_mul(4);
+    for number in 0..limit.saturating_mul(4) {
+        shard.enter(&key(number), NUMBERS, &NOBODY);
+    }
+    Ok((shard, Numbering { state: 1, limit }))
+}
+
+fn look_each(
+    shard: &Shard,
+    path: &Path,
+    keys: &mut Numbering,
+    rounds: u64,
+) -> Result<Done, AllocError> {
+    let mut sum: u64 = 0;
+    for _ in 0..rounds {
+        if let Seen::Open { numbers, .. } = shard.look(&key(keys.next()), path, &NOBODY)? {
+            sum = sum.wrapping_add(u64::from(numbers.pn));
+        }
+    }
+    Ok(Done { calls: rounds, sum })
+}
+
+fn enter_each(shard: &mut Shard, keys: &mut Numbering, rounds: u64) -> Done {
+    let mut sum: u64 = 0;
+    for _ in 0..rounds {
+        let key = key(keys.next());
+        if let Kept::Slot(slot) = shard.enter(&key, NUMBERS, &NOBODY) {
+            shard.leave(slot, &key, Update::Numbers(NUMBERS));
+            sum = sum.wrapping_add(u64::from(slot));
+        }
+    }
+    Done { calls: rounds, sum }
+}
+
+fn look_in(rt: &HostRuntime, asked: &Asked, title: &str, rows: usize) -> io::Result<()>
+    requires { 0 < rows }
+{
+    let (shard, mut keys) = filled(rt.alloc(), rows)?;
+    let path = Path::make(rt.alloc());
+    let start = Instant::now(rt)?;
+    let done = look_each(&shard, &path, &mut keys, asked.rounds)?;
+    print_done(rt, title, done, start.elapsed(rt)?, asked.is_timed)
+}
+
+fn enter_in(rt: &HostRuntime, asked: &Asked, title: &str, rows: usize) -> io::Result<()>
+    requires { 0 < rows }
+{
+    let (mut shard, mut keys) = filled(rt.alloc(), rows)?;
+    let start = Instant::now(rt)?;
+    let done = enter_each(&mut shard, &mut keys, asked.rounds);
+    print_done(rt, title, done, start.elapsed(rt)?, asked.is_timed)
+}
+
+/// Looks, so many times, at random keys in a table of 16,384 rows, and in one of 1,048,576, which takes a gigabyte; the sum is that of
+/// the proof numbers that were found.
+pub fn looks(rt: &HostRuntime, asked: &Asked) -> io::Result<()> {
+    look_in(rt, asked, "looks in 16,384 rows", 16_384)?;
+    look_in(rt, asked, "looks in 1,048,576 rows", 1_048_576)
+}
+
+/// Enters and leaves, so many times, random keys in the same tables; the sum is that of the slots that were taken.
+pub fn enters(rt: &HostRuntime, asked: &Asked) -> io::Result<()> {
+    enter_in(rt, asked, "enters and leaves in 16,384 rows", 16_384)?;
+    enter_in(rt, asked, "enters and leaves in 1,048,576 rows", 1_048_576)
+}
