@@ -1,0 +1,5 @@
+use Rattle.kif_text.proofs.Outcome.{one_outcome}
+use Rattle.kif_text.proofs.laws.kif_laws.Goals as goal
+
+pub returns : goal.returns
+returns c = record { outcomes = one_outcome c.value_laws.ensures.in_hand c.value_laws.ensures.squares c.value_laws.ensures.places }
