@@ -9,7 +9,7 @@ use Rattle.bit_boards.specs.declared.piece.Kind.TheVariants.{Pawn, Lance, Knight
 use Rattle.bit_boards.specs.Kind.{place_of, same_kind}
 use Rattle.kif_text.specs.Characters.{kind_of, count_of}
 use Rattle.kif_text.specs.Words.{count_where, count_in, count_for, words, hand_with, fault_of}
-use Rattle.kif_text.specs.Reading.{IsWordRead}
+use Rattle.kif_text.specs.Steps.{IsWordRead}
 
 pub count_more : (kind : Kind) (list : List (List ℕ)) (word : List ℕ) → count_for kind (list ++ word ∷ []) ≡ count_for kind list + count_in kind word
 unfolding count_for

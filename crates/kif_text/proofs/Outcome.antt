@@ -22,7 +22,8 @@ use Rattle.kif_text.specs.Words.{word_kind, word_count, count_for, fault_of, Has
 use Rattle.kif_text.specs.Rows.{cell_in, is_well, HasBadColumn, HasRowFault, cells_of}
 use Rattle.kif_text.specs.Lines.{Meaning, other, handicap, in_hand, row, turn, meaning}
 use Rattle.kif_text.specs.Header.{rows_of, HasFaultSaid, HasLineFault, Shows}
-use Rattle.kif_text.specs.Reading.{header_of, Spells, HasFirstLineFault, HasFirstFault, IsReadingOutcome, IsReadFrom}
+use Rattle.kif_text.specs.Reading.{header_of, Spells, HasFirstLineFault, HasFirstFault, IsReadingOutcome}
+use Rattle.kif_text.specs.Steps.{IsReadFrom}
 use Rattle.kif_text.proofs.First.{one_first, none_or_first}
 use Rattle.kif_text.proofs.Rows.{piece_get}
 use Rattle.kif_text.proofs.Built.{built_once, no_fault}

@@ -17,7 +17,7 @@ use Rattle.kif_text.specs.Words.{HasHandFault, hand_of}
 use Rattle.kif_text.specs.Rows.{cell_in, HasRowFault}
 use Rattle.kif_text.specs.Lines.{Meaning, other, in_hand, row, turn, meaning}
 use Rattle.kif_text.specs.Header.{row_said, rows_of, hand_said, turn_said, or_else, last_said, HasFaultSaid, HasLineFault}
-use Rattle.kif_text.specs.Reading.{IsReadFrom, IsRowRead, IsRowPut, IsHandRead}
+use Rattle.kif_text.specs.Steps.{IsReadFrom, IsRowRead, IsRowPut, IsHandRead}
 use Rattle.kif_text.proofs.First.{none_in_more}
 
 rows_more : (list : List (List ℕ)) (line : List ℕ) (m : Meaning) → meaning line ≡ m → rows_of (list ++ line ∷ []) ≡ rows_of list ++ row_said m

@@ -7,3 +7,4 @@ pub mod Lines
 pub mod Header
 pub mod FaultText
 pub mod Reading
+pub mod Steps

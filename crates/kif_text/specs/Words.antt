@@ -10,10 +10,11 @@ use Rattle.kif_text.specs.declared.fault.KifFault.TheVariants.{BadHand, BadCount
 use Rattle.kif_text.specs.Characters.{kind_of, count_of, is_blank}
 use Rattle.kif_text.specs.First.{HasFirst}
 
--- The words of a list of characters: what stands between its blanks, where something stands there.
+-- Those of some parts in which something stands.
 abbrev pub some_of : List (List ℕ) → List (List ℕ)
 some_of parts = filter (λ part. nat_lt 0 (length part)) parts
 
+-- The words of a list of characters: what stands between its blanks, where something stands there.
 unfoldable pub words : List ℕ → List (List ℕ)
 words characters = some_of (slice_split is_blank characters)
 

@@ -4,7 +4,7 @@ ghost use Rattle.std.specs.Str.{chars, IsUtf8};
 ghost use Rattle.bit_boards.specs.Kind.{place_of};
 ghost use Rattle.bit_boards.specs.declared.piece.Kind.TheVariants.{King};
 ghost use Rattle.kif_text.specs.Words.{words, some_of, word_kind, word_count, hand_with, fault_of};
-ghost use Rattle.kif_text.specs.Reading.{IsHandRead, IsWordRead};
+ghost use Rattle.kif_text.specs.Steps.{IsHandRead, IsWordRead};
 
 use crate::KifFault;
 use crate::characters::{count_of, kind_of, split_first};

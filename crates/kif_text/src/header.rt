@@ -2,7 +2,7 @@
 ghost use Rattle.std.specs.Prelude.{◌≡◌, ◌≤◌, ◌<◌, ◌+◌, List, [], ℕ, length};
 ghost use Rattle.std.specs.Str.{chars};
 ghost use Rattle.kif_text.specs.Lines.{header_lines};
-ghost use Rattle.kif_text.specs.Reading.{IsReadFrom, IsRowPut, IsRowTaken, IsLineRead, AreLinesRead};
+ghost use Rattle.kif_text.specs.Steps.{IsReadFrom, IsRowPut, IsRowTaken, IsLineRead, AreLinesRead};
 
 use crate::KifFault;
 use crate::hand::hand_of;

@@ -2,7 +2,7 @@
 ghost use Rattle.std.specs.Prelude.{◌≡◌, ◌<◌, IfSome, slice_index};
 ghost use Rattle.std.specs.Str.{chars, IsUtf8};
 ghost use Rattle.kif_text.specs.Characters.{is};
-ghost use Rattle.kif_text.specs.Reading.{IsRowRead, IsCellSplit};
+ghost use Rattle.kif_text.specs.Steps.{IsRowRead, IsCellSplit};
 
 use crate::KifFault;
 use crate::characters::{cell_of, split_first};

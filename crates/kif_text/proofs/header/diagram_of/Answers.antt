@@ -8,7 +8,7 @@ use Rattle.std.proofs.lemmas.List.{length_push, take_more, length-take}
 use Rattle.kif_text.specs.First.{HasFirst}
 use Rattle.kif_text.specs.Header.{HasLineFault}
 use Rattle.kif_text.specs.Lines.{goes_on, header_lines}
-use Rattle.kif_text.specs.Reading.{IsReadFrom}
+use Rattle.kif_text.specs.Steps.{IsReadFrom}
 use Rattle.kif_text.proofs.Many.{prefix_more, prefix_stop, prefix_all, fault_first}
 use Rattle.kif_text.proofs.header.diagram_of.Goals as goal
 

@@ -2,7 +2,7 @@ use Rattle.std.proofs.Common.{◌≡◌, ◌≤◌, length, take}
 use Rattle.std.specs.List.{prefix_len}
 use Rattle.std.specs.Str.Lines.{lines}
 use Rattle.kif_text.specs.Lines.{goes_on}
-use Rattle.kif_text.specs.Reading.{IsReadFrom}
+use Rattle.kif_text.specs.Steps.{IsReadFrom}
 use Rattle.kif_text.proofs.header.diagram_of.Given as goal
 
 abbrev pub invariant-loop-line : goal.invariant-loop-line
