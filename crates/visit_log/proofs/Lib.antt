@@ -1,0 +1,15 @@
+-- Lemmas about visit logs and workers.
+pub mod Waiting
+pub mod Stands
+pub mod Bracketed
+pub mod Paid
+pub mod SoundChildren
+pub mod SoundNotes
+pub mod SoundSteps
+pub mod Slots
+pub mod Units
+pub mod ToCome
+pub mod Caused
+pub mod Ended
+pub mod Logged
+pub mod Paths
