@@ -1,0 +1,6 @@
+mod Places
+mod Counting
+mod Unsolved
+mod Gathering
+mod Refuted
+mod Settling

@@ -1,0 +1,69 @@
+use Rattle.std.proofs.Common.{◌≡◌, get_or, refl, sym, ap, subst, ◌∙◌}
+use Rattle.std.specs.Prelude.{slice_set}
+use Rattle.visit_log.specs.declared.parts.Child.{Child}
+use Rattle.std.proofs.lemmas.Option.{get_or_from_slice_get}
+use Rattle.board_core.specs.Key.{key_of}
+use Rattle.shogi_rules.specs.Rules.{after}
+use Rattle.notes.specs.Derivation.{position_of}
+use Rattle.notes.specs.declared.words.Seen.{Seen}
+use Rattle.visit_log.specs.Round.{IsStart, MayShow, IsFactOn, Tells, told}
+use Rattle.visit_frame.proofs.Settling.{valid_kept}
+use Rattle.visit_frame.proofs.telling.tell.Goals as goal
+
+pub returns-in-New : goal.returns-in-New
+returns-in-New c =
+    let xs = c.args.children.now in
+    let place = c.args.place in
+    let side = c.args.problem.now.position.side in
+    let b = c.args.position.now in
+    let child = c.requires.known.child in
+    let start = c.start-numbers.result in
+    let one : Child = get_or xs place c.index-children-place.result in
+    let is : one ≡ child = get_or_from_slice_get xs place child c.index-children-place.result c.requires.known.there in
+    let begins : IsStart side b one.by start = record { in_range = c.start-numbers.ensures.open; check = c.start-numbers.ensures.check; evasion = c.start-numbers.ensures.evasion } in (
+      record { place = place; child = child; seen = c.args.seen; start = start },
+      refl,
+      refl,
+      c.requires.known.there,
+      subst (λ (s : Seen). Tells side b child.by s start) (sym c.in-New.is) (subst (λ (z : Child). IsStart side b z.by start) is begins),
+      c.show.ensures child c.requires.known.there ∙ ap (λ (s : Seen). slice_set xs place (told child s start)) (sym c.in-New.is),
+    )
+
+pub returns-in-Open : goal.returns-in-Open
+returns-in-Open c =
+    let xs = c.args.children.now in
+    let place = c.args.place in
+    let child = c.requires.known.child in
+    let start = c.in-Open.numbers in (
+      record { place = place; child = child; seen = c.args.seen; start = start },
+      refl,
+      refl,
+      c.requires.known.there,
+      subst (λ (s : Seen). Tells c.args.problem.now.position.side c.args.position.now child.by s start) (sym c.in-Open.is) tt,
+      c.show-in-Open.ensures child c.requires.known.there ∙ ap (λ (s : Seen). slice_set xs place (told child s start)) (sym c.in-Open.is),
+    )
+
+pub returns-in-Solved : goal.returns-in-Solved
+returns-in-Solved c =
+    let xs = c.args.children.now in
+    let place = c.args.place in
+    let side = c.args.problem.now.position.side in
+    let b = c.args.position.now in
+    let known = c.requires.known in
+    let child = known.child in
+    let start = child.numbers in
+    let note = c.in-Solved.note in
+    let one : Child = get_or xs place c.index-children-place-in-Solved.result in
+    let is : one ≡ child = get_or_from_slice_get xs place child c.index-children-place-in-Solved.result known.there in
+    let fact : IsFactOn side child.key known.path note = subst (λ (s : Seen). MayShow side child.key known.path s) c.in-Solved.is known.may in
+    let reached : c.apply.result ≡ after b child.by = c.apply.ensures.position ∙ ap (λ (z : Child). after b z.by) is in
+    let key : key_of (position_of note) ≡ c.key-key.result.0 = fact.about ∙ (known.key ∙ (ap key_of (sym reached) ∙ sym c.key-key.ensures.words)) in
+    let about : position_of note ≡ after b child.by =
+    c.key-key.ensures.injective (position_of note) (valid_kept note c.laws.ensures.valid) key ∙ reached in (
+      record { place = place; child = child; seen = c.args.seen; start = start },
+      refl,
+      refl,
+      known.there,
+      subst (λ (s : Seen). Tells side b child.by s start) (sym c.in-Solved.is) about,
+      c.prove.ensures child known.there ∙ ap (λ (s : Seen). slice_set xs place (told child s start)) (sym c.in-Solved.is),
+    )

@@ -1,0 +1,4 @@
+pub mod Hiding
+pub mod Making
+pub mod Reckoned
+pub mod Telling
