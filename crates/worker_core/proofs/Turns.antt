@@ -1,0 +1,281 @@
+-- One request of a worker over a port, and many, one after the other.
+use Rattle.std.proofs.Common.{◌≡◌, ◌⊎◌, inl, inr, ℕ, ◌+◌, ◌≤◌, ◌<◌, List, [], ◌∷◌, ◌++◌, arith, refl, sym, ap, ◌∙◌, subst, append_assoc, append-nil, Bool, true, false}
+use Rattle.std.specs.Prelude.{Option, Some, None}
+use Rattle.board_core.specs.declared.keys.Key.{Key}
+use Rattle.board_core.specs.Board.{Board}
+use Rattle.notes.specs.Derivation.{Derivation}
+use Rattle.notes.specs.declared.words.Kept.{Kept}
+use Rattle.notes.specs.declared.words.Seen.{Seen}
+use Rattle.notes.specs.declared.words.Update.{Update}
+use Rattle.notes.specs.declared.words.Draw.{Draw}
+use Rattle.notes.specs.declared.words.Draw.TheVariants.{Go, Done, Spent as AllDrawn}
+use Rattle.pn_numbers.specs.declared.numbers.Numbers.{Numbers}
+use Rattle.visit_log.specs.declared.parts.Stage.{Stage}
+use Rattle.visit_log.specs.declared.parts.Stage.TheVariants.{Winding}
+use Rattle.visit_log.specs.declared.words.WorkEnd.{WorkEnd}
+use Rattle.visit_log.specs.declared.words.WorkEnd.TheVariants.{NoMemory}
+use Rattle.visit_log.specs.declared.words.Request.{Request}
+use Rattle.visit_log.specs.declared.words.Request.TheVariants.{Draw as Draws, Claim as Claims, Look, Enter, Leave}
+use Rattle.visit_log.specs.declared.words.Answer.{Answer}
+use Rattle.visit_log.specs.declared.words.Answer.TheVariants.{Draw as Drew, Look as Looked, Leave as LeftIt}
+use Rattle.visit_log.specs.Frame.{Task, Visiting, attacker_in, task_for}
+use Rattle.visit_log.specs.Round.{MayShow}
+use Rattle.visit_log.specs.Visit.{Event, IsVisitLog}
+use Rattle.visit_log.specs.Machine.{State, asks, asked, asked_at, starve, end_of, path_of, Fits, LeadsTo}
+use Rattle.visit_log.specs.Run.{Leads, Standing, IsReached, IsLooking, now_at}
+use Rattle.visit_log.specs.Sound.{IsSoundRequest, IsSoundUpdate, IsAnswer}
+use Rattle.visit_log.specs.Counts.{own_slots, own_size, slot_once, enters, leaves, enters_some, leaves_some, units_in, to_come}
+use Rattle.visit_log.specs.Laws.{IsLeftAlone, LeavesOwn}
+use Rattle.worker_core.specs.Port.{Book, IsBooked, entering, Went, Suits, KeepsOthers, WentBy}
+use Rattle.worker_core.proofs.TurnsStages.{enters_by_unit, Going, going_after, entering_at, looking_at, goes_on_asked, enters_few, MayAnswer, may_fits, asked_costs, asked_same, starves_less, starves_wind}
+
+-- A worker once it was asked.
+abbrev pub once_asked : Standing → Standing
+once_asked v = record { task = v.task; state = asked v.state; waiting = true }
+
+-- What one request over a port comes to.
+pub record Turned {P : Type 0} (turn : P → Request → Option Answer → P → Type 0) (book : P → Book) (before after : P) (v w : Standing) (event : Event) : Type 0 where
+  pub suits : Suits w (book after)
+  pub went : WentBy turn before after v w (event ∷ [])
+  pub others : KeepsOthers v w (book before) (book after)
+  pub less : to_come w.state < to_come v.state
+
+-- 1. WHAT THE PORT ASKS OF THE WORKER.
+
+-- A unit or room is asked for where the port goes on.
+pub port_goes : (v : Standing) (book : Book) (q : Request) → Suits v book → q ≡ asks v.state → (q ≡ Draws) ⊎ (q ≡ Claims) → book.going ≡ true
+port_goes v book q suits e is = goes_on_asked book.going q v.state.stage v.state.frames suits.going e is
+
+-- There is room for the slot that it enters.
+pub few_slots : (v : Standing) (book : Book) (key : Key) (numbers : Numbers) → Suits v book → Enter key numbers ≡ asks v.state → book.size < 1000000000
+few_slots v book key numbers suits e =
+    let enters = entering_at key numbers v.state.stage v.state.frames e in
+    let size = suits.size in
+    let most = suits.most in
+    omega (arith, enters, size, most)
+
+-- What it leaves is held.
+pub left_held : LeavesOwn → (v : Standing) (book : Book) (kept : Kept) (key : Key) (update : Update) → Suits v book → Leave kept key update ≡ asks v.state
+    → (other : Key) (slot : ℕ) → slot_once kept key other slot ≤ book.held other slot
+left_held law v book kept key update suits e other slot =
+    let own : leaves (asks v.state, Some LeftIt) other slot ≤ own_slots v.state.frames other slot = law v.state LeftIt other slot in
+    let this : leaves (Leave kept key update, Some LeftIt) other slot ≡ leaves (asks v.state, Some LeftIt) other slot =
+    ap (λ (z : Request). leaves (z, Some LeftIt) other slot) e in
+    let held = suits.held other slot in
+    omega (arith, own, this, held)
+
+-- The update with which it leaves is one for the port's problem.
+pub left_sound : (v : Standing) (book : Book) (kept : Kept) (key : Key) (update : Update) → Suits v book → IsSoundRequest v.task (Leave kept key update)
+    → IsSoundUpdate book.problem.side key update
+left_sound v book kept key update suits sound = subst (λ (b : Board). IsSoundUpdate b.side key update) suits.problem sound
+
+-- The note that it posts answers the port's problem.
+pub post_sound : (v : Standing) (book : Book) (note : Derivation) → Suits v book → IsAnswer v.task note → IsAnswer (task_for book.problem 1) note
+post_sound v book note suits sound = record {
+  valid = sound.valid;
+  closed = sound.closed;
+  about = sound.about ∙ suits.problem;
+  same_attacker = sound.same_attacker ∙ ap (λ (b : Board). b.side) suits.problem;
+}
+
+-- 2. WHICH ANSWERS MAY COME.
+
+-- A unit comes where the worker has fewer than a billion.
+pub unit_may : (v : Standing) (before after : Book) (draw : Draw) → Suits v before → IsBooked (Draws, Some (Drew draw)) before after
+    → MayAnswer v.task v.state Draws (Drew draw)
+unit_may v before after (Go unit) suits booked =
+    let more = booked.units in
+    let most = booked.most suits.most in
+    let units = suits.units in
+    omega (arith, more, most, units)
+unit_may v before after Done suits booked = tt
+unit_may v before after AllDrawn suits booked = tt
+
+-- What is shown may be shown on the worker's path.
+pub shown_may : (v : Standing) (book : Book) (key : Key) (path : List Key) (seen : Seen) → Suits v book → path ≡ path_of v.task (asked v.state).frames
+    → MayShow book.problem.side key path seen → MayAnswer v.task v.state (Look key) (Looked seen)
+shown_may v book key path seen suits e may =
+    subst (λ (p : List Key). MayShow (attacker_in v.task) key p seen) e (subst (λ (b : Board). MayShow b.side key path seen) (sym suits.problem) may)
+
+-- So it fits the worker that was asked.
+pub answer_fits : (v m : Standing) (q : Request) (a : Answer) → q ≡ asks v.state → m ≡ once_asked v → MayAnswer v.task v.state q a → Fits m.task m.state a
+answer_fits v m q a e em may =
+    subst (λ (z : Standing). Fits z.task z.state a) (sym em) (may_fits v.task v.state a (subst (λ (z : Request). MayAnswer v.task v.state z a) e may))
+
+-- 3. ONE REQUEST.
+
+going_asked : (going : Bool) (st : Stage) → Going going st → Going going (asked_at st)
+going_asked going st (inl goes) = inl goes
+going_asked going st (inr winding) = inr (winding.0, ap asked_at winding.1)
+
+-- A request that was answered.
+pub turned_by : {P : Type 0} (turn : P → Request → Option Answer → P → Type 0) (book : P → Book) (pa pb : P) (v w m : Standing) (q : Request) (a : Answer)
+    → q ≡ asks v.state → m ≡ once_asked v → turn pa q (Some a) pb → IsBooked (q, Some a) (book pa) (book pb) → Suits v (book pa) → w.task ≡ m.task
+    → ((log : List Event) (s : State) → Leads m.task log s → m.state ≡ asked s → Leads m.task (log ++ (asks s, Some a) ∷ []) w.state)
+    → LeadsTo m.task m.state a w.state
+    → ((key : Key) (slot : ℕ) → own_slots w.state.frames key slot + leaves (asks m.state, Some a) key slot ≡ own_slots m.state.frames key slot + enters (asks m.state, Some a) key slot)
+    → own_size w.state.frames + leaves_some (asks m.state, Some a) ≡ own_size m.state.frames + enters_some (asks m.state, Some a)
+    → w.state.visits ≡ m.state.visits + units_in a → to_come w.state < to_come m.state → Turned turn book pa pb v w (q, Some a)
+turned_by turn book pa pb v w m q a eq em t booked suits task log leads slots sizes visits less =
+    let s : State = v.state in
+    let b : Book = book pa in
+    let d : Book = book pb in
+    let ms : m.state ≡ asked s = ap (λ (z : Standing). z.state) em in
+    let mt : m.task ≡ v.task = ap (λ (z : Standing). z.task) em in
+    let wt : w.task ≡ v.task = task ∙ mt in
+    let f1 : m.state.frames ≡ s.frames = ap (λ (z : State). z.frames) ms in
+    let v1 : m.state.visits ≡ s.visits = ap (λ (z : State). z.visits) ms in
+    let st : m.state.stage ≡ asked_at s.stage = ap (λ (z : State). z.stage) ms in
+    let own : (key : Key) (slot : ℕ) → own_slots w.state.frames key slot + leaves (q, Some a) key slot ≡ own_slots s.frames key slot + enters (q, Some a) key slot =
+    λ k x.
+    let move = slots k x in
+    let same = asked_same s a k x in
+    let o : own_slots m.state.frames k x ≡ own_slots s.frames k x = ap (λ (z : List Visiting). own_slots z k x) f1 in
+    let i : enters (asks m.state, Some a) k x ≡ enters (q, Some a) k x =
+    ap (λ (z : State). enters (asks z, Some a) k x) ms ∙ (same.0 ∙ ap (λ (z : Request). enters (z, Some a) k x) (sym eq)) in
+    let l : leaves (asks m.state, Some a) k x ≡ leaves (q, Some a) k x =
+    ap (λ (z : State). leaves (asks z, Some a) k x) ms ∙ (same.1 ∙ ap (λ (z : Request). leaves (z, Some a) k x) (sym eq)) in
+    omega (arith, move, o, i, l) in
+    let size : own_size w.state.frames + leaves_some (q, Some a) ≡ own_size s.frames + enters_some (q, Some a) =
+    let same = asked_same s a (record { 0 = [] }) 0 in
+    let o : own_size m.state.frames ≡ own_size s.frames = ap own_size f1 in
+    let i : enters_some (asks m.state, Some a) ≡ enters_some (q, Some a) =
+    ap (λ (z : State). enters_some (asks z, Some a)) ms ∙ (same.2 ∙ ap (λ (z : Request). enters_some (z, Some a)) (sym eq)) in
+    let l : leaves_some (asks m.state, Some a) ≡ leaves_some (q, Some a) =
+    ap (λ (z : State). leaves_some (asks z, Some a)) ms ∙ (same.3 ∙ ap (λ (z : Request). leaves_some (z, Some a)) (sym eq)) in
+    omega (arith, sizes, o, i, l) in
+    let few : enters_some (q, Some a) ≤ entering s.stage =
+    subst (λ (z : Request). enters_some (z, Some a) ≤ entering s.stage) (sym eq) (enters_few a s.stage s.frames) in
+    let unit : entering w.state.stage ≤ units_in a = enters_by_unit m.task m.state m.state.stage a w.state leads in
+    let gave : d.units ≡ b.units + units_in a = booked.units in
+    let held : (key : Key) (slot : ℕ) → d.held key slot + own_slots s.frames key slot ≡ b.held key slot + own_slots w.state.frames key slot =
+    λ k x. let o = own k x in let h = booked.held k x in omega (arith, o, h) in
+    let all : d.size + own_size s.frames ≡ b.size + own_size w.state.frames = let h = booked.size in omega (arith, size, h) in
+    let costs : to_come m.state ≡ to_come s = ap to_come ms ∙ asked_costs s in
+    record {
+      suits = record {
+        problem = ap (λ (z : Task). z.problem) wt ∙ (suits.problem ∙ sym booked.problem);
+        going = going_after m.task m.state m.state.stage a w.state b.going d.going leads
+            (subst (Going b.going) (sym st) (going_asked b.going s.stage suits.going)) booked.going;
+        held = λ k x. let h = held k x in let r = suits.held k x in omega (arith, h, r);
+        some = (let r = suits.some in omega (arith, all, r));
+        units = (let r = suits.units in omega (arith, visits, v1, gave, r));
+        size = (let r = suits.size in let h = booked.size in omega (arith, r, h, few, unit, gave));
+        most = booked.most suits.most;
+      };
+      went = record {
+        port = (pb, t, refl);
+        task = wt;
+        log = λ l h. subst (λ (z : Request). Leads v.task (l ++ (z, Some a) ∷ []) w.state) (sym eq)
+            (subst (λ (z : Task). Leads z (l ++ (asks s, Some a) ∷ []) w.state) mt (log l s (subst (λ (z : Task). Leads z l s) (sym mt) h) ms));
+      };
+      others = record { held = held; size = all };
+      less = omega (arith, costs, less);
+    }
+
+-- A look that was refused memory.
+pub turned_dark : {P : Type 0} (turn : P → Request → Option Answer → P → Type 0) (book : P → Book) (pa pb : P) (v w m : Standing) (key : Key)
+    → Look key ≡ asks v.state → m ≡ once_asked v → turn pa (Look key) None pb → IsBooked (Look key, None) (book pa) (book pb) → Suits v (book pa)
+    → w ≡ record { task = m.task; state = starve m.state; waiting = false }
+    → ((log : List Event) (s : State) → Leads m.task log s → m.state ≡ asked s → IsLooking s.stage → Leads m.task (log ++ (asks s, None) ∷ []) w.state)
+    → IsLeftAlone m.state w.state → Turned turn book pa pb v w (Look key, None)
+turned_dark turn book pa pb v w m key eq em t booked suits ew dark alone =
+    let s : State = v.state in
+    let b : Book = book pa in
+    let d : Book = book pb in
+    let ms : m.state ≡ asked s = ap (λ (z : Standing). z.state) em in
+    let mt : m.task ≡ v.task = ap (λ (z : Standing). z.task) em in
+    let wt : w.task ≡ v.task = ap (λ (z : Standing). z.task) ew ∙ mt in
+    let ws : w.state ≡ starve (asked s) = ap (λ (z : Standing). z.state) ew ∙ ap starve ms in
+    let f1 : m.state.frames ≡ s.frames = ap (λ (z : State). z.frames) ms in
+    let v1 : m.state.visits ≡ s.visits = ap (λ (z : State). z.visits) ms in
+    let at : IsLooking s.stage = looking_at key s.stage s.frames eq in
+    let own : (key : Key) (slot : ℕ) → own_slots w.state.frames key slot ≡ own_slots s.frames key slot =
+    λ k x. alone.slots k x ∙ ap (λ (z : List Visiting). own_slots z k x) f1 in
+    let size : own_size w.state.frames ≡ own_size s.frames = alone.size ∙ ap own_size f1 in
+    let winds : w.state.stage ≡ Winding NoMemory = ap (λ (z : State). z.stage) ws ∙ starves_wind s at in
+    let unit : entering w.state.stage ≡ 0 = ap entering winds in
+    let gave : d.units ≡ b.units + 0 = booked.units in
+    let now : d.size + 0 ≡ b.size + 0 = booked.size in
+    let same : (key : Key) (slot : ℕ) → d.held key slot + 0 ≡ b.held key slot + 0 = booked.held in
+    let visits : w.state.visits ≡ m.state.visits = alone.visits in
+    let costs : to_come w.state ≡ to_come (starve (asked s)) = ap to_come ws in
+    let less : to_come (starve (asked s)) < to_come s = starves_less s at in
+    record {
+      suits = record {
+        problem = ap (λ (z : Task). z.problem) wt ∙ (suits.problem ∙ sym booked.problem);
+        going = inr (NoMemory, winds);
+        held = λ k x. let o = own k x in let h = same k x in let r = suits.held k x in omega (arith, o, h, r);
+        some = (let r = suits.some in omega (arith, size, now, r));
+        units = (let r = suits.units in omega (arith, visits, v1, gave, r));
+        size = (let r = suits.size in omega (arith, r, now, unit, gave));
+        most = booked.most suits.most;
+      };
+      went = record {
+        port = (pb, t, refl);
+        task = wt;
+        log = λ l h. subst (λ (z : Request). Leads v.task (l ++ (z, None) ∷ []) w.state) (sym eq)
+            (subst (λ (z : Task). Leads z (l ++ (asks s, None) ∷ []) w.state) mt
+            (dark l s (subst (λ (z : Task). Leads z l s) (sym mt) h) ms at));
+      };
+      others = record {
+        held = λ k x. let o = own k x in let h = same k x in omega (arith, o, h);
+        size = omega (arith, size, now);
+      };
+      less = omega (arith, costs, less);
+    }
+
+-- 4. MANY REQUESTS.
+
+-- No request was made.
+pub went_none : {P : Type 0} (turn : P → Request → Option Answer → P → Type 0) (p : P) (v : Standing) → WentBy turn p p v v []
+went_none turn p v = record {
+  port = refl;
+  task = refl;
+  log = λ l h. subst (λ (z : List Event). Leads v.task z v.state) (sym (append-nil l)) h;
+}
+
+-- What the port holds beside the worker's own slots is what it was.
+pub keeps_none : (v : Standing) (book : Book) → KeepsOthers v v book book
+keeps_none v book = record { held = λ k x. refl; size = refl }
+
+went_then : {P : Type 0} (turn : P → Request → Option Answer → P → Type 0) (a m b : P) (es fs : List Event) → Went turn a es m → Went turn m fs b
+    → Went turn a (es ++ fs) b
+went_then {P} turn a m b [] fs h t = subst (λ (z : P). Went turn z fs b) (sym h) t
+went_then {P} turn a m b (e ∷ es) fs h t = (h.0, h.1, went_then turn h.0 m b es fs h.2 t)
+
+-- One run goes on behind the other.
+pub went_on : {P : Type 0} (turn : P → Request → Option Answer → P → Type 0) (p0 p1 p2 : P) (w0 w1 w2 : Standing) (es fs : List Event)
+    → WentBy turn p0 p1 w0 w1 es → WentBy turn p1 p2 w1 w2 fs → WentBy turn p0 p2 w0 w2 (es ++ fs)
+went_on turn p0 p1 p2 w0 w1 w2 es fs one two = record {
+  port = went_then turn p0 p1 p2 es fs one.port two.port;
+  task = two.task ∙ one.task;
+  log = λ l h. subst (λ (z : List Event). Leads w0.task z w2.state) (append_assoc l es fs)
+      (subst (λ (z : Task). Leads z ((l ++ es) ++ fs) w2.state) one.task
+      (two.log (l ++ es) (subst (λ (z : Task). Leads z (l ++ es) w1.state) (sym one.task) (one.log l h))));
+}
+
+-- And keeps what the other kept.
+pub keeps_on : (w0 w1 w2 : Standing) (b0 b1 b2 : Book) → KeepsOthers w0 w1 b0 b1 → KeepsOthers w1 w2 b1 b2 → KeepsOthers w0 w2 b0 b2
+keeps_on w0 w1 w2 b0 b1 b2 one two = record {
+  held = λ k x. let h = one.held k x in let j = two.held k x in omega (arith, h, j);
+  size = (let h = one.size in let j = two.size in omega (arith, h, j));
+}
+
+-- A worker to which no request is open stands by each log that leads to it.
+pub reached_by : (w : Standing) (log : List Event) → w.waiting ≡ false → Leads w.task log w.state → IsReached w log
+reached_by w log idle leads = record { state = w.state; leads = leads; now = sym (ap (λ (b : Bool). now_at b w.state) idle) }
+
+-- So with what it was asked and told till it ended, each log before is a visit log.
+pub whole_on : {P : Type 0} (turn : P → Request → Option Answer → P → Type 0) (p0 p1 : P) (w0 w1 : Standing) (events : List Event) (end : WorkEnd)
+    → WentBy turn p0 p1 w0 w1 events → w1.waiting ≡ false → end_of w1.state ≡ Some end
+    → ((log : List Event) (end : WorkEnd) → IsReached w1 log → end_of w1.state ≡ Some end → IsVisitLog w1.task log end)
+    → (log : List Event) → Leads w0.task log w0.state → IsVisitLog w0.task (log ++ events) end
+whole_on turn p0 p1 w0 w1 events end went idle ended whole log leads =
+    let on : Leads w0.task (log ++ events) w1.state = went.log log leads in
+    let here : Leads w1.task (log ++ events) w1.state = subst (λ (z : Task). Leads z (log ++ events) w1.state) (sym went.task) on in
+    subst (λ (z : Task). IsVisitLog z (log ++ events) end) went.task (whole (log ++ events) end (reached_by w1 (log ++ events) idle here) ended)
+
+-- A worker that hasn't ended doesn't ask for its end.
+pub no_end : {o : Option WorkEnd} {end : WorkEnd} → None ≡ o → o ≡ Some end → ⊥
+no_end {o} {end} none some = let e : None ≡ Some end = none ∙ some in cc

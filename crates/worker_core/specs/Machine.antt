@@ -1,0 +1,23 @@
+-- The machine of a worker, and the worker.
+use Rattle.std.specs.Prelude.{◌≡◌, Option, Some}
+use Rattle.notes.specs.Derivation.{Derivation}
+use Rattle.visit_log.specs.Frame.{Task}
+use Rattle.visit_log.specs.Machine.{State}
+use Rattle.visit_log.specs.declared.parts.Stage.{Stage}
+use Rattle.visit_log.specs.declared.parts.Stage.TheVariants.{Leaving, Posting}
+use Rattle.visit_log.specs.declared.parts.Left.TheVariants.{Solved}
+
+-- Whose search it is, and where it stands.
+pub record Machine : Type 0 where
+  pub task : Task
+  pub state : State
+
+-- The note that is handed out when the worker leaves is the one that was made.
+abbrev pub IsCopy : Stage → Option Derivation → Type 0
+IsCopy (Leaving (Solved note)) copy = copy ≡ Some note
+IsCopy stage copy = Unit {0}
+
+-- It posts no note.
+abbrev pub IsNotPosting : Stage → Type 0
+IsNotPosting (Posting posted) = ⊥
+IsNotPosting stage = Unit {0}

@@ -1,0 +1,84 @@
+-- What a port tells of itself, and a run of a worker over it.
+use Rattle.std.specs.Prelude.{◌≡◌, ◌≤◌, ◌+◌, ◌⊎◌, ◌++◌, ℕ, Bool, true, false, List, [], ◌∷◌, Option, Some, None, Result, Ok, Err, if◌then◌else◌}
+use Rattle.board_core.specs.Board.{Board}
+use Rattle.board_core.specs.declared.keys.Key.{Key}
+use Rattle.notes.specs.declared.words.Seen.{Seen}
+use Rattle.notes.specs.declared.words.Draw.TheVariants.{Done, Spent as AllDrawn}
+use Rattle.notes.specs.declared.words.Claim.TheVariants.{NoRoom as Full}
+use Rattle.visit_log.specs.declared.words.Request.{Request}
+use Rattle.visit_log.specs.declared.words.Answer.{Answer}
+use Rattle.visit_log.specs.declared.words.Answer.TheVariants.{Draw as Drew, Claim as Claimed, Look as Looked}
+use Rattle.visit_log.specs.declared.parts.Stage.{Stage}
+use Rattle.visit_log.specs.declared.parts.Stage.TheVariants.{Entering, Winding}
+use Rattle.visit_log.specs.declared.words.WorkEnd.{WorkEnd}
+use Rattle.visit_log.specs.Visit.{Event}
+use Rattle.visit_log.specs.Run.{Standing, Leads}
+use Rattle.visit_log.specs.Counts.{own_slots, own_size, enters, leaves, enters_some, leaves_some, units_in}
+
+-- What a port tells: the problem; how many units it gave; whether it goes on (it said neither that all is done or spent nor that there is no room);
+-- how often each slot of a key is entered and not left; and how many slots that is in all.
+pub record Book : Type 0 where
+  pub problem : Board
+  pub units : ℕ
+  pub going : Bool
+  pub held : Key → ℕ → ℕ
+  pub size : ℕ
+
+-- How many units an event gives.
+abbrev pub units_by : Event → ℕ
+units_by (request, Some answer) = units_in answer
+units_by (request, None) = 0
+
+-- Whether it says that nothing more is handed out.
+abbrev pub ends_by : Option Answer → Bool
+ends_by (Some (Drew Done)) = true
+ends_by (Some (Drew AllDrawn)) = true
+ends_by (Some (Claimed Full)) = true
+ends_by answer = false
+
+-- What an event changes in a port's book: what it enters, leaves and gives, and nothing else. At most a billion units are given.
+pub record IsBooked (event : Event) (before after : Book) : Type 0 where
+  pub problem : after.problem ≡ before.problem
+  pub units : after.units ≡ before.units + units_by event
+  pub most : before.units ≤ 1000000000 → after.units ≤ 1000000000
+  pub going : after.going ≡ (if ends_by event.1 then false else before.going)
+  pub held : (key : Key) (slot : ℕ) → after.held key slot + leaves event key slot ≡ before.held key slot + enters event key slot
+  pub size : after.size + leaves_some event ≡ before.size + enters_some event
+
+-- The answer to a look; none where memory was wanting.
+abbrev pub shown : {E : Type 0} → Result Seen E → Option Answer
+shown (Ok seen) = Some (Looked seen)
+shown (Err error) = None
+
+-- The port went by these requests and answers, one after the other.
+abbrev pub Went : {P : Type 0} → (P → Request → Option Answer → P → Type 0) → P → List Event → P → Type 0
+Went turn before [] after = before ≡ after
+Went {P} turn before (event ∷ events) after = (between : P) × turn before event.0 event.1 between × Went turn between events after
+
+-- 1 where a position is about to be entered, else 0.
+abbrev pub entering : Stage → ℕ
+entering Entering = 1
+entering stage = 0
+
+-- What a worker needs of a port to run over it: both are of one problem; the port goes on, or the worker winds up; its own slots are held; and
+-- the port gave at least its units, at most a billion, and holds no more slots than it gave units, with the one that is about to be entered.
+pub record Suits (worker : Standing) (book : Book) : Type 0 where
+  pub problem : worker.task.problem ≡ book.problem
+  pub going : (book.going ≡ true) ⊎ ((end : WorkEnd) × (worker.state.stage ≡ Winding end))
+  pub held : (key : Key) (slot : ℕ) → own_slots worker.state.frames key slot ≤ book.held key slot
+  pub some : own_size worker.state.frames ≤ book.size
+  pub units : worker.state.visits ≤ book.units
+  pub size : book.size + entering worker.state.stage ≤ book.units
+  pub most : book.units ≤ 1000000000
+
+-- What the port holds beside the worker's own slots stays as it was.
+pub record KeepsOthers (worker later : Standing) (before after : Book) : Type 0 where
+  pub held : (key : Key) (slot : ℕ) → after.held key slot + own_slots worker.state.frames key slot ≡ before.held key slot + own_slots later.state.frames key slot
+  pub size : after.size + own_size worker.state.frames ≡ before.size + own_size later.state.frames
+
+-- The worker and the port went by one list of requests and answers: by whatever log the worker stood where it did, it stands where that log
+-- leaves it with these behind.
+pub record WentBy {P : Type 0} (turn : P → Request → Option Answer → P → Type 0) (before after : P) (worker later : Standing) (events : List Event) : Type 0 where
+  pub port : Went turn before events after
+  pub task : later.task ≡ worker.task
+  pub log : (log : List Event) → Leads worker.task log worker.state → Leads worker.task (log ++ events) later.state
