@@ -1,0 +1,281 @@
+-- What the table does at each request, as a whole.
+use Rattle.std.proofs.Common.{sum, ◌≡◌, ◌<◌, ◌≤◌, ◌+◌, ◌-◌, ℕ, List, [], length, get_or, set, refl, sym, subst, ap, ap₂, ◌∙◌, arith, replicate, inl}
+use Rattle.std.specs.Prelude.{Some, Result, Ok, Err, IfOk, All, slice_get}
+use Rattle.std.proofs.lemmas.List.{length-set, get_or_default}
+use Rattle.std.proofs.lemmas.List.Elements.{All-get_or, All-set}
+use Rattle.board_core.specs.declared.keys.Key.{Key}
+use Rattle.pn_numbers.specs.declared.numbers.Numbers.{Numbers}
+use Rattle.notes.specs.declared.words.Kept.TheVariants.{Slot}
+use Rattle.notes.specs.declared.words.Seen.{Seen}
+use Rattle.notes.specs.declared.words.Update.{Update}
+use Rattle.table_shard.specs.Entry.{Held}
+use Rattle.table_shard.specs.Row.{HoldsAt, IsRow, Looks, Enters, left}
+use Rattle.table_shard.specs.Shard.{place_of, row_of, with_row, EntersIn}
+use Rattle.visit_log.specs.declared.words.Request.TheVariants.{Look, Enter, Leave}
+use Rattle.visit_log.specs.declared.words.Answer.TheVariants.{Enter as Entered, Leave as LeftIt}
+use Rattle.visit_log.specs.Round.{MayShow}
+use Rattle.visit_log.specs.Sound.{IsSoundUpdate}
+use Rattle.visit_log.specs.Counts.{slot_once}
+use Rattle.worker_core.specs.Port.{IsBooked, Suits, shown}
+use Rattle.board_core.specs.Board.{Board}
+use Rattle.std.proofs.lemmas.List.Folds.{sum_by-replicate}
+use Rattle.lone_port.specs.Lone.{Lone, IsLone, AreFor, Turns, book_of, held_in, pins_of, with_pins, pinned, unpinned, alone_at_first, worker_at_first}
+use Rattle.lone_port.proofs.Slots.{held_entered, held_left, held_there, once_apart, once_itself, holds_left, holds_within, get_left_other, length-left}
+use Rattle.lone_port.proofs.Rows.{IsEntered, entered, left_for, looks_may}
+use Rattle.lone_port.proofs.Places.{place_within, held_moves, size_moves, there_moves, there_at}
+
+-- 1. WHERE THE COUNTS ARE.
+
+-- The counts that are read at the place of a key are those of its row.
+pub found : (pins : List (List ℕ)) (key : Key) (p n : ℕ) (counts : List ℕ) → n ≡ length pins → p ≡ place_of key n → p < n → counts ≡ get_or pins p counts
+    → counts ≡ pins_of pins key
+found pins key p n counts long at within is =
+    is ∙ (get_or_default pins p counts [] (subst (λ (m : ℕ). p < m) long within) ∙ ap (λ (q : ℕ). get_or pins q []) (at ∙ ap (place_of key) long))
+
+-- 2. LOOKING.
+
+-- A look, or that there is no memory for it, is a step.
+pub look_turns : {E : Type 0} (port : Lone) (key : Key) (path : List Key) (r : Result Seen E) → IfOk r (Looks (row_of port.rows key) (pins_of port.pins key) key path)
+    → Turns port (Look key) (shown r) port
+look_turns port key path (Ok seen) h = ((path, h), refl)
+look_turns port key path (Err e) h = refl
+
+-- What a look shows may be shown.
+pub look_may : {E : Type 0} (port : Lone) (key : Key) (path : List Key) (r : Result Seen E) → IsLone port → All IsRow port.rows
+    → IfOk r (Looks (row_of port.rows key) (pins_of port.pins key) key path) → IfOk r (MayShow port.desk.position.side key path)
+look_may port key path (Ok seen) is rows h =
+    looks_may port.desk.position.side (row_of port.rows key) (pins_of port.pins key) key path seen
+    (All-get_or IsRow port.rows (place_of key (length port.rows)) [] (place_within key (length port.rows) is.some) rows)
+    (All-get_or (All (AreFor port.desk.position.side)) port.rows (place_of key (length port.rows)) [] (place_within key (length port.rows) is.some) is.notes)
+    h
+look_may port key path (Err e) is rows h = tt
+
+-- 3. WHAT IS KNOWN OF A KEY'S ROW.
+
+-- What is known of a key's row, and of its counts.
+record IsRowOf (port : Lone) (key : Key) : Type 0 where
+  pub at : place_of key (length port.pins) ≡ place_of key (length port.rows)
+  pub row_within : place_of key (length port.rows) < length port.rows
+  pub pins_within : place_of key (length port.pins) < length port.pins
+  pub eight : length (pins_of port.pins key) ≡ 8
+  pub there : (s : ℕ) → 0 < get_or (pins_of port.pins key) s 0 → s < length (row_of port.rows key)
+  pub notes : All (AreFor port.desk.position.side) (row_of port.rows key)
+
+row_known : (port : Lone) (key : Key) → IsLone port → IsRowOf port key
+row_known port key is =
+    let here = ap (place_of key) is.as_many in
+    let low = place_within key (length port.rows) is.some in
+    let low_too = place_within key (length port.pins) (subst (λ (n : ℕ). 0 < n) (sym is.as_many) is.some) in
+    record {
+      at = here;
+      row_within = low;
+      pins_within = low_too;
+      eight = All-get_or (λ (c : List ℕ). length c ≡ 8) port.pins (place_of key (length port.pins)) [] low_too is.eight;
+      there = λ s some. subst (λ (n : ℕ). s < length (get_or port.rows n [])) here (is.there (place_of key (length port.pins)) s some);
+      notes = All-get_or (All (AreFor port.desk.position.side)) port.rows (place_of key (length port.rows)) [] low is.notes;
+    }
+
+-- What is kept stays kept when a key's row and its counts change.
+changed_keeps : (port : Lone) (key : Key) (row : List Held) (counts : List ℕ) → IsLone port → length counts ≡ 8 → ((s : ℕ) → 0 < get_or counts s 0 → s < length row)
+    → All (AreFor port.desk.position.side) row → IsLone (record port { rows = with_row port.rows key row; pins = with_pins port.pins key counts })
+changed_keeps port key row counts is eight there notes =
+    let known = row_known port key is in
+    record {
+      some = subst (λ (n : ℕ). 0 < n) (sym (length-set port.rows (place_of key (length port.rows)) row)) is.some;
+      as_many = length-set port.pins (place_of key (length port.pins)) counts ∙ (is.as_many ∙ sym (length-set port.rows (place_of key (length port.rows)) row));
+      eight = All-set (λ (c : List ℕ). length c ≡ 8) port.pins (place_of key (length port.pins)) counts eight is.eight;
+      there = subst (λ (q : ℕ). (place slot : ℕ) → 0 < get_or (get_or (set port.pins q counts) place []) slot 0
+          → slot < length (get_or (with_row port.rows key row) place [])) (sym known.at)
+          (there_moves port.rows port.pins (place_of key (length port.rows)) row counts known.row_within is.as_many there is.there);
+      notes = All-set (All (AreFor port.desk.position.side)) port.rows (place_of key (length port.rows)) row notes is.notes;
+    }
+
+-- 4. ENTERING.
+
+-- The table after a key was entered in a slot.
+abbrev pub after_enter : Lone → Key → ℕ → List Held → Lone
+after_enter port key slot row = record port { rows = with_row port.rows key row; pins = pinned port.pins key (Slot slot) }
+
+row_entered : (port : Lone) (key : Key) (numbers : Numbers) (slot : ℕ) (row : List Held) → IsLone port → All IsRow port.rows
+    → Enters (row_of port.rows key) (pins_of port.pins key) key numbers (Slot slot) row
+    → IsEntered port.desk.position.side (row_of port.rows key) (pins_of port.pins key) key slot row
+row_entered port key numbers slot row is rows enters =
+    let known = row_known port key is in
+    entered port.desk.position.side (row_of port.rows key) (pins_of port.pins key) key numbers slot row
+    (All-get_or IsRow port.rows (place_of key (length port.rows)) [] known.row_within rows).few known.there enters
+
+enter_keeps_at : (port : Lone) (key : Key) (numbers : Numbers) (slot : ℕ) (row : List Held) → IsLone port → All IsRow port.rows
+    → Enters (row_of port.rows key) (pins_of port.pins key) key numbers (Slot slot) row → IsLone (after_enter port key slot row)
+enter_keeps_at port key numbers slot row is rows enters =
+    let known = row_known port key is in
+    let went = row_entered port key numbers slot row is rows enters in
+    changed_keeps port key row (set (pins_of port.pins key) slot (get_or (pins_of port.pins key) slot 0 + 1)) is
+    (length-set (pins_of port.pins key) slot (get_or (pins_of port.pins key) slot 0 + 1) ∙ known.eight)
+    (there_at row (row_of port.rows key) (pins_of port.pins key) slot (get_or (pins_of port.pins key) slot 0 + 1) (holds_within row key slot went.holds) went.grows known.there)
+    (went.notes known.notes)
+
+enter_books_at : (port : Lone) (key : Key) (numbers : Numbers) (slot : ℕ) (row : List Held) → IsLone port → All IsRow port.rows
+    → Enters (row_of port.rows key) (pins_of port.pins key) key numbers (Slot slot) row
+    → IsBooked (Enter key numbers, Some (Entered (Slot slot))) (book_of port) (book_of (after_enter port key slot row))
+enter_books_at port key numbers slot row is rows enters =
+    let known = row_known port key is in
+    let went = row_entered port key numbers slot row is rows enters in
+    let within : slot < length (pins_of port.pins key) = (let w = went.within in let e = known.eight in omega (arith, w, e)) in
+    let sums = size_moves port.pins (place_of key (length port.pins)) slot (get_or (pins_of port.pins key) slot 0 + 1) known.pins_within within in
+    record {
+      problem = refl;
+      units = omega arith;
+      most = λ h. h;
+      going = refl;
+      held = held_moves port.rows port.pins key row (set (pins_of port.pins key) slot (get_or (pins_of port.pins key) slot 0 + 1)) (λ k s. 0) (slot_once (Slot slot) key)
+          is.some is.as_many
+          (λ k s. omega (arith, held_entered (row_of port.rows key) row (pins_of port.pins key) slot key went.holds went.others went.before within k s))
+          (λ k s not. (refl, once_apart key k slot s not));
+      size = omega (arith, sums);
+    }
+
+-- The table after a key was entered, as the program has it, is the one that the definitions say.
+enter_same : (port : Lone) (after : List (List Held)) (key : Key) (p n slot : ℕ) (counts : List ℕ) (row : List Held) → n ≡ length port.pins → p ≡ place_of key n → p < n
+    → counts ≡ get_or port.pins p counts → after ≡ with_row port.rows key row
+    → after_enter port key slot row ≡ record port { rows = after; pins = set port.pins p (set counts slot (get_or counts slot 0 + 1)) }
+enter_same port after key p n slot counts row long at within is others =
+    ap₂ (λ (rs : List (List Held)) (ps : List (List ℕ)). record port { rows = rs; pins = ps }) (sym others)
+    (ap₂ (λ (q : ℕ) (c : List ℕ). set port.pins q (set c slot (get_or c slot 0 + 1))) (sym (at ∙ ap (place_of key) long)) (sym (found port.pins key p n counts long at within is)))
+
+-- Entering a key keeps what is kept.
+pub enter_keeps : (port : Lone) (after : List (List Held)) (key : Key) (numbers : Numbers) (p n slot : ℕ) (counts seen : List ℕ) → IsLone port → All IsRow port.rows
+    → n ≡ length port.pins → p ≡ place_of key n → p < n → counts ≡ get_or port.pins p counts → seen ≡ get_or port.pins p seen
+    → EntersIn port.rows seen key numbers (Slot slot) after
+    → IsLone (record port { rows = after; pins = set port.pins p (set counts slot (get_or counts slot 0 + 1)) })
+enter_keeps port after key numbers p n slot counts seen is rows long at within its too enters =
+    subst IsLone (enter_same port after key p n slot counts enters.row long at within its enters.others)
+    (enter_keeps_at port key numbers slot enters.row is rows
+    (subst (λ (c : List ℕ). Enters (row_of port.rows key) c key numbers (Slot slot) enters.row) (found port.pins key p n seen long at within too) enters.enters))
+
+-- Entering a key is booked.
+pub enter_books : (port : Lone) (after : List (List Held)) (key : Key) (numbers : Numbers) (p n slot : ℕ) (counts seen : List ℕ) → IsLone port → All IsRow port.rows
+    → n ≡ length port.pins → p ≡ place_of key n → p < n → counts ≡ get_or port.pins p counts → seen ≡ get_or port.pins p seen
+    → EntersIn port.rows seen key numbers (Slot slot) after
+    → IsBooked (Enter key numbers, Some (Entered (Slot slot))) (book_of port) (book_of (record port { rows = after; pins = set port.pins p (set counts slot (get_or counts slot 0 + 1)) }))
+enter_books port after key numbers p n slot counts seen is rows long at within its too enters =
+    subst (λ (q : Lone). IsBooked (Enter key numbers, Some (Entered (Slot slot))) (book_of port) (book_of q))
+    (enter_same port after key p n slot counts enters.row long at within its enters.others)
+    (enter_books_at port key numbers slot enters.row is rows
+    (subst (λ (c : List ℕ). Enters (row_of port.rows key) c key numbers (Slot slot) enters.row) (found port.pins key p n seen long at within too) enters.enters))
+
+-- 5. LEAVING.
+
+-- What a worker that has entered a slot of a key knows of it.
+record IsOwn (port : Lone) (key : Key) (slot : ℕ) : Type 0 where
+  pub holds : HoldsAt (row_of port.rows key) slot key
+  pub some : 0 < get_or (pins_of port.pins key) slot 0
+
+own : (port : Lone) (key : Key) (slot : ℕ) → ((other : Key) (s : ℕ) → slot_once (Slot slot) key other s ≤ held_in port.rows port.pins other s) → IsOwn port key slot
+own port key slot held =
+    let one = once_itself key slot in
+    let more = held key slot in
+    let both = held_there (slice_get (row_of port.rows key) slot) key (get_or (pins_of port.pins key) slot 0) (omega (arith, one, more)) in
+    record { holds = both.0; some = both.1 }
+
+-- A slot that is left has the key's entry.
+pub leave_holds : (port : Lone) (key : Key) (slot : ℕ) → ((other : Key) (s : ℕ) → slot_once (Slot slot) key other s ≤ held_in port.rows port.pins other s)
+    → HoldsAt (row_of port.rows key) slot key
+leave_holds port key slot held = (own port key slot held).holds
+
+-- It is one of the eight.
+pub leave_within : (port : Lone) (key : Key) (slot : ℕ) → IsLone port → All IsRow port.rows
+    → ((other : Key) (s : ℕ) → slot_once (Slot slot) key other s ≤ held_in port.rows port.pins other s) → slot < 8
+leave_within port key slot is rows held =
+    let known = row_known port key is in
+    let few = (All-get_or IsRow port.rows (place_of key (length port.rows)) [] known.row_within rows).few in
+    let low = holds_within (row_of port.rows key) key slot (own port key slot held).holds in
+    omega (arith, few, low)
+
+-- And a visit is below it.
+pub leave_some : (port : Lone) (key : Key) (p n slot : ℕ) (counts : List ℕ) → n ≡ length port.pins → p ≡ place_of key n → p < n → counts ≡ get_or port.pins p counts
+    → ((other : Key) (s : ℕ) → slot_once (Slot slot) key other s ≤ held_in port.rows port.pins other s) → 1 ≤ get_or counts slot 0
+leave_some port key p n slot counts long at within is held =
+    subst (λ (c : List ℕ). 1 ≤ get_or c slot 0) (sym (found port.pins key p n counts long at within is)) (let s = (own port key slot held).some in omega (arith, s))
+
+-- The table after a slot of a key was left.
+abbrev pub after_leave : Lone → Key → ℕ → Update → Lone
+after_leave port key slot update = record port { rows = with_row port.rows key (left (row_of port.rows key) slot update); pins = unpinned port.pins key (Slot slot) }
+
+leave_keeps_at : (port : Lone) (key : Key) (slot : ℕ) (update : Update) → IsLone port → IsOwn port key slot → IsSoundUpdate port.desk.position.side key update
+    → IsLone (after_leave port key slot update)
+leave_keeps_at port key slot update is mine sound =
+    let known = row_known port key is in
+    let row = left (row_of port.rows key) slot update in
+    let long = length-left (row_of port.rows key) slot update in
+    let low = holds_within row key slot (holds_left (row_of port.rows key) slot update key mine.holds) in
+    changed_keeps port key row (set (pins_of port.pins key) slot (get_or (pins_of port.pins key) slot 0 - 1)) is
+    (length-set (pins_of port.pins key) slot (get_or (pins_of port.pins key) slot 0 - 1) ∙ known.eight)
+    (there_at row (row_of port.rows key) (pins_of port.pins key) slot (get_or (pins_of port.pins key) slot 0 - 1) low (omega (arith, long)) known.there)
+    (left_for port.desk.position.side key update (row_of port.rows key) slot sound known.notes)
+
+leave_books_at : (port : Lone) (key : Key) (slot : ℕ) (update : Update) → IsLone port → All IsRow port.rows → IsOwn port key slot
+    → IsBooked (Leave (Slot slot) key update, Some LeftIt) (book_of port) (book_of (after_leave port key slot update))
+leave_books_at port key slot update is rows mine =
+    let known = row_known port key is in
+    let row = left (row_of port.rows key) slot update in
+    let few = (All-get_or IsRow port.rows (place_of key (length port.rows)) [] known.row_within rows).few in
+    let low = holds_within (row_of port.rows key) key slot mine.holds in
+    let some = mine.some in
+    let within : slot < length (pins_of port.pins key) = (let e = known.eight in omega (arith, few, low, e)) in
+    let sums = size_moves port.pins (place_of key (length port.pins)) slot (get_or (pins_of port.pins key) slot 0 - 1) known.pins_within within in
+    record {
+      problem = refl;
+      units = omega arith;
+      most = λ h. h;
+      going = refl;
+      held = held_moves port.rows port.pins key row (set (pins_of port.pins key) slot (get_or (pins_of port.pins key) slot 0 - 1)) (slot_once (Slot slot) key) (λ k s. 0)
+          is.some is.as_many
+          (λ k s. omega (
+            arith,
+            held_left (row_of port.rows key) row (pins_of port.pins key) slot key mine.holds
+                (holds_left (row_of port.rows key) slot update key mine.holds) (λ t not. get_left_other (row_of port.rows key) slot t update not) within mine.some k s,
+          ))
+          (λ k s not. (once_apart key k slot s not, refl));
+      size = omega (arith, sums, some);
+    }
+
+leave_same : (port : Lone) (after : List (List Held)) (key : Key) (update : Update) (p n slot : ℕ) (counts : List ℕ) → n ≡ length port.pins → p ≡ place_of key n → p < n
+    → counts ≡ get_or port.pins p counts → after ≡ with_row port.rows key (left (row_of port.rows key) slot update)
+    → after_leave port key slot update ≡ record port { rows = after; pins = set port.pins p (set counts slot (get_or counts slot 0 - 1)) }
+leave_same port after key update p n slot counts long at within is others =
+    ap₂ (λ (rs : List (List Held)) (ps : List (List ℕ)). record port { rows = rs; pins = ps }) (sym others)
+    (ap₂ (λ (q : ℕ) (c : List ℕ). set port.pins q (set c slot (get_or c slot 0 - 1))) (sym (at ∙ ap (place_of key) long)) (sym (found port.pins key p n counts long at within is)))
+
+-- Leaving a slot keeps what is kept.
+pub leave_keeps : (port : Lone) (after : List (List Held)) (key : Key) (update : Update) (p n slot : ℕ) (counts : List ℕ) → IsLone port
+    → n ≡ length port.pins → p ≡ place_of key n → p < n → counts ≡ get_or port.pins p counts
+    → ((other : Key) (s : ℕ) → slot_once (Slot slot) key other s ≤ held_in port.rows port.pins other s) → IsSoundUpdate port.desk.position.side key update
+    → after ≡ with_row port.rows key (left (row_of port.rows key) slot update)
+    → IsLone (record port { rows = after; pins = set port.pins p (set counts slot (get_or counts slot 0 - 1)) })
+leave_keeps port after key update p n slot counts is long at within its held sound others =
+    subst IsLone (leave_same port after key update p n slot counts long at within its others) (leave_keeps_at port key slot update is (own port key slot held) sound)
+
+-- Leaving a slot is booked.
+pub leave_books : (port : Lone) (after : List (List Held)) (key : Key) (update : Update) (p n slot : ℕ) (counts : List ℕ) → IsLone port → All IsRow port.rows
+    → n ≡ length port.pins → p ≡ place_of key n → p < n → counts ≡ get_or port.pins p counts
+    → ((other : Key) (s : ℕ) → slot_once (Slot slot) key other s ≤ held_in port.rows port.pins other s)
+    → after ≡ with_row port.rows key (left (row_of port.rows key) slot update)
+    → IsBooked (Leave (Slot slot) key update, Some LeftIt) (book_of port) (book_of (record port { rows = after; pins = set port.pins p (set counts slot (get_or counts slot 0 - 1)) }))
+leave_books port after key update p n slot counts is rows long at within its held others =
+    subst (λ (q : Lone). IsBooked (Leave (Slot slot) key update, Some LeftIt) (book_of port) (book_of q))
+    (leave_same port after key update p n slot counts long at within its others) (leave_books_at port key slot update is rows (own port key slot held))
+
+-- 6. AT FIRST.
+
+-- A worker in the search of a problem may begin to work over the table and the desk of it.
+pub alone_suits : (port : Lone) (problem : Board) (expansions room rows number : ℕ) → port ≡ alone_at_first problem expansions room rows
+    → Suits (worker_at_first problem number) (book_of port)
+alone_suits port problem expansions room rows number is = subst (λ (q : Lone). Suits (worker_at_first problem number) (book_of q)) (sym is) (record {
+  problem = refl;
+  going = inl refl;
+  held = λ key slot. omega arith;
+  some = omega arith;
+  units = omega arith;
+  size = let none = sum_by-replicate sum rows (replicate 8 0) in omega (arith, none);
+  most = omega arith;
+})

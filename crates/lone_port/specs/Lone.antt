@@ -1,0 +1,118 @@
+-- A table, the counts of workers below its slots, and a desk: how a worker alone sees them, and what each request does with them.
+use Rattle.std.specs.Prelude.{◌≡◌, ◌<◌, ◌+◌, ◌-◌, ℕ, Bool, true, false, List, [], Option, Some, None, All, length, replicate, slice_get, slice_set, slice_index, slice_index_or, sum, sum_by, if◌then◌else◌}
+use Rattle.std.specs.Ordering.{is_eq}
+use Rattle.bit_boards.specs.declared.piece.Side.{Side}
+use Rattle.board_core.specs.Board.{Board}
+use Rattle.board_core.specs.declared.keys.Key.{Key}
+use Rattle.path_tags.specs.Tag.{key_cmp}
+use Rattle.notes.specs.Derivation.{attacker_of}
+use Rattle.notes.specs.declared.words.Kept.{Kept}
+use Rattle.notes.specs.declared.words.Kept.TheVariants.{Slot, Unkept}
+use Rattle.notes.specs.declared.words.Update.{Update}
+use Rattle.table_shard.specs.Entry.{Held}
+use Rattle.table_shard.specs.Row.{Looks, left}
+use Rattle.table_shard.specs.Shard.{place_of, row_of, with_row, EntersIn}
+use Rattle.unit_desk.specs.Desk.{DeskView, Draws, Claims, first_posted, fresh}
+use Rattle.visit_log.specs.declared.words.Request.{Request}
+use Rattle.visit_log.specs.declared.words.Request.TheVariants.{Poll, Draw, Claim, Look, Enter, Leave, Post}
+use Rattle.visit_log.specs.declared.words.Answer.{Answer}
+use Rattle.visit_log.specs.declared.words.Answer.TheVariants.{Poll as Polled, Draw as Drew, Claim as Claimed, Look as Looked, Enter as Entered, Leave as LeftIt, Post as PostedIt}
+use Rattle.visit_log.specs.Frame.{task_for}
+use Rattle.visit_log.specs.Machine.{start}
+use Rattle.visit_log.specs.Run.{Standing}
+use Rattle.worker_core.specs.Port.{Book, ends_by}
+
+-- 1. WHAT IT IS.
+
+-- The rows of the table, how many visits are below each slot of each row, the desk, and whether it goes on: it said neither that all is done
+-- or spent nor that there is no room.
+pub record Lone : Type 0 where
+  pub rows : List (List Held)
+  pub pins : List (List ℕ)
+  pub desk : DeskView
+  pub going : Bool
+
+-- With so many rows, the desk of a problem and its limits, before anything is asked.
+abbrev pub alone_at_first : Board → ℕ → ℕ → ℕ → Lone
+alone_at_first problem expansions room its_rows = record { rows = replicate its_rows []; pins = replicate its_rows (replicate 8 0); desk = fresh problem expansions room; going = true }
+
+-- How many visits are below the slots of the key's row.
+abbrev pub pins_of : List (List ℕ) → Key → List ℕ
+pins_of pins key = slice_index_or pins (place_of key (length pins)) []
+
+-- The counts with others in place of those of the key's row.
+abbrev pub with_pins : List (List ℕ) → Key → List ℕ → List (List ℕ)
+with_pins pins key changed = slice_set pins (place_of key (length pins)) changed
+
+-- One visit more below the slot of the key's row, and one less.
+abbrev pub pinned : List (List ℕ) → Key → Kept → List (List ℕ)
+pinned pins key Unkept = pins
+pinned pins key (Slot slot) = with_pins pins key (slice_set (pins_of pins key) slot (slice_index (pins_of pins key) slot + 1))
+
+-- The counts once what was entered so is left.
+abbrev pub unpinned : List (List ℕ) → Key → Kept → List (List ℕ)
+unpinned pins key Unkept = pins
+unpinned pins key (Slot slot) = with_pins pins key (slice_set (pins_of pins key) slot (slice_index (pins_of pins key) slot - 1))
+
+-- How many visits are below the slot of a row, if the row has the key's entry there; else none.
+abbrev pub held_at : Option Held → Key → ℕ → ℕ
+held_at None key below = 0
+held_at (Some entry) key below = if is_eq (key_cmp entry.key key) then below else 0
+
+-- How often the slot of the key is entered and not left.
+abbrev pub held_in : List (List Held) → List (List ℕ) → Key → ℕ → ℕ
+held_in rows pins key slot = held_at (slice_get (row_of rows key) slot) key (slice_index (pins_of pins key) slot)
+
+-- What it tells of itself.
+abbrev pub book_of : Lone → Book
+book_of port = record { problem = port.desk.position; units = port.desk.drawn; going = port.going; held = held_in port.rows port.pins; size = sum_by sum port.pins }
+
+-- The worker of this number in the search of the problem, before it asks anything.
+abbrev pub worker_at_first : Board → ℕ → Standing
+worker_at_first problem number = record { task = task_for problem number; state = start (task_for problem number); waiting = false }
+
+-- 2. WHAT IT KEEPS.
+
+-- All notes of the entry are for the attacker.
+abbrev pub AreFor : Side → Held → Type 0
+AreFor attacker entry = All (λ note. attacker_of note ≡ attacker) entry.notes
+
+-- It has a row; there are eight counts for each row; a slot with visits below it has an entry; and all notes are for the problem's attacker.
+pub record IsLone (port : Lone) : Type 0 where
+  pub some : 0 < length port.rows
+  pub as_many : length port.pins ≡ length port.rows
+  pub eight : All (λ counts. length counts ≡ 8) port.pins
+  pub there : (place slot : ℕ) → 0 < slice_index (slice_index_or port.pins place []) slot → slot < length (slice_index_or port.rows place [])
+  pub notes : All (All (AreFor port.desk.position.side)) port.rows
+
+-- 3. WHAT EACH REQUEST DOES.
+
+-- Whether it goes on after an answer.
+abbrev pub goes_on : Answer → Bool → Bool
+goes_on answer going = if ends_by (Some answer) then false else going
+
+-- The rows after the key's entry in a slot was left with an update.
+abbrev pub left_in : List (List Held) → Kept → Key → Update → List (List Held)
+left_in rows Unkept key update = rows
+left_in rows (Slot slot) key update = with_row rows key (left (row_of rows key) slot update)
+
+-- From one state to the next, by a request and its answer. It never says that the worker is to stop. The desk draws, claims and keeps what is
+-- posted; the table shows what its rows do on some path, or there is no memory for it; the key's row enters the key, and leaves it;
+-- and what is entered in a slot is counted until it is left.
+abbrev pub Turns : Lone → Request → Option Answer → Lone → Type 0
+Turns before Poll (Some (Polled stop)) after = (stop ≡ false) × (after ≡ before)
+Turns before Draw (Some (Drew draw)) after =
+    Draws before.desk draw after.desk × (after ≡ record before { desk = after.desk; going = goes_on (Drew draw) before.going })
+Turns before Claim (Some (Claimed claim)) after =
+    Claims before.desk claim after.desk × (after ≡ record before { desk = after.desk; going = goes_on (Claimed claim) before.going })
+Turns before (Look key) (Some (Looked seen)) after =
+    ((path : List Key) × Looks (row_of before.rows key) (pins_of before.pins key) key path seen) × (after ≡ before)
+Turns before (Look key) None after = after ≡ before
+Turns before (Enter key numbers) (Some (Entered kept)) after =
+    EntersIn before.rows (pins_of before.pins key) key numbers kept after.rows
+    × (after ≡ record before { rows = after.rows; pins = pinned before.pins key kept })
+Turns before (Leave kept key update) (Some LeftIt) after =
+    after ≡ record before { rows = left_in before.rows kept key update; pins = unpinned before.pins key kept }
+Turns before (Post note) (Some PostedIt) after =
+    after ≡ record before { desk = record before.desk { posted = first_posted before.desk.posted note } }
+Turns before request answer after = ⊥

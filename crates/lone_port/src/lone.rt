@@ -1,0 +1,171 @@
+// The table and the desk of a search with one worker.
+ghost use Rattle.std.specs.Prelude.{◌≡◌, ℕ, IfOk, option_copied};
+ghost use Rattle.worker_core.specs.Port.{Suits};
+ghost use Rattle.lone_port.specs.Lone.{IsLone, alone_at_first, worker_at_first, book_of};
+ghost use Rattle.unit_desk.specs.Desk.{IsDesk};
+
+use crate::place::place_of;
+use board_core::Key;
+use notes::{Claim, Draw, Kept, Note, Seen, Update};
+use path_tags::Path;
+use pn_numbers::Numbers;
+use shogi_rules::Problem;
+use std::alloc::{AllocError, Global};
+use std::marker::Model;
+use table_shard::Shard;
+use unit_desk::{Desk, Settings};
+use worker_core::Port;
+
+/// The table of positions and the desk of a search, for one worker alone. It never says that the worker is to stop.
+///
+/// It keeps that a slot of the table with visits below it has an entry, and that all notes in the table are for the problem's attacker.
+#[derive(Drop)]
+pub struct LonePort {
+    shard: Shard,
+    // How many visits are below each slot of each row.
+    pins: Vec<[u64; 8]>,
+    desk: Desk,
+    // Whether it said neither that all is done or spent nor that there is no room.
+    is_going: bool,
+}
+
+impl Model for LonePort {
+    ghost use Rattle.std.specs.Coded.{codes};
+    ghost use Rattle.notes.specs.contracts.note.Note as facts;
+    ghost use Rattle.lone_port.specs.Lone.{Lone, IsLone};
+
+    ghost Value = { Lone };
+
+    ghost coded = { Prim.hlevel (codes, facts.the_row.coded) };
+
+    ghost view = { λ p. record { rows = p.shard; pins = p.pins.items; desk = p.desk; going = p.is_going } };
+
+    ghost invariant = { λ p. IsLone (record { rows = p.shard; pins = p.pins.items; desk = p.desk; going = p.is_going }) };
+}
+
+impl LonePort {
+    /// The table and the desk of a problem, with the rows, the units and the room of the settings; nothing is known, drawn, claimed or
+    /// posted. Takes all the table's memory but for that of the notes. Errors: want of memory alone.
+    #[tactic(auto, using(crate::proofs::Asked::alone_suits))]
+    pub fn make(
+        alloc: Global,
+        problem: &Problem,
+        settings: &Settings,
+    ) -> Result<LonePort, AllocError>
+        ensures made { IfOk result (λ port. port ≡ alone_at_first problem.now.position settings.now.expansions settings.now.room settings.now.rows) }
+        // A worker in the search of the problem may begin to work over it.
+        ensures suits { IfOk result (λ port. (number : ℕ) → Suits (worker_at_first problem.now.position number) (book_of port)) }
+    {
+        let rows = settings.rows as usize;
+        let shard = Shard::make(alloc, rows)?;
+        let mut pins = Vec::with_capacity(alloc, rows)?;
+        while pins.len() < rows {
+            pins.push([0; 8])?;
+        }
+        Ok(LonePort {
+            shard,
+            pins,
+            desk: Desk::make(problem, settings),
+            is_going: true,
+        })
+    }
+
+    /// How many units were drawn. Takes no memory.
+    pub fn drawn(&self) -> u64
+        ensures { result ≡ self.now.desk.drawn }
+    {
+        self.desk.drawn()
+    }
+
+    /// For how many notes room was claimed. Takes no memory.
+    pub fn claimed(&self) -> u32
+        ensures { result ≡ self.now.desk.claimed }
+    {
+        self.desk.claimed()
+    }
+
+    /// The note that is posted. Takes no memory.
+    pub fn posted(&self) -> Option<&Note>
+        ensures { option_copied result ≡ self.now.desk.posted }
+    {
+        self.desk.posted()
+    }
+
+    /// The note that is posted, for its owner. Takes no memory.
+    pub fn into_note(self) -> Option<Note>
+        ensures { result ≡ self.desk.posted }
+    {
+        self.desk.into_note()
+    }
+
+    /// What the type keeps, and what its desk does: what is posted answers the problem. Does nothing; whoever wants to know this calls it.
+    /// Takes no memory.
+    pub fn laws(&self)
+        ensures lone { IsLone self.now }
+        ensures desk { IsDesk self.now.desk }
+    {
+        self.desk.laws();
+    }
+}
+
+impl Port for LonePort {
+    ghost use Rattle.lone_port.specs.Lone.{book_of, Turns};
+
+    ghost book = { book_of };
+
+    ghost turn = { Turns };
+
+    fn poll(&mut self) -> bool {
+        false
+    }
+
+    fn draw(&mut self) -> Draw {
+        self.desk.laws();
+        let draw = self.desk.draw();
+        match draw {
+            Draw::Go(_) => {}
+            Draw::Done => self.is_going = false,
+            Draw::Spent => self.is_going = false,
+        }
+        draw
+    }
+
+    fn claim(&mut self) -> Claim {
+        let claim = self.desk.claim();
+        match claim {
+            Claim::Room(_) => {}
+            Claim::NoRoom => self.is_going = false,
+        }
+        claim
+    }
+
+    fn look(&mut self, key: &Key, path: &Path) -> Result<Seen, AllocError> {
+        self.shard.laws();
+        let place = place_of(key, self.pins.len());
+        self.shard.look(key, path, &self.pins[place])
+    }
+
+    fn enter(&mut self, key: &Key, numbers: Numbers) -> Kept {
+        self.shard.laws();
+        let place = place_of(key, self.pins.len());
+        let kept = self.shard.enter(key, numbers, &self.pins[place]);
+        if let Kept::Slot(slot) = kept {
+            self.pins[place][slot as usize] += 1;
+        }
+        kept
+    }
+
+    fn leave(&mut self, kept: Kept, key: &Key, update: Update) {
+        let Kept::Slot(slot) = kept else {
+            return;
+        };
+        self.shard.laws();
+        let place = place_of(key, self.pins.len());
+        self.pins[place][slot as usize] -= 1;
+        self.shard.leave(slot, key, update);
+    }
+
+    fn post(&mut self, note: Note) {
+        self.desk.post(note);
+    }
+}
