@@ -1,0 +1,66 @@
+// A port that writes down what it is asked, and what it answers.
+use crate::lines::Lines;
+use board_core::Key;
+use lone_port::LonePort;
+use notes::{Claim, Draw, Kept, Note, Seen, Update};
+use path_tags::Path;
+use pn_numbers::Numbers;
+use std::alloc::AllocError;
+use worker_core::Port;
+
+/// The port of a worker alone, and the lines that tell what it was asked and answered.
+#[derive(Drop)]
+pub struct Recorder {
+    /// What answers.
+    pub port: LonePort,
+    /// What was written down.
+    pub lines: Lines,
+}
+
+impl Port for Recorder {
+    ghost use Rattle.lone_port.specs.Lone.{book_of, Turns};
+
+    ghost book = { λ r. book_of r.port };
+
+    ghost turn = { λ before request answer after. Turns before.port request answer after.port };
+
+    fn poll(&mut self) -> bool {
+        let stop = self.port.poll();
+        self.lines.poll(stop);
+        stop
+    }
+
+    fn draw(&mut self) -> Draw {
+        let draw = self.port.draw();
+        self.lines.draw(draw);
+        draw
+    }
+
+    fn claim(&mut self) -> Claim {
+        let claim = self.port.claim();
+        self.lines.claim(claim);
+        claim
+    }
+
+    fn look(&mut self, key: &Key, path: &Path) -> Result<Seen, AllocError> {
+        let seen = self.port.look(key, path)?;
+        self.lines.look(key, &seen);
+        Ok(seen)
+    }
+
+    fn enter(&mut self, key: &Key, numbers: Numbers) -> Kept {
+        let kept = self.port.enter(key, numbers);
+        self.lines.enter(key, numbers, kept);
+        kept
+    }
+
+    fn leave(&mut self, kept: Kept, key: &Key, update: Update) {
+        self.lines.leave(key, &update);
+        self.port.leave(kept, key, update);
+    }
+
+    fn post(&mut self, note: Note) {
+        self.port.post(note);
+        self.lines.post();
+    }
+}
