@@ -1,12 +1,14 @@
-//! What a search is held by: how many positions it may list, and a gate that it passes for each. A search stands on this alone,
+//! What a search is held by: how many positions it may list, a gate that it passes for each, and a stop that it polls before each. A search stands on this alone,
 //! and on no file or stream.
 #![tactic(auto)]
 
 mod expansions;
 mod gate;
+mod stop;
 
 pub use expansions::{Expansions, MOST_EXPANSIONS};
 pub use gate::{Gate, OpenGate};
+pub use stop::{MemStop, QuietStop, Stop};
 
 #[cfg(test)]
 mod tests;

@@ -1,4 +1,5 @@
-use crate::{Expansions, Gate, MOST_EXPANSIONS, OpenGate};
+use crate::{Expansions, Gate, MOST_EXPANSIONS, MemStop, OpenGate, QuietStop, Stop};
+use std::test::Fail;
 
 #[test]
 fn expansions_are_counted_from_1_to_their_limit(rt: HostRuntime) {
@@ -14,4 +15,16 @@ fn expansions_are_counted_from_1_to_their_limit(rt: HostRuntime) {
 #[test]
 fn an_open_gate_lets_everybody_pass() {
     OpenGate.pass(1, 1);
+}
+
+#[test]
+fn a_stop_signals_at_the_listed_polls(rt: HostRuntime) -> Result<(), Fail> {
+    let mut stop = MemStop::new(vec![in rt.alloc(); 2, 4]?);
+    for expected in [false, true, false, true, false] {
+        assert_eq!(rt; stop.poll(), expected, "{}", stop.polls());
+    }
+    let mut quiet = QuietStop::new();
+    quiet.arm(Some(1));
+    assert!(rt; !quiet.poll());
+    Ok(())
 }

@@ -1,0 +1,3 @@
+-- What a stop counts.
+pub mod Stop
+pub mod Mem
