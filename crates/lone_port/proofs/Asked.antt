@@ -36,8 +36,8 @@ found pins key p n counts long at within is =
 
 -- A look, or that there is no memory for it, is a step.
 pub look_turns : {E : Type 0} (port : Lone) (key : Key) (path : List Key) (r : Result Seen E) → IfOk r (Looks (row_of port.rows key) (pins_of port.pins key) key path)
-    → Turns port (Look key) (shown r) port
-look_turns port key path (Ok seen) h = ((path, h), refl)
+    → Turns port path (Look key) (shown r) port
+look_turns port key path (Ok seen) h = (h, refl)
 look_turns port key path (Err e) h = refl
 
 -- What a look shows may be shown.
@@ -132,6 +132,7 @@ enter_books_at port key numbers slot row is rows enters =
           (λ k s. omega (arith, held_entered (row_of port.rows key) row (pins_of port.pins key) slot key went.holds went.others went.before within k s))
           (λ k s not. (refl, once_apart key k slot s not));
       size = omega (arith, sums);
+      rooms = omega arith;
     }
 
 -- The table after a key was entered, as the program has it, is the one that the definitions say.
@@ -237,6 +238,7 @@ leave_books_at port key slot update is rows mine =
           ))
           (λ k s not. (once_apart key k slot s not, refl));
       size = omega (arith, sums, some);
+      rooms = omega arith;
     }
 
 leave_same : (port : Lone) (after : List (List Held)) (key : Key) (update : Update) (p n slot : ℕ) (counts : List ℕ) → n ≡ length port.pins → p ≡ place_of key n → p < n

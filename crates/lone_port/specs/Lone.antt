@@ -24,17 +24,22 @@ use Rattle.worker_core.specs.Port.{Book, ends_by}
 
 -- 1. WHAT IT IS.
 
--- The rows of the table, how many visits are below each slot of each row, the desk, and whether it goes on: it said neither that all is done
--- or spent nor that there is no room.
+-- The rows of the table, how many visits are below each slot of each row, the desk, whether it goes on (it said neither that all is done
+-- or spent nor that there is no room), and whether it says that the worker is to stop.
 pub record Lone : Type 0 where
   pub rows : List (List Held)
   pub pins : List (List ℕ)
   pub desk : DeskView
   pub going : Bool
+  pub stops : Bool
 
 -- With so many rows, the desk of a problem and its limits, before anything is asked.
 abbrev pub alone_at_first : Board → ℕ → ℕ → ℕ → Lone
-alone_at_first problem expansions room its_rows = record { rows = replicate its_rows []; pins = replicate its_rows (replicate 8 0); desk = fresh problem expansions room; going = true }
+alone_at_first problem expansions room its_rows = record { rows = replicate its_rows []; pins = replicate its_rows (replicate 8 0); desk = fresh problem expansions room; going = true; stops = false }
+
+-- Opened for a worker's turn: it goes on, and says so whether the worker is to stop.
+abbrev pub opened : Lone → Bool → Lone
+opened port its_stops = record port { going = true; stops = its_stops }
 
 -- How many visits are below the slots of the key's row.
 abbrev pub pins_of : List (List ℕ) → Key → List ℕ
@@ -65,7 +70,7 @@ held_in rows pins key slot = held_at (slice_get (row_of rows key) slot) key (sli
 
 -- What it tells of itself.
 abbrev pub book_of : Lone → Book
-book_of port = record { problem = port.desk.position; units = port.desk.drawn; going = port.going; held = held_in port.rows port.pins; size = sum_by sum port.pins }
+book_of port = record { problem = port.desk.position; units = port.desk.drawn; going = port.going; held = held_in port.rows port.pins; size = sum_by sum port.pins; rooms = port.desk.claimed }
 
 -- The worker of this number in the search of the problem, before it asks anything.
 abbrev pub worker_at_first : Board → ℕ → Standing
@@ -96,23 +101,23 @@ abbrev pub left_in : List (List Held) → Kept → Key → Update → List (List
 left_in rows Unkept key update = rows
 left_in rows (Slot slot) key update = with_row rows key (left (row_of rows key) slot update)
 
--- From one state to the next, by a request and its answer. It never says that the worker is to stop. The desk draws, claims and keeps what is
--- posted; the table shows what its rows do on some path, or there is no memory for it; the key's row enters the key, and leaves it;
--- and what is entered in a slot is counted until it is left.
-abbrev pub Turns : Lone → Request → Option Answer → Lone → Type 0
-Turns before Poll (Some (Polled stop)) after = (stop ≡ false) × (after ≡ before)
-Turns before Draw (Some (Drew draw)) after =
+-- From one state to the next, by a request of a worker on this path and its answer. It says whether the worker is to stop. The desk draws, claims
+-- and keeps what is posted; the table shows what its rows do on the path, or there is no memory for it; the key's row enters the key,
+-- and leaves it; and what is entered in a slot is counted until it is left.
+abbrev pub Turns : Lone → List Key → Request → Option Answer → Lone → Type 0
+Turns before path Poll (Some (Polled stop)) after = (stop ≡ before.stops) × (after ≡ before)
+Turns before path Draw (Some (Drew draw)) after =
     Draws before.desk draw after.desk × (after ≡ record before { desk = after.desk; going = goes_on (Drew draw) before.going })
-Turns before Claim (Some (Claimed claim)) after =
+Turns before path Claim (Some (Claimed claim)) after =
     Claims before.desk claim after.desk × (after ≡ record before { desk = after.desk; going = goes_on (Claimed claim) before.going })
-Turns before (Look key) (Some (Looked seen)) after =
-    ((path : List Key) × Looks (row_of before.rows key) (pins_of before.pins key) key path seen) × (after ≡ before)
-Turns before (Look key) None after = after ≡ before
-Turns before (Enter key numbers) (Some (Entered kept)) after =
+Turns before path (Look key) (Some (Looked seen)) after =
+    Looks (row_of before.rows key) (pins_of before.pins key) key path seen × (after ≡ before)
+Turns before path (Look key) None after = after ≡ before
+Turns before path (Enter key numbers) (Some (Entered kept)) after =
     EntersIn before.rows (pins_of before.pins key) key numbers kept after.rows
     × (after ≡ record before { rows = after.rows; pins = pinned before.pins key kept })
-Turns before (Leave kept key update) (Some LeftIt) after =
+Turns before path (Leave kept key update) (Some LeftIt) after =
     after ≡ record before { rows = left_in before.rows kept key update; pins = unpinned before.pins key kept }
-Turns before (Post note) (Some PostedIt) after =
+Turns before path (Post note) (Some PostedIt) after =
     after ≡ record before { desk = record before.desk { posted = first_posted before.desk.posted note } }
-Turns before request answer after = ⊥
+Turns before path request answer after = ⊥

@@ -1,11 +1,11 @@
-//! The table of positions and the desk of a search with one worker: no lock, no wait.
+//! The table of positions and the desk of a search, as a port for one worker at a time: no lock, no wait.
 //!
 //! A [`LonePort`] has all rows of the table in one shard, counts how many visits are below each slot, and has the desk; so it answers all that a
-//! worker asks (`worker_core::Port`). It is proved to do what shard and desk do, and that its table shows notes for the problem's attacker alone.
+//! worker asks (`worker_core::Port`). It is proved to do what shard and desk do, on the path of the worker that asks, and that its table shows
+//! notes for the problem's attacker alone. Whoever runs a worker over it opens it for each of the worker's turns, and says by that whether a stop was signalled.
 #![tactic(auto)]
 
 mod lone;
-mod place;
 #[cfg(test)]
 mod tests;
 

@@ -1,10 +1,9 @@
 // The table and the desk of a search with one worker.
 ghost use Rattle.std.specs.Prelude.{◌≡◌, ℕ, IfOk, option_copied};
 ghost use Rattle.worker_core.specs.Port.{Suits};
-ghost use Rattle.lone_port.specs.Lone.{IsLone, alone_at_first, worker_at_first, book_of};
+ghost use Rattle.lone_port.specs.Lone.{IsLone, alone_at_first, opened, worker_at_first, book_of};
 ghost use Rattle.unit_desk.specs.Desk.{IsDesk};
 
-use crate::place::place_of;
 use board_core::Key;
 use notes::{Claim, Draw, Kept, Note, Seen, Update};
 use path_tags::Path;
@@ -12,11 +11,11 @@ use pn_numbers::Numbers;
 use shogi_rules::Problem;
 use std::alloc::{AllocError, Global};
 use std::marker::Model;
-use table_shard::Shard;
+use table_shard::{Shard, place_of};
 use unit_desk::{Desk, Settings};
 use worker_core::Port;
 
-/// The table of positions and the desk of a search, for one worker alone. It never says that the worker is to stop.
+/// The table of positions and the desk of a search, for one worker at a time.
 ///
 /// It keeps that a slot of the table with visits below it has an entry, and that all notes in the table are for the problem's attacker.
 #[derive(Drop)]
@@ -27,6 +26,8 @@ pub struct LonePort {
     desk: Desk,
     // Whether it said neither that all is done or spent nor that there is no room.
     is_going: bool,
+    // Whether it says that the worker is to stop.
+    stops: bool,
 }
 
 impl Model for LonePort {
@@ -38,9 +39,9 @@ impl Model for LonePort {
 
     ghost coded = { Prim.hlevel (codes, facts.the_row.coded) };
 
-    ghost view = { λ p. record { rows = p.shard; pins = p.pins.items; desk = p.desk; going = p.is_going } };
+    ghost view = { λ p. record { rows = p.shard; pins = p.pins.items; desk = p.desk; going = p.is_going; stops = p.stops } };
 
-    ghost invariant = { λ p. IsLone (record { rows = p.shard; pins = p.pins.items; desk = p.desk; going = p.is_going }) };
+    ghost invariant = { λ p. IsLone (record { rows = p.shard; pins = p.pins.items; desk = p.desk; going = p.is_going; stops = p.stops }) };
 }
 
 impl LonePort {
@@ -67,7 +68,17 @@ impl LonePort {
             pins,
             desk: Desk::make(problem, settings),
             is_going: true,
+            stops: false,
         })
+    }
+
+    /// Opens it for a turn of a worker that doesn't wind up: it goes on, and says so whether the worker is to stop. Nothing else changes. Takes no
+    /// memory.
+    pub fn open(&mut self, stops: bool)
+        ensures { self.new ≡ opened self.old stops }
+    {
+        self.is_going = true;
+        self.stops = stops;
     }
 
     /// How many units were drawn. Takes no memory.
@@ -116,7 +127,7 @@ impl Port for LonePort {
     ghost turn = { Turns };
 
     fn poll(&mut self) -> bool {
-        false
+        self.stops
     }
 
     fn draw(&mut self) -> Draw {

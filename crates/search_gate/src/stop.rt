@@ -1,5 +1,6 @@
 // Whether a search is to stop.
-ghost use Rattle.std.specs.Prelude.{◌≡◌, ◌↔◌, IsTrue, Contains, None, false};
+ghost use Rattle.std.proofs.Common.{rules};
+ghost use Rattle.std.specs.Prelude.{◌≡◌, ◌↔◌, ◌≤◌, ◌^◌, ◌-◌, IsTrue, Contains, None, false};
 ghost use Rattle.search_gate.specs.Stop.{one_more, HasSignalled};
 
 /// What tells a worker that it is to stop, a deadline for one. A worker polls it before each unit of work, and nobody else does.
@@ -20,6 +21,9 @@ pub trait Stop: Send {
     fn poll(&mut self) -> bool
         ensures stopped { IsTrue result → HasSignalled (signal self.old) (signal self.new) }
         ensures quiet { result ≡ false → signal self.new ≡ signal self.old };
+
+    // The count is of 64 bits.
+    ghost of_64_bits: { (s : Self) → (signal s).raised ≤ 2 ^ 64 - 1 };
 }
 
 /// A stop that never signals.
@@ -45,6 +49,8 @@ impl QuietStop {
 impl Stop for QuietStop {
     ghost signal = { λ s. record { raised = 0; armed = s.armed; arms = s.arms } };
 
+    ghost of_64_bits = { λ _. Prim.search rules };
+
     fn arm(&mut self, after_ms: Option<u64>) {
         self.armed = after_ms;
         self.arms = self.arms.saturating_add(1);
@@ -63,6 +69,7 @@ pub struct MemStop {
     raised: u64,
     armed: Option<u64>,
     arms: u64,
+    ghost of_64_bits: { raised ≤ 2 ^ 64 - 1 },
 }
 
 impl MemStop {
@@ -95,6 +102,8 @@ impl Stop for MemStop {
     ghost use Rattle.search_gate.specs.Mem.{signal_of};
 
     ghost signal = { signal_of };
+
+    ghost of_64_bits = { λ s. s.of_64_bits };
 
     fn arm(&mut self, after_ms: Option<u64>) {
         self.armed = after_ms;

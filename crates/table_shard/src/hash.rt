@@ -36,8 +36,9 @@ fn hash_of(key: &Key) -> u64
     hash
 }
 
-// Which of so many rows a key has.
-pub(crate) fn place_of(key: &Key, rows: usize) -> usize
+/// Which of so many rows the position of a key has, from 0: a hash of the key's words, modulo the rows. Whoever keeps counts beside a
+/// shard's rows keeps them at these places. Takes no memory.
+pub fn place_of(key: &Key, rows: usize) -> usize
     requires { 0 < rows }
     ensures place { result ≡ place_of key.now rows }
     ensures there { result < rows }

@@ -16,4 +16,5 @@ mod shard;
 #[cfg(test)]
 mod tests;
 
+pub use hash::place_of;
 pub use shard::Shard;

@@ -70,12 +70,16 @@ fits_by task (Posting posted) fs v c (Entered kept) h = h
 fits_by task (Posting posted) fs v c LeftIt h = h
 fits_by task (Posting posted) fs v c PostedIt h = h
 
--- So an answer to what was asked is told.
+-- So an answer to what was asked happens to whoever asked it.
+pub told_happens : (task : Task) (s m u : State) (a : Answer) → m ≡ asked s → Fits task m a → LeadsTo task m a u → Happens task s (Told (asks s) a) u
+told_happens task s m u a is fits to =
+    (refl, fits_by task s.stage s.frames s.visits s.claims a (subst (λ (z : State). Fits task z a) is fits), leads_asked task s a u (subst (λ (z : State). LeadsTo task z a u) is to))
+
+-- And is told.
 pub told_leads : (task : Task) (log : List Event) (s m u : State) (a : Answer) → Leads task log s → m ≡ asked s → Fits task m a → LeadsTo task m a u
     → Leads task (log ++ (asks s, Some a) ∷ []) u
 told_leads task log s m u a leads is fits to =
-    leads_on task log s u (Told (asks s) a) leads
-    (refl, fits_by task s.stage s.frames s.visits s.claims a (subst (λ (z : State). Fits task z a) is fits), leads_asked task s a u (subst (λ (z : State). LeadsTo task z a u) is to))
+    leads_on task log s u (Told (asks s) a) leads (told_happens task s m u a is fits to)
 
 sound_by : (task : Task) (st : Stage) (fs : List Visiting) → IsSoundAt task st fs → IsSoundAt task (asked_at st) fs
 sound_by task (Polling e) fs h = h
@@ -107,7 +111,8 @@ starved_by (Leaving left) fs v c = refl
 starved_by (Winding end) fs v c = refl
 starved_by (Posting posted) fs v c = refl
 
-starve_now : (waiting : Bool) (s : State) → starve (now_at waiting s) ≡ starve s
+-- Starving comes to the same, whether a request waits or not.
+pub starve_now : (waiting : Bool) (s : State) → starve (now_at waiting s) ≡ starve s
 starve_now true s = starved_by s.stage s.frames s.visits s.claims
 starve_now false s = refl
 

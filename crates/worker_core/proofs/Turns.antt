@@ -22,11 +22,12 @@ use Rattle.visit_log.specs.Frame.{Task, Visiting, attacker_in, task_for}
 use Rattle.visit_log.specs.Round.{MayShow}
 use Rattle.visit_log.specs.Visit.{Event, IsVisitLog}
 use Rattle.visit_log.specs.Machine.{State, asks, asked, asked_at, starve, end_of, path_of, Fits, LeadsTo}
-use Rattle.visit_log.specs.Run.{Leads, Standing, IsReached, IsLooking, now_at}
+use Rattle.visit_log.specs.Run.{Leads, Standing, Happens, Told, Dark, IsReached, IsLooking, now_at}
 use Rattle.visit_log.specs.Sound.{IsSoundRequest, IsSoundUpdate, IsAnswer}
-use Rattle.visit_log.specs.Counts.{own_slots, own_size, slot_once, enters, leaves, enters_some, leaves_some, units_in, to_come}
+use Rattle.visit_log.specs.Counts.{own_slots, own_size, slot_once, enters, leaves, enters_some, leaves_some, units_in, rooms_in, to_come}
 use Rattle.visit_log.specs.Laws.{IsLeftAlone, LeavesOwn}
 use Rattle.worker_core.specs.Port.{Book, IsBooked, entering, Went, Suits, KeepsOthers, WentBy}
+use Rattle.worker_core.proofs.Reached.{starve_now}
 use Rattle.worker_core.proofs.TurnsStages.{enters_by_unit, Going, going_after, entering_at, looking_at, goes_on_asked, enters_few, MayAnswer, may_fits, asked_costs, asked_same, starves_less, starves_wind}
 
 -- A worker once it was asked.
@@ -34,7 +35,7 @@ abbrev pub once_asked : Standing → Standing
 once_asked v = record { task = v.task; state = asked v.state; waiting = true }
 
 -- What one request over a port comes to.
-pub record Turned {P : Type 0} (turn : P → Request → Option Answer → P → Type 0) (book : P → Book) (before after : P) (v w : Standing) (event : Event) : Type 0 where
+pub record Turned {P : Type 0} (turn : P → List Key → Request → Option Answer → P → Type 0) (book : P → Book) (before after : P) (v w : Standing) (event : Event) : Type 0 where
   pub suits : Suits w (book after)
   pub went : WentBy turn before after v w (event ∷ [])
   pub others : KeepsOthers v w (book before) (book after)
@@ -108,15 +109,20 @@ going_asked : (going : Bool) (st : Stage) → Going going st → Going going (as
 going_asked going st (inl goes) = inl goes
 going_asked going st (inr winding) = inr (winding.0, ap asked_at winding.1)
 
+-- What the port did for a path is done for the path of the worker that asked, where it is that.
+pub on_path : {P : Type 0} (turn : P → List Key → Request → Option Answer → P → Type 0) (pa pb : P) (q : Request) (a : Option Answer) (path : List Key) (v m : Standing)
+    → path ≡ path_of m.task m.state.frames → m ≡ once_asked v → turn pa path q a pb → turn pa (path_of v.task v.state.frames) q a pb
+on_path {P} turn pa pb q a path v m e em t = subst (λ (z : List Key). turn pa z q a pb) (e ∙ ap (λ (z : Standing). path_of z.task z.state.frames) em) t
+
 -- A request that was answered.
-pub turned_by : {P : Type 0} (turn : P → Request → Option Answer → P → Type 0) (book : P → Book) (pa pb : P) (v w m : Standing) (q : Request) (a : Answer)
-    → q ≡ asks v.state → m ≡ once_asked v → turn pa q (Some a) pb → IsBooked (q, Some a) (book pa) (book pb) → Suits v (book pa) → w.task ≡ m.task
+pub turned_by : {P : Type 0} (turn : P → List Key → Request → Option Answer → P → Type 0) (book : P → Book) (pa pb : P) (v w m : Standing) (q : Request) (a : Answer)
+    → q ≡ asks v.state → m ≡ once_asked v → turn pa (path_of v.task v.state.frames) q (Some a) pb → IsBooked (q, Some a) (book pa) (book pb) → Suits v (book pa) → w.task ≡ m.task
     → ((log : List Event) (s : State) → Leads m.task log s → m.state ≡ asked s → Leads m.task (log ++ (asks s, Some a) ∷ []) w.state)
-    → LeadsTo m.task m.state a w.state
+    → ((s : State) → m.state ≡ asked s → Happens m.task s (Told (asks s) a) w.state) → LeadsTo m.task m.state a w.state
     → ((key : Key) (slot : ℕ) → own_slots w.state.frames key slot + leaves (asks m.state, Some a) key slot ≡ own_slots m.state.frames key slot + enters (asks m.state, Some a) key slot)
     → own_size w.state.frames + leaves_some (asks m.state, Some a) ≡ own_size m.state.frames + enters_some (asks m.state, Some a)
-    → w.state.visits ≡ m.state.visits + units_in a → to_come w.state < to_come m.state → Turned turn book pa pb v w (q, Some a)
-turned_by turn book pa pb v w m q a eq em t booked suits task log leads slots sizes visits less =
+    → w.state.visits ≡ m.state.visits + units_in a → w.state.claims ≡ m.state.claims + rooms_in a → to_come w.state < to_come m.state → Turned turn book pa pb v w (q, Some a)
+turned_by turn book pa pb v w m q a eq em t booked suits task log happens leads slots sizes visits claims less =
     let s : State = v.state in
     let b : Book = book pa in
     let d : Book = book pb in
@@ -125,6 +131,7 @@ turned_by turn book pa pb v w m q a eq em t booked suits task log leads slots si
     let wt : w.task ≡ v.task = task ∙ mt in
     let f1 : m.state.frames ≡ s.frames = ap (λ (z : State). z.frames) ms in
     let v1 : m.state.visits ≡ s.visits = ap (λ (z : State). z.visits) ms in
+    let c1 : m.state.claims ≡ s.claims = ap (λ (z : State). z.claims) ms in
     let st : m.state.stage ≡ asked_at s.stage = ap (λ (z : State). z.stage) ms in
     let own : (key : Key) (slot : ℕ) → own_slots w.state.frames key slot + leaves (q, Some a) key slot ≡ own_slots s.frames key slot + enters (q, Some a) key slot =
     λ k x.
@@ -148,6 +155,9 @@ turned_by turn book pa pb v w m q a eq em t booked suits task log leads slots si
     subst (λ (z : Request). enters_some (z, Some a) ≤ entering s.stage) (sym eq) (enters_few a s.stage s.frames) in
     let unit : entering w.state.stage ≤ units_in a = enters_by_unit m.task m.state m.state.stage a w.state leads in
     let gave : d.units ≡ b.units + units_in a = booked.units in
+    let room : d.rooms ≡ b.rooms + rooms_in a = booked.rooms in
+    let asks_this : Happens v.task s (Told q a) w.state =
+    subst (λ (z : Request). Happens v.task s (Told z a) w.state) (sym eq) (subst (λ (z : Task). Happens z s (Told (asks s) a) w.state) mt (happens s ms)) in
     let held : (key : Key) (slot : ℕ) → d.held key slot + own_slots s.frames key slot ≡ b.held key slot + own_slots w.state.frames key slot =
     λ k x. let o = own k x in let h = booked.held k x in omega (arith, o, h) in
     let all : d.size + own_size s.frames ≡ b.size + own_size w.state.frames = let h = booked.size in omega (arith, size, h) in
@@ -164,18 +174,18 @@ turned_by turn book pa pb v w m q a eq em t booked suits task log leads slots si
         most = booked.most suits.most;
       };
       went = record {
-        port = (pb, t, refl);
+        port = (pb, w.state, t, asks_this, refl, refl);
         task = wt;
         log = λ l h. subst (λ (z : Request). Leads v.task (l ++ (z, Some a) ∷ []) w.state) (sym eq)
             (subst (λ (z : Task). Leads z (l ++ (asks s, Some a) ∷ []) w.state) mt (log l s (subst (λ (z : Task). Leads z l s) (sym mt) h) ms));
       };
-      others = record { held = held; size = all };
+      others = record { held = held; size = all; units = omega (arith, visits, v1, gave); rooms = omega (arith, claims, c1, room) };
       less = omega (arith, costs, less);
     }
 
 -- A look that was refused memory.
-pub turned_dark : {P : Type 0} (turn : P → Request → Option Answer → P → Type 0) (book : P → Book) (pa pb : P) (v w m : Standing) (key : Key)
-    → Look key ≡ asks v.state → m ≡ once_asked v → turn pa (Look key) None pb → IsBooked (Look key, None) (book pa) (book pb) → Suits v (book pa)
+pub turned_dark : {P : Type 0} (turn : P → List Key → Request → Option Answer → P → Type 0) (book : P → Book) (pa pb : P) (v w m : Standing) (key : Key)
+    → Look key ≡ asks v.state → m ≡ once_asked v → turn pa (path_of v.task v.state.frames) (Look key) None pb → IsBooked (Look key, None) (book pa) (book pb) → Suits v (book pa)
     → w ≡ record { task = m.task; state = starve m.state; waiting = false }
     → ((log : List Event) (s : State) → Leads m.task log s → m.state ≡ asked s → IsLooking s.stage → Leads m.task (log ++ (asks s, None) ∷ []) w.state)
     → IsLeftAlone m.state w.state → Turned turn book pa pb v w (Look key, None)
@@ -189,6 +199,7 @@ turned_dark turn book pa pb v w m key eq em t booked suits ew dark alone =
     let ws : w.state ≡ starve (asked s) = ap (λ (z : Standing). z.state) ew ∙ ap starve ms in
     let f1 : m.state.frames ≡ s.frames = ap (λ (z : State). z.frames) ms in
     let v1 : m.state.visits ≡ s.visits = ap (λ (z : State). z.visits) ms in
+    let c1 : m.state.claims ≡ s.claims = ap (λ (z : State). z.claims) ms in
     let at : IsLooking s.stage = looking_at key s.stage s.frames eq in
     let own : (key : Key) (slot : ℕ) → own_slots w.state.frames key slot ≡ own_slots s.frames key slot =
     λ k x. alone.slots k x ∙ ap (λ (z : List Visiting). own_slots z k x) f1 in
@@ -199,6 +210,10 @@ turned_dark turn book pa pb v w m key eq em t booked suits ew dark alone =
     let now : d.size + 0 ≡ b.size + 0 = booked.size in
     let same : (key : Key) (slot : ℕ) → d.held key slot + 0 ≡ b.held key slot + 0 = booked.held in
     let visits : w.state.visits ≡ m.state.visits = alone.visits in
+    let claims : w.state.claims ≡ m.state.claims = alone.claims in
+    let room : d.rooms ≡ b.rooms + 0 = booked.rooms in
+    let asks_this : Happens v.task s (Dark (Look key)) w.state =
+    subst (λ (z : Request). Happens v.task s (Dark z) w.state) (sym eq) (refl, at, ws ∙ starve_now true s) in
     let costs : to_come w.state ≡ to_come (starve (asked s)) = ap to_come ws in
     let less : to_come (starve (asked s)) < to_come s = starves_less s at in
     record {
@@ -212,7 +227,7 @@ turned_dark turn book pa pb v w m key eq em t booked suits ew dark alone =
         most = booked.most suits.most;
       };
       went = record {
-        port = (pb, t, refl);
+        port = (pb, w.state, t, asks_this, refl, refl);
         task = wt;
         log = λ l h. subst (λ (z : Request). Leads v.task (l ++ (z, None) ∷ []) w.state) (sym eq)
             (subst (λ (z : Task). Leads z (l ++ (asks s, None) ∷ []) w.state) mt
@@ -221,6 +236,8 @@ turned_dark turn book pa pb v w m key eq em t booked suits ew dark alone =
       others = record {
         held = λ k x. let o = own k x in let h = same k x in omega (arith, o, h);
         size = omega (arith, size, now);
+        units = omega (arith, visits, v1, gave);
+        rooms = omega (arith, claims, c1, room);
       };
       less = omega (arith, costs, less);
     }
@@ -228,27 +245,29 @@ turned_dark turn book pa pb v w m key eq em t booked suits ew dark alone =
 -- 4. MANY REQUESTS.
 
 -- No request was made.
-pub went_none : {P : Type 0} (turn : P → Request → Option Answer → P → Type 0) (p : P) (v : Standing) → WentBy turn p p v v []
+pub went_none : {P : Type 0} (turn : P → List Key → Request → Option Answer → P → Type 0) (p : P) (v : Standing) → WentBy turn p p v v []
 went_none turn p v = record {
-  port = refl;
+  port = (refl, refl);
   task = refl;
   log = λ l h. subst (λ (z : List Event). Leads v.task z v.state) (sym (append-nil l)) h;
 }
 
 -- What the port holds beside the worker's own slots is what it was.
 pub keeps_none : (v : Standing) (book : Book) → KeepsOthers v v book book
-keeps_none v book = record { held = λ k x. refl; size = refl }
+keeps_none v book = record { held = λ k x. refl; size = refl; units = refl; rooms = refl }
 
-went_then : {P : Type 0} (turn : P → Request → Option Answer → P → Type 0) (a m b : P) (es fs : List Event) → Went turn a es m → Went turn m fs b
-    → Went turn a (es ++ fs) b
-went_then {P} turn a m b [] fs h t = subst (λ (z : P). Went turn z fs b) (sym h) t
-went_then {P} turn a m b (e ∷ es) fs h t = (h.0, h.1, went_then turn h.0 m b es fs h.2 t)
+went_then : {P : Type 0} (turn : P → List Key → Request → Option Answer → P → Type 0) (task : Task) (a m b : P) (s t u : State) (es fs : List Event)
+    → Went turn task a s es m t → Went turn task m t fs b u → Went turn task a s (es ++ fs) b u
+went_then {P} turn task a m b s t u [] fs h k =
+    subst (λ (z : P). Went turn task z s fs b u) (sym h.0) (subst (λ (z : State). Went turn task m z fs b u) (sym h.1) k)
+went_then {P} turn task a m b s t u (e ∷ es) fs h k = (h.0, h.1, h.2, h.3, went_then turn task h.0 m b h.1 t u es fs h.4 k)
 
 -- One run goes on behind the other.
-pub went_on : {P : Type 0} (turn : P → Request → Option Answer → P → Type 0) (p0 p1 p2 : P) (w0 w1 w2 : Standing) (es fs : List Event)
+pub went_on : {P : Type 0} (turn : P → List Key → Request → Option Answer → P → Type 0) (p0 p1 p2 : P) (w0 w1 w2 : Standing) (es fs : List Event)
     → WentBy turn p0 p1 w0 w1 es → WentBy turn p1 p2 w1 w2 fs → WentBy turn p0 p2 w0 w2 (es ++ fs)
 went_on turn p0 p1 p2 w0 w1 w2 es fs one two = record {
-  port = went_then turn p0 p1 p2 es fs one.port two.port;
+  port = went_then turn w0.task p0 p1 p2 w0.state w1.state w2.state es fs one.port
+      (subst (λ (z : Task). Went turn z p1 w1.state fs p2 w2.state) one.task two.port);
   task = two.task ∙ one.task;
   log = λ l h. subst (λ (z : List Event). Leads w0.task z w2.state) (append_assoc l es fs)
       (subst (λ (z : Task). Leads z ((l ++ es) ++ fs) w2.state) one.task
@@ -260,6 +279,8 @@ pub keeps_on : (w0 w1 w2 : Standing) (b0 b1 b2 : Book) → KeepsOthers w0 w1 b0 
 keeps_on w0 w1 w2 b0 b1 b2 one two = record {
   held = λ k x. let h = one.held k x in let j = two.held k x in omega (arith, h, j);
   size = (let h = one.size in let j = two.size in omega (arith, h, j));
+  units = (let h = one.units in let j = two.units in omega (arith, h, j));
+  rooms = (let h = one.rooms in let j = two.rooms in omega (arith, h, j));
 }
 
 -- A worker to which no request is open stands by each log that leads to it.
@@ -267,7 +288,7 @@ pub reached_by : (w : Standing) (log : List Event) → w.waiting ≡ false → L
 reached_by w log idle leads = record { state = w.state; leads = leads; now = sym (ap (λ (b : Bool). now_at b w.state) idle) }
 
 -- So with what it was asked and told till it ended, each log before is a visit log.
-pub whole_on : {P : Type 0} (turn : P → Request → Option Answer → P → Type 0) (p0 p1 : P) (w0 w1 : Standing) (events : List Event) (end : WorkEnd)
+pub whole_on : {P : Type 0} (turn : P → List Key → Request → Option Answer → P → Type 0) (p0 p1 : P) (w0 w1 : Standing) (events : List Event) (end : WorkEnd)
     → WentBy turn p0 p1 w0 w1 events → w1.waiting ≡ false → end_of w1.state ≡ Some end
     → ((log : List Event) (end : WorkEnd) → IsReached w1 log → end_of w1.state ≡ Some end → IsVisitLog w1.task log end)
     → (log : List Event) → Leads w0.task log w0.state → IsVisitLog w0.task (log ++ events) end

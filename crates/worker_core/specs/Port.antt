@@ -12,22 +12,30 @@ use Rattle.visit_log.specs.declared.parts.Stage.{Stage}
 use Rattle.visit_log.specs.declared.parts.Stage.TheVariants.{Entering, Winding}
 use Rattle.visit_log.specs.declared.words.WorkEnd.{WorkEnd}
 use Rattle.visit_log.specs.Visit.{Event}
-use Rattle.visit_log.specs.Run.{Standing, Leads}
-use Rattle.visit_log.specs.Counts.{own_slots, own_size, enters, leaves, enters_some, leaves_some, units_in}
+use Rattle.visit_log.specs.Frame.{Task}
+use Rattle.visit_log.specs.Machine.{State, path_of}
+use Rattle.visit_log.specs.Run.{Standing, Leads, Happens, Told, Dark}
+use Rattle.visit_log.specs.Counts.{own_slots, own_size, enters, leaves, enters_some, leaves_some, units_in, rooms_in}
 
 -- What a port tells: the problem; how many units it gave; whether it goes on (it said neither that all is done or spent nor that there is no room);
--- how often each slot of a key is entered and not left; and how many slots that is in all.
+-- how often each slot of a key is entered and not left; how many slots that is in all; and for how many notes it gave room.
 pub record Book : Type 0 where
   pub problem : Board
   pub units : ℕ
   pub going : Bool
   pub held : Key → ℕ → ℕ
   pub size : ℕ
+  pub rooms : ℕ
 
 -- How many units an event gives.
 abbrev pub units_by : Event → ℕ
 units_by (request, Some answer) = units_in answer
 units_by (request, None) = 0
+
+-- How much room for notes it gives.
+abbrev pub rooms_by : Event → ℕ
+rooms_by (request, Some answer) = rooms_in answer
+rooms_by (request, None) = 0
 
 -- Whether it says that nothing more is handed out.
 abbrev pub ends_by : Option Answer → Bool
@@ -44,16 +52,25 @@ pub record IsBooked (event : Event) (before after : Book) : Type 0 where
   pub going : after.going ≡ (if ends_by event.1 then false else before.going)
   pub held : (key : Key) (slot : ℕ) → after.held key slot + leaves event key slot ≡ before.held key slot + enters event key slot
   pub size : after.size + leaves_some event ≡ before.size + enters_some event
+  pub rooms : after.rooms ≡ before.rooms + rooms_by event
 
 -- The answer to a look; none where memory was wanting.
 abbrev pub shown : {E : Type 0} → Result Seen E → Option Answer
 shown (Ok seen) = Some (Looked seen)
 shown (Err error) = None
 
--- The port went by these requests and answers, one after the other.
-abbrev pub Went : {P : Type 0} → (P → Request → Option Answer → P → Type 0) → P → List Event → P → Type 0
-Went turn before [] after = before ≡ after
-Went {P} turn before (event ∷ events) after = (between : P) × turn before event.0 event.1 between × Went turn between events after
+-- A worker that stands in the one state makes this request, and the answer leads it to the other; a look may be refused memory.
+abbrev pub Goes : Task → State → Event → State → Type 0
+Goes task s (request, Some answer) t = Happens task s (Told request answer) t
+Goes task s (request, None) t = Happens task s (Dark request) t
+
+-- A worker and the port went by these requests and answers, one after the other: the port's step is that of a worker on this path, and the
+-- answer leads the worker on.
+abbrev pub Went : {P : Type 0} → (P → List Key → Request → Option Answer → P → Type 0) → Task → P → State → List Event → P → State → Type 0
+Went turn task before s [] after t = (before ≡ after) × (s ≡ t)
+Went {P} turn task before s (event ∷ events) after t =
+    (between : P) × (u : State) × turn before (path_of task s.frames) event.0 event.1 between × Goes task s event u
+    × Went turn task between u events after t
 
 -- 1 where a position is about to be entered, else 0.
 abbrev pub entering : Stage → ℕ
@@ -71,14 +88,16 @@ pub record Suits (worker : Standing) (book : Book) : Type 0 where
   pub size : book.size + entering worker.state.stage ≤ book.units
   pub most : book.units ≤ 1000000000
 
--- What the port holds beside the worker's own slots stays as it was.
+-- What the port holds beside the worker's own slots, and gave beside the worker's own units and room, stays as it was.
 pub record KeepsOthers (worker later : Standing) (before after : Book) : Type 0 where
   pub held : (key : Key) (slot : ℕ) → after.held key slot + own_slots worker.state.frames key slot ≡ before.held key slot + own_slots later.state.frames key slot
   pub size : after.size + own_size worker.state.frames ≡ before.size + own_size later.state.frames
+  pub units : after.units + worker.state.visits ≡ before.units + later.state.visits
+  pub rooms : after.rooms + worker.state.claims ≡ before.rooms + later.state.claims
 
 -- The worker and the port went by one list of requests and answers: by whatever log the worker stood where it did, it stands where that log
 -- leaves it with these behind.
-pub record WentBy {P : Type 0} (turn : P → Request → Option Answer → P → Type 0) (before after : P) (worker later : Standing) (events : List Event) : Type 0 where
-  pub port : Went turn before events after
+pub record WentBy {P : Type 0} (turn : P → List Key → Request → Option Answer → P → Type 0) (before after : P) (worker later : Standing) (events : List Event) : Type 0 where
+  pub port : Went turn worker.task before worker.state events after later.state
   pub task : later.task ≡ worker.task
   pub log : (log : List Event) → Leads worker.task log worker.state → Leads worker.task (log ++ events) later.state

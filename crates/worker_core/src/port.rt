@@ -9,11 +9,11 @@ use std::alloc::AllocError;
 
 /// The table of positions and the desk of a search, as one worker has them: alone, beside others under some schedule, or on a thread.
 ///
-/// What it tells of itself is its book: the problem; how many units it gave, at most a billion; whether it goes on; and how often each slot of a
-/// key is entered and not left. Each call changes the book as its request and answer say (`IsBooked`), and is one step of the port
+/// What it tells of itself is its book: the problem; how many units it gave, at most a billion, and for how many notes it gave room; whether it
+/// goes on; and how often each slot of a key is entered and not left. Each call changes the book as its request and answer say (`IsBooked`), and is one step of the port
 /// (`turn`).
 pub trait Port {
-    ghost use Rattle.std.specs.Prelude.{◌≡◌, ◌<◌, ◌≤◌, ℕ, true, IfOk, Some, Option};
+    ghost use Rattle.std.specs.Prelude.{◌≡◌, ◌<◌, ◌≤◌, ℕ, true, IfOk, Some, Option, List};
     ghost use Rattle.board_core.specs.declared.keys.Key.{Key};
     ghost use Rattle.pn_numbers.specs.Numbers.{IsOpen};
     ghost use Rattle.visit_log.specs.declared.words.Request.{Request};
@@ -29,30 +29,31 @@ pub trait Port {
     /// What it tells of itself.
     ghost book: { Self → Book };
 
-    /// From one state to the next, by a request and its answer (none where a look was refused memory).
-    ghost turn: { Self → Request → Option Answer → Self → Type 0 };
+    /// From one state to the next, by a request of a worker on this path (the keys of the attacker's positions that it is visiting) and its
+    /// answer (none where a look was refused memory).
+    ghost turn: { Self → List Key → Request → Option Answer → Self → Type 0 };
 
     /// Whether the worker is to stop.
     fn poll(&mut self) -> bool
-        ensures turn { turn self.old Poll (Some (Polled result)) self.new }
+        ensures turn { (path : List Key) → turn self.old path Poll (Some (Polled result)) self.new }
         ensures book { IsBooked (Poll, Some (Polled result)) (book self.old) (book self.new) };
 
     /// The next unit of work. It isn't asked once nothing more is handed out.
     fn draw(&mut self) -> Draw
         requires { (book self.old).going ≡ true }
-        ensures turn { turn self.old Draws (Some (Drew result)) self.new }
+        ensures turn { (path : List Key) → turn self.old path Draws (Some (Drew result)) self.new }
         ensures book { IsBooked (Draws, Some (Drew result)) (book self.old) (book self.new) };
 
     /// Room for a note. It isn't asked once nothing more is handed out.
     fn claim(&mut self) -> Claim
         requires { (book self.old).going ≡ true }
-        ensures turn { turn self.old Claims (Some (Claimed result)) self.new }
+        ensures turn { (path : List Key) → turn self.old path Claims (Some (Claimed result)) self.new }
         ensures book { IsBooked (Claims, Some (Claimed result)) (book self.old) (book self.new) };
 
     /// What is known of the position of this key, by a worker on this path: a note only about it, for the problem's attacker, that holds on the path;
     /// else numbers from 1 to the cap. Errors: want of memory alone.
     fn look(&mut self, key: &Key, path: &Path) -> Result<Seen, AllocError>
-        ensures turn { turn self.old (Look key.now) (shown result) self.new }
+        ensures turn { turn self.old path.now (Look key.now) (shown result) self.new }
         ensures book { IsBooked (Look key.now, shown result) (book self.old) (book self.new) }
         ensures may { IfOk result (MayShow (book self.old).problem.side key.now path.now) };
 
@@ -60,7 +61,7 @@ pub trait Port {
     fn enter(&mut self, key: &Key, numbers: Numbers) -> Kept
         requires in_range { IsOpen numbers }
         requires few { (book self.old).size < 1000000000 }
-        ensures turn { turn self.old (Enter key.now numbers) (Some (Entered result)) self.new }
+        ensures turn { (path : List Key) → turn self.old path (Enter key.now numbers) (Some (Entered result)) self.new }
         ensures book { IsBooked (Enter key.now numbers, Some (Entered result)) (book self.old) (book self.new) };
 
     /// Leaves the position of this key, which was entered so, with an update: numbers from 1 to the cap, or a note about it for the problem's
@@ -68,12 +69,12 @@ pub trait Port {
     fn leave(&mut self, kept: Kept, key: &Key, update: Update)
         requires sound { IsSoundUpdate (book self.old).problem.side key.now update }
         requires held { (other : Key) (slot : ℕ) → slot_once kept key.now other slot ≤ (book self.old).held other slot }
-        ensures turn { turn self.old (Leave kept key.now update) (Some LeftIt) self.new }
+        ensures turn { (path : List Key) → turn self.old path (Leave kept key.now update) (Some LeftIt) self.new }
         ensures book { IsBooked (Leave kept key.now update, Some LeftIt) (book self.old) (book self.new) };
 
     /// Posts a note that answers the problem.
     fn post(&mut self, note: Note)
         requires { IsAnswer (task_for (book self.old).problem 1) note }
-        ensures turn { turn self.old (Post note) (Some PostedIt) self.new }
+        ensures turn { (path : List Key) → turn self.old path (Post note) (Some PostedIt) self.new }
         ensures book { IsBooked (Post note, Some PostedIt) (book self.old) (book self.new) };
 }

@@ -49,7 +49,7 @@ impl Worker {
     ghost use Rattle.visit_log.specs.Frame.{task_for};
     ghost use Rattle.visit_log.specs.Visit.{Event, IsVisitLog};
     ghost use Rattle.visit_log.specs.Machine.{State, start, asks, asked, starve, end_of, path_of, Fits, LeadsTo};
-    ghost use Rattle.visit_log.specs.Run.{Leads, IsReached, IsBegunLog, IsLooking, now_at};
+    ghost use Rattle.visit_log.specs.Run.{Leads, Happens, Told, IsReached, IsBegunLog, IsLooking, now_at};
     ghost use Rattle.visit_log.specs.Sound.{IsTask, IsSound, IsSoundRequest};
     ghost use Rattle.visit_log.specs.Counts.{own_slots, own_size, enters, leaves, enters_some, leaves_some, units_in, rooms_in, to_come};
     ghost use Rattle.visit_log.specs.Laws.{IsLeftAlone, IsCounted};
@@ -98,6 +98,8 @@ impl Worker {
         ensures visits { self.new.state.visits ≡ self.old.state.visits + units_in answer }
         ensures claims { self.new.state.claims ≡ self.old.state.claims + rooms_in answer }
         ensures less { to_come self.new.state < to_come self.old.state }
+        // Where it stood before it was asked, this request and this answer happen to it.
+        ensures happens { (s : State) → self.old.state ≡ asked s → Happens self.old.task s (Told (asks s) answer) self.new.state }
         ensures leads { LeadsTo self.old.task self.old.state answer self.new.state }
     {
         // It is sound, and what it counts moves as the answer says.

@@ -6,7 +6,7 @@ use Rattle.visit_log.specs.declared.words.Answer.TheVariants.{Poll as Polled, Dr
 use Rattle.visit_log.specs.Machine.{path_of}
 use Rattle.visit_log.specs.Run.{Standing}
 use Rattle.visit_log.specs.Sound.{IsSoundRequest}
-use Rattle.worker_core.proofs.Turns.{port_goes, few_slots, left_held, left_sound, post_sound, unit_may, shown_may, answer_fits, turned_by, turned_dark, went_none, keeps_none, no_end}
+use Rattle.worker_core.proofs.Turns.{port_goes, few_slots, left_held, left_sound, post_sound, unit_may, shown_may, answer_fits, on_path, turned_by, turned_dark, went_none, keeps_none, no_end}
 use Rattle.worker_core.proofs.working.turn.Goals as goal
 
 pub draw-draw-requires : goal.draw-draw-requires
@@ -43,28 +43,28 @@ pub returns-in-Poll-clause-suits : goal.returns-in-Poll-clause-suits
 returns-in-Poll-clause-suits g c =
     let a = c.advance.ensures in
     let t = turned_by g.P.Port.turn g.P.Port.book c.args.port.now c.poll-stop.new.self c.args.worker.now c.advance.new.self c.request.new.self Poll (Polled c.poll-stop.result)
-    (sym c.in-Poll.is ∙ c.request.ensures.request) c.request.ensures.asked c.poll-stop.ensures.turn c.poll-stop.ensures.book c.requires.suits a.task a.log a.leads a.slots a.sizes a.visits a.less in
+    (sym c.in-Poll.is ∙ c.request.ensures.request) c.request.ensures.asked (c.poll-stop.ensures.turn (path_of c.args.worker.now.task c.args.worker.now.state.frames)) c.poll-stop.ensures.book c.requires.suits a.task a.log a.happens a.leads a.slots a.sizes a.visits a.claims a.less in
     t.suits
 
 pub returns-in-Poll-clause-went : goal.returns-in-Poll-clause-went
 returns-in-Poll-clause-went g c =
     let a = c.advance.ensures in
     let t = turned_by g.P.Port.turn g.P.Port.book c.args.port.now c.poll-stop.new.self c.args.worker.now c.advance.new.self c.request.new.self Poll (Polled c.poll-stop.result)
-    (sym c.in-Poll.is ∙ c.request.ensures.request) c.request.ensures.asked c.poll-stop.ensures.turn c.poll-stop.ensures.book c.requires.suits a.task a.log a.leads a.slots a.sizes a.visits a.less in
+    (sym c.in-Poll.is ∙ c.request.ensures.request) c.request.ensures.asked (c.poll-stop.ensures.turn (path_of c.args.worker.now.task c.args.worker.now.state.frames)) c.poll-stop.ensures.book c.requires.suits a.task a.log a.happens a.leads a.slots a.sizes a.visits a.claims a.less in
     ((Poll, Some (Polled c.poll-stop.result)) ∷ [], t.went, refl)
 
 pub returns-in-Poll-clause-others : goal.returns-in-Poll-clause-others
 returns-in-Poll-clause-others g c =
     let a = c.advance.ensures in
     let t = turned_by g.P.Port.turn g.P.Port.book c.args.port.now c.poll-stop.new.self c.args.worker.now c.advance.new.self c.request.new.self Poll (Polled c.poll-stop.result)
-    (sym c.in-Poll.is ∙ c.request.ensures.request) c.request.ensures.asked c.poll-stop.ensures.turn c.poll-stop.ensures.book c.requires.suits a.task a.log a.leads a.slots a.sizes a.visits a.less in
+    (sym c.in-Poll.is ∙ c.request.ensures.request) c.request.ensures.asked (c.poll-stop.ensures.turn (path_of c.args.worker.now.task c.args.worker.now.state.frames)) c.poll-stop.ensures.book c.requires.suits a.task a.log a.happens a.leads a.slots a.sizes a.visits a.claims a.less in
     t.others
 
 pub returns-in-Poll-clause-less : goal.returns-in-Poll-clause-less
 returns-in-Poll-clause-less g c =
     let a = c.advance.ensures in
     let t = turned_by g.P.Port.turn g.P.Port.book c.args.port.now c.poll-stop.new.self c.args.worker.now c.advance.new.self c.request.new.self Poll (Polled c.poll-stop.result)
-    (sym c.in-Poll.is ∙ c.request.ensures.request) c.request.ensures.asked c.poll-stop.ensures.turn c.poll-stop.ensures.book c.requires.suits a.task a.log a.leads a.slots a.sizes a.visits a.less in
+    (sym c.in-Poll.is ∙ c.request.ensures.request) c.request.ensures.asked (c.poll-stop.ensures.turn (path_of c.args.worker.now.task c.args.worker.now.state.frames)) c.poll-stop.ensures.book c.requires.suits a.task a.log a.happens a.leads a.slots a.sizes a.visits a.claims a.less in
     t.less
 
 pub returns-in-Poll-clause-ended : goal.returns-in-Poll-clause-ended
@@ -83,28 +83,28 @@ pub returns-in-Draw-clause-suits : goal.returns-in-Draw-clause-suits
 returns-in-Draw-clause-suits g c =
     let a = c.advance-in-Draw.ensures in
     let t = turned_by g.P.Port.turn g.P.Port.book c.args.port.now c.draw-draw.new.self c.args.worker.now c.advance-in-Draw.new.self c.request.new.self Draws (Drew c.draw-draw.result)
-    (sym c.in-Draw.is ∙ c.request.ensures.request) c.request.ensures.asked c.draw-draw.ensures.turn c.draw-draw.ensures.book c.requires.suits a.task a.log a.leads a.slots a.sizes a.visits a.less in
+    (sym c.in-Draw.is ∙ c.request.ensures.request) c.request.ensures.asked (c.draw-draw.ensures.turn (path_of c.args.worker.now.task c.args.worker.now.state.frames)) c.draw-draw.ensures.book c.requires.suits a.task a.log a.happens a.leads a.slots a.sizes a.visits a.claims a.less in
     t.suits
 
 pub returns-in-Draw-clause-went : goal.returns-in-Draw-clause-went
 returns-in-Draw-clause-went g c =
     let a = c.advance-in-Draw.ensures in
     let t = turned_by g.P.Port.turn g.P.Port.book c.args.port.now c.draw-draw.new.self c.args.worker.now c.advance-in-Draw.new.self c.request.new.self Draws (Drew c.draw-draw.result)
-    (sym c.in-Draw.is ∙ c.request.ensures.request) c.request.ensures.asked c.draw-draw.ensures.turn c.draw-draw.ensures.book c.requires.suits a.task a.log a.leads a.slots a.sizes a.visits a.less in
+    (sym c.in-Draw.is ∙ c.request.ensures.request) c.request.ensures.asked (c.draw-draw.ensures.turn (path_of c.args.worker.now.task c.args.worker.now.state.frames)) c.draw-draw.ensures.book c.requires.suits a.task a.log a.happens a.leads a.slots a.sizes a.visits a.claims a.less in
     ((Draws, Some (Drew c.draw-draw.result)) ∷ [], t.went, refl)
 
 pub returns-in-Draw-clause-others : goal.returns-in-Draw-clause-others
 returns-in-Draw-clause-others g c =
     let a = c.advance-in-Draw.ensures in
     let t = turned_by g.P.Port.turn g.P.Port.book c.args.port.now c.draw-draw.new.self c.args.worker.now c.advance-in-Draw.new.self c.request.new.self Draws (Drew c.draw-draw.result)
-    (sym c.in-Draw.is ∙ c.request.ensures.request) c.request.ensures.asked c.draw-draw.ensures.turn c.draw-draw.ensures.book c.requires.suits a.task a.log a.leads a.slots a.sizes a.visits a.less in
+    (sym c.in-Draw.is ∙ c.request.ensures.request) c.request.ensures.asked (c.draw-draw.ensures.turn (path_of c.args.worker.now.task c.args.worker.now.state.frames)) c.draw-draw.ensures.book c.requires.suits a.task a.log a.happens a.leads a.slots a.sizes a.visits a.claims a.less in
     t.others
 
 pub returns-in-Draw-clause-less : goal.returns-in-Draw-clause-less
 returns-in-Draw-clause-less g c =
     let a = c.advance-in-Draw.ensures in
     let t = turned_by g.P.Port.turn g.P.Port.book c.args.port.now c.draw-draw.new.self c.args.worker.now c.advance-in-Draw.new.self c.request.new.self Draws (Drew c.draw-draw.result)
-    (sym c.in-Draw.is ∙ c.request.ensures.request) c.request.ensures.asked c.draw-draw.ensures.turn c.draw-draw.ensures.book c.requires.suits a.task a.log a.leads a.slots a.sizes a.visits a.less in
+    (sym c.in-Draw.is ∙ c.request.ensures.request) c.request.ensures.asked (c.draw-draw.ensures.turn (path_of c.args.worker.now.task c.args.worker.now.state.frames)) c.draw-draw.ensures.book c.requires.suits a.task a.log a.happens a.leads a.slots a.sizes a.visits a.claims a.less in
     t.less
 
 pub returns-in-Draw-clause-ended : goal.returns-in-Draw-clause-ended
@@ -123,28 +123,28 @@ pub returns-in-Claim-clause-suits : goal.returns-in-Claim-clause-suits
 returns-in-Claim-clause-suits g c =
     let a = c.advance-in-Claim.ensures in
     let t = turned_by g.P.Port.turn g.P.Port.book c.args.port.now c.claim-claim.new.self c.args.worker.now c.advance-in-Claim.new.self c.request.new.self Claims (Claimed c.claim-claim.result)
-    (sym c.in-Claim.is ∙ c.request.ensures.request) c.request.ensures.asked c.claim-claim.ensures.turn c.claim-claim.ensures.book c.requires.suits a.task a.log a.leads a.slots a.sizes a.visits a.less in
+    (sym c.in-Claim.is ∙ c.request.ensures.request) c.request.ensures.asked (c.claim-claim.ensures.turn (path_of c.args.worker.now.task c.args.worker.now.state.frames)) c.claim-claim.ensures.book c.requires.suits a.task a.log a.happens a.leads a.slots a.sizes a.visits a.claims a.less in
     t.suits
 
 pub returns-in-Claim-clause-went : goal.returns-in-Claim-clause-went
 returns-in-Claim-clause-went g c =
     let a = c.advance-in-Claim.ensures in
     let t = turned_by g.P.Port.turn g.P.Port.book c.args.port.now c.claim-claim.new.self c.args.worker.now c.advance-in-Claim.new.self c.request.new.self Claims (Claimed c.claim-claim.result)
-    (sym c.in-Claim.is ∙ c.request.ensures.request) c.request.ensures.asked c.claim-claim.ensures.turn c.claim-claim.ensures.book c.requires.suits a.task a.log a.leads a.slots a.sizes a.visits a.less in
+    (sym c.in-Claim.is ∙ c.request.ensures.request) c.request.ensures.asked (c.claim-claim.ensures.turn (path_of c.args.worker.now.task c.args.worker.now.state.frames)) c.claim-claim.ensures.book c.requires.suits a.task a.log a.happens a.leads a.slots a.sizes a.visits a.claims a.less in
     ((Claims, Some (Claimed c.claim-claim.result)) ∷ [], t.went, refl)
 
 pub returns-in-Claim-clause-others : goal.returns-in-Claim-clause-others
 returns-in-Claim-clause-others g c =
     let a = c.advance-in-Claim.ensures in
     let t = turned_by g.P.Port.turn g.P.Port.book c.args.port.now c.claim-claim.new.self c.args.worker.now c.advance-in-Claim.new.self c.request.new.self Claims (Claimed c.claim-claim.result)
-    (sym c.in-Claim.is ∙ c.request.ensures.request) c.request.ensures.asked c.claim-claim.ensures.turn c.claim-claim.ensures.book c.requires.suits a.task a.log a.leads a.slots a.sizes a.visits a.less in
+    (sym c.in-Claim.is ∙ c.request.ensures.request) c.request.ensures.asked (c.claim-claim.ensures.turn (path_of c.args.worker.now.task c.args.worker.now.state.frames)) c.claim-claim.ensures.book c.requires.suits a.task a.log a.happens a.leads a.slots a.sizes a.visits a.claims a.less in
     t.others
 
 pub returns-in-Claim-clause-less : goal.returns-in-Claim-clause-less
 returns-in-Claim-clause-less g c =
     let a = c.advance-in-Claim.ensures in
     let t = turned_by g.P.Port.turn g.P.Port.book c.args.port.now c.claim-claim.new.self c.args.worker.now c.advance-in-Claim.new.self c.request.new.self Claims (Claimed c.claim-claim.result)
-    (sym c.in-Claim.is ∙ c.request.ensures.request) c.request.ensures.asked c.claim-claim.ensures.turn c.claim-claim.ensures.book c.requires.suits a.task a.log a.leads a.slots a.sizes a.visits a.less in
+    (sym c.in-Claim.is ∙ c.request.ensures.request) c.request.ensures.asked (c.claim-claim.ensures.turn (path_of c.args.worker.now.task c.args.worker.now.state.frames)) c.claim-claim.ensures.book c.requires.suits a.task a.log a.happens a.leads a.slots a.sizes a.visits a.claims a.less in
     t.less
 
 pub returns-in-Claim-clause-ended : goal.returns-in-Claim-clause-ended
@@ -163,28 +163,28 @@ pub returns-in-Ok-clause-suits : goal.returns-in-Ok-clause-suits
 returns-in-Ok-clause-suits g c =
     let a = c.advance-in-Ok.ensures in
     let t = turned_by g.P.Port.turn g.P.Port.book c.args.port.now c.look.new.self c.args.worker.now c.advance-in-Ok.new.self c.request.new.self (Look c.in-Look.key) (Looked c.in-Ok.seen)
-    (sym c.in-Look.is ∙ c.request.ensures.request) c.request.ensures.asked c.in-Ok.ensures.turn c.in-Ok.ensures.book c.requires.suits a.task a.log a.leads a.slots a.sizes a.visits a.less in
+    (sym c.in-Look.is ∙ c.request.ensures.request) c.request.ensures.asked (on_path g.P.Port.turn c.args.port.now c.look.new.self (Look c.in-Look.key) (Some (Looked c.in-Ok.seen)) c.path.result.now c.args.worker.now c.request.new.self c.path.ensures c.request.ensures.asked c.in-Ok.ensures.turn) c.in-Ok.ensures.book c.requires.suits a.task a.log a.happens a.leads a.slots a.sizes a.visits a.claims a.less in
     t.suits
 
 pub returns-in-Ok-clause-went : goal.returns-in-Ok-clause-went
 returns-in-Ok-clause-went g c =
     let a = c.advance-in-Ok.ensures in
     let t = turned_by g.P.Port.turn g.P.Port.book c.args.port.now c.look.new.self c.args.worker.now c.advance-in-Ok.new.self c.request.new.self (Look c.in-Look.key) (Looked c.in-Ok.seen)
-    (sym c.in-Look.is ∙ c.request.ensures.request) c.request.ensures.asked c.in-Ok.ensures.turn c.in-Ok.ensures.book c.requires.suits a.task a.log a.leads a.slots a.sizes a.visits a.less in
+    (sym c.in-Look.is ∙ c.request.ensures.request) c.request.ensures.asked (on_path g.P.Port.turn c.args.port.now c.look.new.self (Look c.in-Look.key) (Some (Looked c.in-Ok.seen)) c.path.result.now c.args.worker.now c.request.new.self c.path.ensures c.request.ensures.asked c.in-Ok.ensures.turn) c.in-Ok.ensures.book c.requires.suits a.task a.log a.happens a.leads a.slots a.sizes a.visits a.claims a.less in
     (((Look c.in-Look.key), Some (Looked c.in-Ok.seen)) ∷ [], t.went, refl)
 
 pub returns-in-Ok-clause-others : goal.returns-in-Ok-clause-others
 returns-in-Ok-clause-others g c =
     let a = c.advance-in-Ok.ensures in
     let t = turned_by g.P.Port.turn g.P.Port.book c.args.port.now c.look.new.self c.args.worker.now c.advance-in-Ok.new.self c.request.new.self (Look c.in-Look.key) (Looked c.in-Ok.seen)
-    (sym c.in-Look.is ∙ c.request.ensures.request) c.request.ensures.asked c.in-Ok.ensures.turn c.in-Ok.ensures.book c.requires.suits a.task a.log a.leads a.slots a.sizes a.visits a.less in
+    (sym c.in-Look.is ∙ c.request.ensures.request) c.request.ensures.asked (on_path g.P.Port.turn c.args.port.now c.look.new.self (Look c.in-Look.key) (Some (Looked c.in-Ok.seen)) c.path.result.now c.args.worker.now c.request.new.self c.path.ensures c.request.ensures.asked c.in-Ok.ensures.turn) c.in-Ok.ensures.book c.requires.suits a.task a.log a.happens a.leads a.slots a.sizes a.visits a.claims a.less in
     t.others
 
 pub returns-in-Ok-clause-less : goal.returns-in-Ok-clause-less
 returns-in-Ok-clause-less g c =
     let a = c.advance-in-Ok.ensures in
     let t = turned_by g.P.Port.turn g.P.Port.book c.args.port.now c.look.new.self c.args.worker.now c.advance-in-Ok.new.self c.request.new.self (Look c.in-Look.key) (Looked c.in-Ok.seen)
-    (sym c.in-Look.is ∙ c.request.ensures.request) c.request.ensures.asked c.in-Ok.ensures.turn c.in-Ok.ensures.book c.requires.suits a.task a.log a.leads a.slots a.sizes a.visits a.less in
+    (sym c.in-Look.is ∙ c.request.ensures.request) c.request.ensures.asked (on_path g.P.Port.turn c.args.port.now c.look.new.self (Look c.in-Look.key) (Some (Looked c.in-Ok.seen)) c.path.result.now c.args.worker.now c.request.new.self c.path.ensures c.request.ensures.asked c.in-Ok.ensures.turn) c.in-Ok.ensures.book c.requires.suits a.task a.log a.happens a.leads a.slots a.sizes a.visits a.claims a.less in
     t.less
 
 pub returns-in-Ok-clause-ended : goal.returns-in-Ok-clause-ended
@@ -203,28 +203,28 @@ pub returns-in-Enter-clause-suits : goal.returns-in-Enter-clause-suits
 returns-in-Enter-clause-suits g c =
     let a = c.advance-in-Enter.ensures in
     let t = turned_by g.P.Port.turn g.P.Port.book c.args.port.now c.enter-kept.new.self c.args.worker.now c.advance-in-Enter.new.self c.request.new.self (Enter c.in-Enter.key c.in-Enter.numbers) (Entered c.enter-kept.result)
-    (sym c.in-Enter.is ∙ c.request.ensures.request) c.request.ensures.asked c.enter-kept.ensures.turn c.enter-kept.ensures.book c.requires.suits a.task a.log a.leads a.slots a.sizes a.visits a.less in
+    (sym c.in-Enter.is ∙ c.request.ensures.request) c.request.ensures.asked (c.enter-kept.ensures.turn (path_of c.args.worker.now.task c.args.worker.now.state.frames)) c.enter-kept.ensures.book c.requires.suits a.task a.log a.happens a.leads a.slots a.sizes a.visits a.claims a.less in
     t.suits
 
 pub returns-in-Enter-clause-went : goal.returns-in-Enter-clause-went
 returns-in-Enter-clause-went g c =
     let a = c.advance-in-Enter.ensures in
     let t = turned_by g.P.Port.turn g.P.Port.book c.args.port.now c.enter-kept.new.self c.args.worker.now c.advance-in-Enter.new.self c.request.new.self (Enter c.in-Enter.key c.in-Enter.numbers) (Entered c.enter-kept.result)
-    (sym c.in-Enter.is ∙ c.request.ensures.request) c.request.ensures.asked c.enter-kept.ensures.turn c.enter-kept.ensures.book c.requires.suits a.task a.log a.leads a.slots a.sizes a.visits a.less in
+    (sym c.in-Enter.is ∙ c.request.ensures.request) c.request.ensures.asked (c.enter-kept.ensures.turn (path_of c.args.worker.now.task c.args.worker.now.state.frames)) c.enter-kept.ensures.book c.requires.suits a.task a.log a.happens a.leads a.slots a.sizes a.visits a.claims a.less in
     (((Enter c.in-Enter.key c.in-Enter.numbers), Some (Entered c.enter-kept.result)) ∷ [], t.went, refl)
 
 pub returns-in-Enter-clause-others : goal.returns-in-Enter-clause-others
 returns-in-Enter-clause-others g c =
     let a = c.advance-in-Enter.ensures in
     let t = turned_by g.P.Port.turn g.P.Port.book c.args.port.now c.enter-kept.new.self c.args.worker.now c.advance-in-Enter.new.self c.request.new.self (Enter c.in-Enter.key c.in-Enter.numbers) (Entered c.enter-kept.result)
-    (sym c.in-Enter.is ∙ c.request.ensures.request) c.request.ensures.asked c.enter-kept.ensures.turn c.enter-kept.ensures.book c.requires.suits a.task a.log a.leads a.slots a.sizes a.visits a.less in
+    (sym c.in-Enter.is ∙ c.request.ensures.request) c.request.ensures.asked (c.enter-kept.ensures.turn (path_of c.args.worker.now.task c.args.worker.now.state.frames)) c.enter-kept.ensures.book c.requires.suits a.task a.log a.happens a.leads a.slots a.sizes a.visits a.claims a.less in
     t.others
 
 pub returns-in-Enter-clause-less : goal.returns-in-Enter-clause-less
 returns-in-Enter-clause-less g c =
     let a = c.advance-in-Enter.ensures in
     let t = turned_by g.P.Port.turn g.P.Port.book c.args.port.now c.enter-kept.new.self c.args.worker.now c.advance-in-Enter.new.self c.request.new.self (Enter c.in-Enter.key c.in-Enter.numbers) (Entered c.enter-kept.result)
-    (sym c.in-Enter.is ∙ c.request.ensures.request) c.request.ensures.asked c.enter-kept.ensures.turn c.enter-kept.ensures.book c.requires.suits a.task a.log a.leads a.slots a.sizes a.visits a.less in
+    (sym c.in-Enter.is ∙ c.request.ensures.request) c.request.ensures.asked (c.enter-kept.ensures.turn (path_of c.args.worker.now.task c.args.worker.now.state.frames)) c.enter-kept.ensures.book c.requires.suits a.task a.log a.happens a.leads a.slots a.sizes a.visits a.claims a.less in
     t.less
 
 pub returns-in-Enter-clause-ended : goal.returns-in-Enter-clause-ended
@@ -243,28 +243,28 @@ pub returns-in-Leave-clause-suits : goal.returns-in-Leave-clause-suits
 returns-in-Leave-clause-suits g c =
     let a = c.advance-in-Leave.ensures in
     let t = turned_by g.P.Port.turn g.P.Port.book c.args.port.now c.leave.new.self c.args.worker.now c.advance-in-Leave.new.self c.request.new.self (Leave c.in-Leave.kept c.in-Leave.key c.in-Leave.update) LeftIt
-    (sym c.in-Leave.is ∙ c.request.ensures.request) c.request.ensures.asked c.leave.ensures.turn c.leave.ensures.book c.requires.suits a.task a.log a.leads a.slots a.sizes a.visits a.less in
+    (sym c.in-Leave.is ∙ c.request.ensures.request) c.request.ensures.asked (c.leave.ensures.turn (path_of c.args.worker.now.task c.args.worker.now.state.frames)) c.leave.ensures.book c.requires.suits a.task a.log a.happens a.leads a.slots a.sizes a.visits a.claims a.less in
     t.suits
 
 pub returns-in-Leave-clause-went : goal.returns-in-Leave-clause-went
 returns-in-Leave-clause-went g c =
     let a = c.advance-in-Leave.ensures in
     let t = turned_by g.P.Port.turn g.P.Port.book c.args.port.now c.leave.new.self c.args.worker.now c.advance-in-Leave.new.self c.request.new.self (Leave c.in-Leave.kept c.in-Leave.key c.in-Leave.update) LeftIt
-    (sym c.in-Leave.is ∙ c.request.ensures.request) c.request.ensures.asked c.leave.ensures.turn c.leave.ensures.book c.requires.suits a.task a.log a.leads a.slots a.sizes a.visits a.less in
+    (sym c.in-Leave.is ∙ c.request.ensures.request) c.request.ensures.asked (c.leave.ensures.turn (path_of c.args.worker.now.task c.args.worker.now.state.frames)) c.leave.ensures.book c.requires.suits a.task a.log a.happens a.leads a.slots a.sizes a.visits a.claims a.less in
     (((Leave c.in-Leave.kept c.in-Leave.key c.in-Leave.update), Some LeftIt) ∷ [], t.went, refl)
 
 pub returns-in-Leave-clause-others : goal.returns-in-Leave-clause-others
 returns-in-Leave-clause-others g c =
     let a = c.advance-in-Leave.ensures in
     let t = turned_by g.P.Port.turn g.P.Port.book c.args.port.now c.leave.new.self c.args.worker.now c.advance-in-Leave.new.self c.request.new.self (Leave c.in-Leave.kept c.in-Leave.key c.in-Leave.update) LeftIt
-    (sym c.in-Leave.is ∙ c.request.ensures.request) c.request.ensures.asked c.leave.ensures.turn c.leave.ensures.book c.requires.suits a.task a.log a.leads a.slots a.sizes a.visits a.less in
+    (sym c.in-Leave.is ∙ c.request.ensures.request) c.request.ensures.asked (c.leave.ensures.turn (path_of c.args.worker.now.task c.args.worker.now.state.frames)) c.leave.ensures.book c.requires.suits a.task a.log a.happens a.leads a.slots a.sizes a.visits a.claims a.less in
     t.others
 
 pub returns-in-Leave-clause-less : goal.returns-in-Leave-clause-less
 returns-in-Leave-clause-less g c =
     let a = c.advance-in-Leave.ensures in
     let t = turned_by g.P.Port.turn g.P.Port.book c.args.port.now c.leave.new.self c.args.worker.now c.advance-in-Leave.new.self c.request.new.self (Leave c.in-Leave.kept c.in-Leave.key c.in-Leave.update) LeftIt
-    (sym c.in-Leave.is ∙ c.request.ensures.request) c.request.ensures.asked c.leave.ensures.turn c.leave.ensures.book c.requires.suits a.task a.log a.leads a.slots a.sizes a.visits a.less in
+    (sym c.in-Leave.is ∙ c.request.ensures.request) c.request.ensures.asked (c.leave.ensures.turn (path_of c.args.worker.now.task c.args.worker.now.state.frames)) c.leave.ensures.book c.requires.suits a.task a.log a.happens a.leads a.slots a.sizes a.visits a.claims a.less in
     t.less
 
 pub returns-in-Leave-clause-ended : goal.returns-in-Leave-clause-ended
@@ -283,28 +283,28 @@ pub returns-in-Post-clause-suits : goal.returns-in-Post-clause-suits
 returns-in-Post-clause-suits g c =
     let a = c.advance-in-Post.ensures in
     let t = turned_by g.P.Port.turn g.P.Port.book c.args.port.now c.post.new.self c.args.worker.now c.advance-in-Post.new.self c.request.new.self (Post c.in-Post.note) PostedIt
-    (sym c.in-Post.is ∙ c.request.ensures.request) c.request.ensures.asked c.post.ensures.turn c.post.ensures.book c.requires.suits a.task a.log a.leads a.slots a.sizes a.visits a.less in
+    (sym c.in-Post.is ∙ c.request.ensures.request) c.request.ensures.asked (c.post.ensures.turn (path_of c.args.worker.now.task c.args.worker.now.state.frames)) c.post.ensures.book c.requires.suits a.task a.log a.happens a.leads a.slots a.sizes a.visits a.claims a.less in
     t.suits
 
 pub returns-in-Post-clause-went : goal.returns-in-Post-clause-went
 returns-in-Post-clause-went g c =
     let a = c.advance-in-Post.ensures in
     let t = turned_by g.P.Port.turn g.P.Port.book c.args.port.now c.post.new.self c.args.worker.now c.advance-in-Post.new.self c.request.new.self (Post c.in-Post.note) PostedIt
-    (sym c.in-Post.is ∙ c.request.ensures.request) c.request.ensures.asked c.post.ensures.turn c.post.ensures.book c.requires.suits a.task a.log a.leads a.slots a.sizes a.visits a.less in
+    (sym c.in-Post.is ∙ c.request.ensures.request) c.request.ensures.asked (c.post.ensures.turn (path_of c.args.worker.now.task c.args.worker.now.state.frames)) c.post.ensures.book c.requires.suits a.task a.log a.happens a.leads a.slots a.sizes a.visits a.claims a.less in
     (((Post c.in-Post.note), Some PostedIt) ∷ [], t.went, refl)
 
 pub returns-in-Post-clause-others : goal.returns-in-Post-clause-others
 returns-in-Post-clause-others g c =
     let a = c.advance-in-Post.ensures in
     let t = turned_by g.P.Port.turn g.P.Port.book c.args.port.now c.post.new.self c.args.worker.now c.advance-in-Post.new.self c.request.new.self (Post c.in-Post.note) PostedIt
-    (sym c.in-Post.is ∙ c.request.ensures.request) c.request.ensures.asked c.post.ensures.turn c.post.ensures.book c.requires.suits a.task a.log a.leads a.slots a.sizes a.visits a.less in
+    (sym c.in-Post.is ∙ c.request.ensures.request) c.request.ensures.asked (c.post.ensures.turn (path_of c.args.worker.now.task c.args.worker.now.state.frames)) c.post.ensures.book c.requires.suits a.task a.log a.happens a.leads a.slots a.sizes a.visits a.claims a.less in
     t.others
 
 pub returns-in-Post-clause-less : goal.returns-in-Post-clause-less
 returns-in-Post-clause-less g c =
     let a = c.advance-in-Post.ensures in
     let t = turned_by g.P.Port.turn g.P.Port.book c.args.port.now c.post.new.self c.args.worker.now c.advance-in-Post.new.self c.request.new.self (Post c.in-Post.note) PostedIt
-    (sym c.in-Post.is ∙ c.request.ensures.request) c.request.ensures.asked c.post.ensures.turn c.post.ensures.book c.requires.suits a.task a.log a.leads a.slots a.sizes a.visits a.less in
+    (sym c.in-Post.is ∙ c.request.ensures.request) c.request.ensures.asked (c.post.ensures.turn (path_of c.args.worker.now.task c.args.worker.now.state.frames)) c.post.ensures.book c.requires.suits a.task a.log a.happens a.leads a.slots a.sizes a.visits a.claims a.less in
     t.less
 
 pub returns-in-Post-clause-ended : goal.returns-in-Post-clause-ended
@@ -317,28 +317,28 @@ pub returns-in-Err-clause-suits : goal.returns-in-Err-clause-suits
 returns-in-Err-clause-suits g c =
     let s = c.starve.ensures in
     let t = turned_dark g.P.Port.turn g.P.Port.book c.args.port.now c.look.new.self c.args.worker.now c.starve.new.self c.request.new.self c.in-Look.key
-    (sym c.in-Look.is ∙ c.request.ensures.request) c.request.ensures.asked c.in-Err.ensures.turn c.in-Err.ensures.book c.requires.suits s.starved s.dark s.alone in
+    (sym c.in-Look.is ∙ c.request.ensures.request) c.request.ensures.asked (on_path g.P.Port.turn c.args.port.now c.look.new.self (Look c.in-Look.key) None c.path.result.now c.args.worker.now c.request.new.self c.path.ensures c.request.ensures.asked c.in-Err.ensures.turn) c.in-Err.ensures.book c.requires.suits s.starved s.dark s.alone in
     t.suits
 
 pub returns-in-Err-clause-went : goal.returns-in-Err-clause-went
 returns-in-Err-clause-went g c =
     let s = c.starve.ensures in
     let t = turned_dark g.P.Port.turn g.P.Port.book c.args.port.now c.look.new.self c.args.worker.now c.starve.new.self c.request.new.self c.in-Look.key
-    (sym c.in-Look.is ∙ c.request.ensures.request) c.request.ensures.asked c.in-Err.ensures.turn c.in-Err.ensures.book c.requires.suits s.starved s.dark s.alone in
+    (sym c.in-Look.is ∙ c.request.ensures.request) c.request.ensures.asked (on_path g.P.Port.turn c.args.port.now c.look.new.self (Look c.in-Look.key) None c.path.result.now c.args.worker.now c.request.new.self c.path.ensures c.request.ensures.asked c.in-Err.ensures.turn) c.in-Err.ensures.book c.requires.suits s.starved s.dark s.alone in
     ((Look c.in-Look.key, None) ∷ [], t.went, refl)
 
 pub returns-in-Err-clause-others : goal.returns-in-Err-clause-others
 returns-in-Err-clause-others g c =
     let s = c.starve.ensures in
     let t = turned_dark g.P.Port.turn g.P.Port.book c.args.port.now c.look.new.self c.args.worker.now c.starve.new.self c.request.new.self c.in-Look.key
-    (sym c.in-Look.is ∙ c.request.ensures.request) c.request.ensures.asked c.in-Err.ensures.turn c.in-Err.ensures.book c.requires.suits s.starved s.dark s.alone in
+    (sym c.in-Look.is ∙ c.request.ensures.request) c.request.ensures.asked (on_path g.P.Port.turn c.args.port.now c.look.new.self (Look c.in-Look.key) None c.path.result.now c.args.worker.now c.request.new.self c.path.ensures c.request.ensures.asked c.in-Err.ensures.turn) c.in-Err.ensures.book c.requires.suits s.starved s.dark s.alone in
     t.others
 
 pub returns-in-Err-clause-less : goal.returns-in-Err-clause-less
 returns-in-Err-clause-less g c =
     let s = c.starve.ensures in
     let t = turned_dark g.P.Port.turn g.P.Port.book c.args.port.now c.look.new.self c.args.worker.now c.starve.new.self c.request.new.self c.in-Look.key
-    (sym c.in-Look.is ∙ c.request.ensures.request) c.request.ensures.asked c.in-Err.ensures.turn c.in-Err.ensures.book c.requires.suits s.starved s.dark s.alone in
+    (sym c.in-Look.is ∙ c.request.ensures.request) c.request.ensures.asked (on_path g.P.Port.turn c.args.port.now c.look.new.self (Look c.in-Look.key) None c.path.result.now c.args.worker.now c.request.new.self c.path.ensures c.request.ensures.asked c.in-Err.ensures.turn) c.in-Err.ensures.book c.requires.suits s.starved s.dark s.alone in
     t.less
 
 pub returns-in-Err-clause-ended : goal.returns-in-Err-clause-ended

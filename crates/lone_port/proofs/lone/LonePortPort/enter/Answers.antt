@@ -9,14 +9,14 @@ use Rattle.lone_port.proofs.lone.LonePortPort.enter.Goals as goal
 
 pub invariant_of-self : goal.invariant_of-self
 invariant_of-self c =
-    let port : Lone = record { rows = c.self.inside.shard; pins = c.self.inside.pins.items; desk = c.self.inside.desk; going = c.self.inside.is_going } in
+    let port : Lone = record { rows = c.self.inside.shard; pins = c.self.inside.pins.items; desk = c.self.inside.desk; going = c.self.inside.is_going; stops = c.self.inside.stops } in
     let long : c.len.result ≡ length port.pins = (let o = c.self.inside.pins.ok in let l = c.len.ensures in omega (arith, o, l)) in
     enter_keeps port c.enter-kept.new.self c.args.key.now c.args.numbers c.place_of-place.result c.len.result c.in-Slot.slot c.index_mut.result.now c.index.result.now
     c.self.invariant c.laws.ensures.rows long c.place_of-place.ensures.place c.place_of-place.ensures.there c.index_mut.ensures.value c.index.ensures c.in-Slot.ensures.entered
 
 pub returns-in-Slot-clause-book : goal.returns-in-Slot-clause-book
 returns-in-Slot-clause-book c =
-    let port : Lone = record { rows = c.self.inside.shard; pins = c.self.inside.pins.items; desk = c.self.inside.desk; going = c.self.inside.is_going } in
+    let port : Lone = record { rows = c.self.inside.shard; pins = c.self.inside.pins.items; desk = c.self.inside.desk; going = c.self.inside.is_going; stops = c.self.inside.stops } in
     let long : c.len.result ≡ length port.pins = (let o = c.self.inside.pins.ok in let l = c.len.ensures in omega (arith, o, l)) in
     let counts = c.index_mut.result.now in
     let after : Lone = record port {

@@ -16,13 +16,13 @@ Holds port kept key = (other : Key) (s : ℕ) → slot_once kept key other s ≤
 
 pub bounds-index_mut-slot : goal.bounds-index_mut-slot
 bounds-index_mut-slot c =
-    let port : Lone = record { rows = c.self.inside.shard; pins = c.self.inside.pins.items; desk = c.self.inside.desk; going = c.self.inside.is_going } in
+    let port : Lone = record { rows = c.self.inside.shard; pins = c.self.inside.pins.items; desk = c.self.inside.desk; going = c.self.inside.is_going; stops = c.self.inside.stops } in
     let of_kept : Holds port c.args.kept c.args.key.now = subst (λ (q : Lone). Holds q c.args.kept c.args.key.now) (sym c.self.view_is) c.requires.held in
     leave_within port c.args.key.now c.in-Slot.slot c.self.invariant c.laws.ensures.rows (subst (λ (k : Kept). Holds port k c.args.key.now) c.in-Slot.is of_kept)
 
 pub overflow_sub-index_mut : goal.overflow_sub-index_mut
 overflow_sub-index_mut c =
-    let port : Lone = record { rows = c.self.inside.shard; pins = c.self.inside.pins.items; desk = c.self.inside.desk; going = c.self.inside.is_going } in
+    let port : Lone = record { rows = c.self.inside.shard; pins = c.self.inside.pins.items; desk = c.self.inside.desk; going = c.self.inside.is_going; stops = c.self.inside.stops } in
     let of_kept : Holds port c.args.kept c.args.key.now = subst (λ (q : Lone). Holds q c.args.kept c.args.key.now) (sym c.self.view_is) c.requires.held in
     let long : c.len.result ≡ length port.pins = (let o = c.self.inside.pins.ok in let l = c.len.ensures in omega (arith, o, l)) in
     leave_some port c.args.key.now c.place_of-place.result c.len.result c.in-Slot.slot c.index_mut.result.now
@@ -30,19 +30,19 @@ overflow_sub-index_mut c =
 
 pub bounds-index_mut-slot-2 : goal.bounds-index_mut-slot-2
 bounds-index_mut-slot-2 c =
-    let port : Lone = record { rows = c.self.inside.shard; pins = c.self.inside.pins.items; desk = c.self.inside.desk; going = c.self.inside.is_going } in
+    let port : Lone = record { rows = c.self.inside.shard; pins = c.self.inside.pins.items; desk = c.self.inside.desk; going = c.self.inside.is_going; stops = c.self.inside.stops } in
     let of_kept : Holds port c.args.kept c.args.key.now = subst (λ (q : Lone). Holds q c.args.kept c.args.key.now) (sym c.self.view_is) c.requires.held in
     leave_within port c.args.key.now c.in-Slot.slot c.self.invariant c.laws.ensures.rows (subst (λ (k : Kept). Holds port k c.args.key.now) c.in-Slot.is of_kept)
 
 pub leave-requires-clause-there : goal.leave-requires-clause-there
 leave-requires-clause-there c =
-    let port : Lone = record { rows = c.self.inside.shard; pins = c.self.inside.pins.items; desk = c.self.inside.desk; going = c.self.inside.is_going } in
+    let port : Lone = record { rows = c.self.inside.shard; pins = c.self.inside.pins.items; desk = c.self.inside.desk; going = c.self.inside.is_going; stops = c.self.inside.stops } in
     let of_kept : Holds port c.args.kept c.args.key.now = subst (λ (q : Lone). Holds q c.args.kept c.args.key.now) (sym c.self.view_is) c.requires.held in
     leave_holds port c.args.key.now c.in-Slot.slot (subst (λ (k : Kept). Holds port k c.args.key.now) c.in-Slot.is of_kept)
 
 pub invariant_of-self : goal.invariant_of-self
 invariant_of-self c =
-    let port : Lone = record { rows = c.self.inside.shard; pins = c.self.inside.pins.items; desk = c.self.inside.desk; going = c.self.inside.is_going } in
+    let port : Lone = record { rows = c.self.inside.shard; pins = c.self.inside.pins.items; desk = c.self.inside.desk; going = c.self.inside.is_going; stops = c.self.inside.stops } in
     let of_kept : Holds port c.args.kept c.args.key.now = subst (λ (q : Lone). Holds q c.args.kept c.args.key.now) (sym c.self.view_is) c.requires.held in
     let long : c.len.result ≡ length port.pins = (let o = c.self.inside.pins.ok in let l = c.len.ensures in omega (arith, o, l)) in
     leave_keeps port c.leave.new.self c.args.key.now c.args.update c.place_of-place.result c.len.result c.in-Slot.slot c.index_mut.result.now c.self.invariant
@@ -51,7 +51,7 @@ invariant_of-self c =
 
 pub returns-clause-book : goal.returns-clause-book
 returns-clause-book c =
-    let port : Lone = record { rows = c.self.inside.shard; pins = c.self.inside.pins.items; desk = c.self.inside.desk; going = c.self.inside.is_going } in
+    let port : Lone = record { rows = c.self.inside.shard; pins = c.self.inside.pins.items; desk = c.self.inside.desk; going = c.self.inside.is_going; stops = c.self.inside.stops } in
     let of_kept : Holds port c.args.kept c.args.key.now = subst (λ (q : Lone). Holds q c.args.kept c.args.key.now) (sym c.self.view_is) c.requires.held in
     let long : c.len.result ≡ length port.pins = (let o = c.self.inside.pins.ok in let l = c.len.ensures in omega (arith, o, l)) in
     let counts = c.index_mut.result.now in

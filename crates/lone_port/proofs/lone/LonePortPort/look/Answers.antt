@@ -11,17 +11,17 @@ use Rattle.lone_port.proofs.lone.LonePortPort.look.Goals as goal
 
 pub returns-clause-turn : goal.returns-clause-turn
 returns-clause-turn c =
-    let port : Lone = record { rows = c.self.inside.shard; pins = c.self.inside.pins.items; desk = c.self.inside.desk; going = c.self.inside.is_going } in
+    let port : Lone = record { rows = c.self.inside.shard; pins = c.self.inside.pins.items; desk = c.self.inside.desk; going = c.self.inside.is_going; stops = c.self.inside.stops } in
     let key = c.args.key.now in
     let long : c.len.result ≡ length port.pins = (let o = c.self.inside.pins.ok in let l = c.len.ensures in omega (arith, o, l)) in
     let counts = found port.pins key c.place_of-place.result c.len.result c.index.result.now long c.place_of-place.ensures.place c.place_of-place.ensures.there c.index.ensures in
-    subst (λ (q : Lone). Turns q (Look key) (shown c.look.result) q) c.self.view_is
+    subst (λ (q : Lone). Turns q c.args.path.now (Look key) (shown c.look.result) q) c.self.view_is
     (look_turns port key c.args.path.now c.look.result
     (subst (λ (n : List ℕ). IfOk c.look.result (Looks (row_of port.rows key) n key c.args.path.now)) counts c.look.ensures))
 
 pub returns-clause-may : goal.returns-clause-may
 returns-clause-may c =
-    let port : Lone = record { rows = c.self.inside.shard; pins = c.self.inside.pins.items; desk = c.self.inside.desk; going = c.self.inside.is_going } in
+    let port : Lone = record { rows = c.self.inside.shard; pins = c.self.inside.pins.items; desk = c.self.inside.desk; going = c.self.inside.is_going; stops = c.self.inside.stops } in
     let key = c.args.key.now in
     let long : c.len.result ≡ length port.pins = (let o = c.self.inside.pins.ok in let l = c.len.ensures in omega (arith, o, l)) in
     let counts = found port.pins key c.place_of-place.result c.len.result c.index.result.now long c.place_of-place.ensures.place c.place_of-place.ensures.there c.index.ensures in

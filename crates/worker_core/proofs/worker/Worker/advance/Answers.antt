@@ -6,7 +6,7 @@ use Rattle.visit_log.specs.Machine.{State, asks, Fits, LeadsTo}
 use Rattle.visit_log.specs.Run.{Standing, Leads, IsReached, Told}
 use Rattle.visit_log.specs.Sound.{IsTask, IsSound}
 use Rattle.visit_log.specs.Counts.{own_slots, own_size, enters, leaves, enters_some, leaves_some, to_come}
-use Rattle.worker_core.proofs.Reached.{told_leads, reached_sound, happens_asked, waits_for}
+use Rattle.worker_core.proofs.Reached.{told_leads, told_happens, reached_sound, happens_asked, waits_for}
 use Rattle.worker_core.proofs.worker.Worker.advance.Goals as goal
 
 pub invariant_of-self : goal.invariant_of-self
@@ -35,6 +35,13 @@ returns-clause-log c = λ log s leads is.
     let to : LeadsTo c.args.self.now.task c.args.self.now.state c.args.answer u =
     subst (λ (z : Standing). LeadsTo z.task z.state c.args.answer u) c.self.view_is c.advance.ensures.leads in
     told_leads c.args.self.now.task log s c.args.self.now.state u c.args.answer leads is c.requires.fits to
+
+pub returns-clause-happens : goal.returns-clause-happens
+returns-clause-happens c = λ s is.
+    let u : State = c.advance.new.self.state in
+    let to : LeadsTo c.args.self.now.task c.args.self.now.state c.args.answer u =
+    subst (λ (z : Standing). LeadsTo z.task z.state c.args.answer u) c.self.view_is c.advance.ensures.leads in
+    told_happens c.args.self.now.task s c.args.self.now.state u c.args.answer is c.requires.fits to
 
 pub returns-clause-slots : goal.returns-clause-slots
 returns-clause-slots c = λ key slot.
