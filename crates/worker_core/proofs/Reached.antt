@@ -1,6 +1,6 @@
 -- What is known of a worker by the logs that lead to it.
 use Rattle.std.proofs.Common.{◌≡◌, ℕ, List, [], ◌∷◌, ◌++◌, refl, sym, ap, ◌∙◌, subst, append_assoc, append-nil, Bool, true, false}
-use Rattle.std.specs.Prelude.{Option, Some, None}
+use Rattle.std.specs.Prelude.{Option, Some, None, slice_get}
 use Rattle.notes.specs.Derivation.{Derivation}
 use Rattle.visit_log.specs.declared.parts.Stage.{Stage}
 use Rattle.visit_log.specs.declared.parts.Stage.TheVariants.{Polling, Drawing, Entering, Looking, Claiming, Leaving, Posting, Winding}
@@ -9,10 +9,11 @@ use Rattle.visit_log.specs.declared.words.Answer.TheVariants.{Poll as Polled, Dr
 use Rattle.visit_log.specs.declared.words.WorkEnd.{WorkEnd}
 use Rattle.visit_log.specs.Frame.{Task, Visiting}
 use Rattle.visit_log.specs.Visit.{Event, IsVisitLog}
-use Rattle.visit_log.specs.Machine.{State, start, asks, asked, asked_at, starve, end_of, Fits, LeadsTo}
+use Rattle.visit_log.specs.declared.parts.Child.{Child}
+use Rattle.visit_log.specs.Machine.{State, start, asks, asks_at, ask_look, asked, asked_at, starve, end_of, Fits, LeadsTo}
 use Rattle.visit_log.specs.Run.{Happening, Told, Dark, Starved, Happens, Runs, event, events, Leads, Standing, now_at, IsReached, IsBegunLog, IsLooking}
 use Rattle.visit_log.specs.Sound.{IsTask, IsSound, IsSoundAt}
-use Rattle.worker_core.specs.Machine.{IsCopy}
+use Rattle.worker_core.specs.Machine.{IsCopy, is_poll, polls_at}
 use Rattle.visit_log.specs.Laws.{LogsBegin, LogsAreWhole, WorkersAreSound, WorkersAreCounted, IsCounted}
 
 runs_snoc : (task : Task) (happenings : List Happening) (s t u : State) (h : Happening) → Runs task s happenings t → Happens task t h u
@@ -202,3 +203,26 @@ copy_by (Winding end) (f ∷ fs) v c copy = tt
 
 pub starved_copy : (s : State) (copy : Option Derivation) → IsCopy (starve s).stage copy
 starved_copy s copy = copy_by s.stage s.frames s.visits s.claims copy
+
+look_polls : (o : Option Child) → is_poll (ask_look o) ≡ false
+look_polls None = refl
+look_polls (Some child) = refl
+
+polls_by : (st : Stage) (fs : List Visiting) → polls_at st ≡ is_poll (asks_at st fs)
+polls_by (Polling e) fs = refl
+polls_by (Drawing e) fs = refl
+polls_by Entering [] = refl
+polls_by Entering (f ∷ fs) = refl
+polls_by (Looking place) [] = refl
+polls_by (Looking place) (f ∷ fs) = sym (look_polls (slice_get f.children place))
+polls_by Claiming fs = refl
+polls_by (Leaving left) [] = refl
+polls_by (Leaving left) (f ∷ fs) = refl
+polls_by (Posting None) fs = refl
+polls_by (Posting (Some note)) fs = refl
+polls_by (Winding end) [] = refl
+polls_by (Winding end) (f ∷ fs) = refl
+
+-- A worker at a stage that polls asks so.
+pub polls_asks : (s : State) → polls_at s.stage ≡ is_poll (asks s)
+polls_asks s = polls_by s.stage s.frames

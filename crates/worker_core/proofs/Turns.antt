@@ -174,7 +174,7 @@ turned_by turn book pa pb v w m q a eq em t booked suits task log happens leads 
         most = booked.most suits.most;
       };
       went = record {
-        port = (pb, w.state, t, asks_this, refl, refl);
+        port = (pb, w.state, t, asks_this, (refl, refl));
         task = wt;
         log = λ l h. subst (λ (z : Request). Leads v.task (l ++ (z, Some a) ∷ []) w.state) (sym eq)
             (subst (λ (z : Task). Leads z (l ++ (asks s, Some a) ∷ []) w.state) mt (log l s (subst (λ (z : Task). Leads z l s) (sym mt) h) ms));
@@ -227,7 +227,7 @@ turned_dark turn book pa pb v w m key eq em t booked suits ew dark alone =
         most = booked.most suits.most;
       };
       went = record {
-        port = (pb, w.state, t, asks_this, refl, refl);
+        port = (pb, w.state, t, asks_this, (refl, refl));
         task = wt;
         log = λ l h. subst (λ (z : Request). Leads v.task (l ++ (z, None) ∷ []) w.state) (sym eq)
             (subst (λ (z : Task). Leads z (l ++ (asks s, None) ∷ []) w.state) mt

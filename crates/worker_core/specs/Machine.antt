@@ -1,10 +1,12 @@
 -- The machine of a worker, and the worker.
-use Rattle.std.specs.Prelude.{◌≡◌, Option, Some}
+use Rattle.std.specs.Prelude.{◌≡◌, Bool, true, false, Option, Some}
 use Rattle.notes.specs.Derivation.{Derivation}
 use Rattle.visit_log.specs.Frame.{Task}
 use Rattle.visit_log.specs.Machine.{State}
 use Rattle.visit_log.specs.declared.parts.Stage.{Stage}
-use Rattle.visit_log.specs.declared.parts.Stage.TheVariants.{Leaving, Posting}
+use Rattle.visit_log.specs.declared.parts.Stage.TheVariants.{Polling, Leaving, Posting}
+use Rattle.visit_log.specs.declared.words.Request.{Request}
+use Rattle.visit_log.specs.declared.words.Request.TheVariants.{Poll}
 use Rattle.visit_log.specs.declared.parts.Left.TheVariants.{Solved}
 
 -- Whose search it is, and where it stands.
@@ -21,3 +23,13 @@ IsCopy stage copy = Unit {0}
 abbrev pub IsNotPosting : Stage → Type 0
 IsNotPosting (Posting posted) = ⊥
 IsNotPosting stage = Unit {0}
+
+-- Whether a request is a poll.
+abbrev pub is_poll : Request → Bool
+is_poll Poll = true
+is_poll request = false
+
+-- Whether a worker at this stage polls next.
+abbrev pub polls_at : Stage → Bool
+polls_at (Polling entry) = true
+polls_at stage = false

@@ -14,7 +14,7 @@ ghost use Rattle.visit_log.specs.Machine.{start, wind, starve, asks, asks_at, as
 ghost use Rattle.visit_log.specs.Laws.{IsCounted};
 ghost use Rattle.visit_log.specs.Sound.{IsSound, IsSoundAt, IsListed, IsSoundVisit, IsSoundPlace, IsSoundEntry, IsLookedAt, AreSound};
 ghost use Rattle.worker_core.specs.Stack.{HasTop, HasOver};
-ghost use Rattle.worker_core.specs.Machine.{IsCopy, IsNotPosting};
+ghost use Rattle.worker_core.specs.Machine.{IsCopy, IsNotPosting, polls_at};
 
 use crate::stack::Stack;
 use board_core::key;
@@ -64,7 +64,7 @@ impl Core {
     ghost use Rattle.visit_log.specs.Laws.{IsCounted};
     ghost use Rattle.visit_log.specs.Sound.{IsSound, IsSoundAt, IsListed, IsSoundVisit, IsSoundPlace, IsSoundEntry, IsLookedAt, AreSound};
     ghost use Rattle.worker_core.specs.Stack.{HasTop, HasOver};
-    ghost use Rattle.worker_core.specs.Machine.{IsCopy, IsNotPosting};
+    ghost use Rattle.worker_core.specs.Machine.{IsCopy, IsNotPosting, polls_at};
 
     /// The machine before it asks anything. Takes no memory.
     pub(crate) fn new(alloc: Global, problem: &Problem, number: u32) -> Core
@@ -338,6 +338,13 @@ impl Core {
             },
             _ => None,
         }
+    }
+
+    /// Whether it polls next.
+    pub(crate) fn is_polling(&self) -> bool
+        ensures { result ≡ polls_at self.now.state.stage }
+    {
+        matches!(self.stage, Stage::Polling(_))
     }
 
     /// The path.

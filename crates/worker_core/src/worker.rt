@@ -55,6 +55,7 @@ impl Worker {
     ghost use Rattle.visit_log.specs.Laws.{IsLeftAlone, IsCounted};
     ghost use Rattle.visit_log.specs.declared.words.WorkEnd.{WorkEnd};
     ghost use Rattle.visit_log.specs.declared.words.Request.TheVariants.{End};
+    ghost use Rattle.worker_core.specs.Machine.{is_poll};
 
     /// The worker of this number, from 1, before it asks anything. Takes no memory.
     pub fn make(alloc: Global, problem: &Problem, number: u32) -> Worker
@@ -136,6 +137,13 @@ impl Worker {
         ensures { result.now.position ≡ self.now.task.problem }
     {
         self.core.problem()
+    }
+
+    /// Whether it polls next: its next request is a Poll. Takes no memory.
+    pub fn is_polling(&self) -> bool
+        ensures { result ≡ is_poll (asks self.now.state) }
+    {
+        self.core.is_polling()
     }
 
     /// How many units it was given. Takes no memory.

@@ -1,0 +1,56 @@
+-- How a search ended.
+use Rattle.std.specs.Prelude.{◌≡◌, ◌⊎◌, List, [], ◌∷◌, Some, None, All, IsSome}
+use Rattle.board_core.specs.Board.{Board}
+use Rattle.notes.specs.Derivation.{Derivation}
+use Rattle.search_gate.specs.Stop.{Signal, Rose}
+use Rattle.unit_desk.specs.Sizes.{SettingsView}
+use Rattle.unit_desk.specs.declared.cause.Cause.{Cause}
+use Rattle.unit_desk.specs.declared.cause.Cause.TheVariants.{Expansions, Room, Height, Stopped}
+use Rattle.visit_log.specs.Visit.{Event as Exchange}
+use Rattle.visit_log.specs.Frame.{task_for}
+use Rattle.visit_log.specs.Machine.{end_of}
+use Rattle.visit_log.specs.Run.{Standing}
+use Rattle.visit_log.specs.Sound.{IsAnswer}
+use Rattle.lone_port.specs.Lone.{Lone}
+use Rattle.search_world.specs.declared.event.Event.{Event}
+use Rattle.search_world.specs.Alone.{RunsAlone, HasCause, IsOwnStep}
+use Rattle.search_pool.specs.declared.end.SearchEnd.{SearchEnd}
+use Rattle.search_pool.specs.declared.end.SearchEnd.TheVariants.{Solved, Unknown}
+
+-- What a search with one worker answers, once its table and desk and its worker stand so: the note that is posted; where none is, the cause by
+-- the worker's end, and the worker.
+abbrev pub IsOutcome : SettingsView → Lone → Standing → SearchEnd → Type 0
+IsOutcome s port worker (Solved note) = port.desk.posted ≡ Some note
+IsOutcome s port worker (Unknown cause crew) = (port.desk.posted ≡ None) × (crew ≡ worker ∷ []) × HasCause s worker cause
+
+-- A search of the problem's position with these settings and one worker, by this schedule, ended so: the worker has ended, and this is what
+-- table, desk and worker tell then.
+pub record IsEndBy (problem : Board) (s : SettingsView) (schedule : List Event) (end : SearchEnd) : Type 0 where
+  pub log : List Exchange
+  pub port : Lone
+  pub worker : Standing
+  pub runs : RunsAlone problem s schedule log port worker
+  pub ended : IsSome (end_of worker.state)
+  pub outcome : IsOutcome s port worker end
+
+-- The world of one worker under its own steps, till it has ended, answers this.
+abbrev pub IsAlone : Board → SettingsView → SearchEnd → Type 0
+IsAlone problem s end = (schedule : List Event) × All IsOwnStep schedule × IsEndBy problem s schedule end
+
+-- The same where a stop may have been signalled to the worker in between: only where the stop's count rose.
+abbrev pub IsAloneUntil : Board → SettingsView → Signal → Signal → SearchEnd → Type 0
+IsAloneUntil problem s before after end =
+    (schedule : List Event) × (All IsOwnStep schedule ⊎ Rose before.raised after.raised) × IsEndBy problem s schedule end
+
+-- A note that solved the search answers the problem: it is valid, holds on every path, is about the problem's position and for its attacker.
+abbrev pub IsSolution : Board → SearchEnd → Type 0
+IsSolution problem (Solved note) = IsAnswer (task_for problem 1) note
+IsSolution problem (Unknown cause crew) = Unit {0}
+
+-- That it was stopped is told only where the stop's count rose.
+abbrev pub IsStoppedBy : Signal → Signal → SearchEnd → Type 0
+IsStoppedBy before after (Solved note) = Unit {0}
+IsStoppedBy before after (Unknown (Expansions number) crew) = Unit {0}
+IsStoppedBy before after (Unknown (Room number) crew) = Unit {0}
+IsStoppedBy before after (Unknown (Height number) crew) = Unit {0}
+IsStoppedBy before after (Unknown (Stopped worker) crew) = Rose before.raised after.raised

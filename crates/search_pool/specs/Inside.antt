@@ -1,0 +1,70 @@
+-- What the private functions of this crate say of one another; no public clause cites these.
+use Rattle.std.specs.Prelude.{◌≡◌, ◌⊎◌, Bool, true, false, ℕ, List, Some, None, All, Contains, IsSome}
+use Rattle.board_core.specs.Board.{Board}
+use Rattle.notes.specs.declared.words.Draw.TheVariants.{Done, Spent as AllDrawn}
+use Rattle.notes.specs.declared.words.Claim.TheVariants.{NoRoom as Full}
+use Rattle.search_gate.specs.Stop.{Signal, Rose}
+use Rattle.unit_desk.specs.Sizes.{SettingsView}
+use Rattle.unit_desk.specs.Desk.{DeskView}
+use Rattle.visit_log.specs.declared.words.Request.TheVariants.{Post}
+use Rattle.visit_log.specs.declared.words.Answer.TheVariants.{Poll as Polled, Draw as Drew, Claim as Claimed, Post as PostedIt}
+use Rattle.visit_log.specs.Frame.{task_for}
+use Rattle.visit_log.specs.Visit.{Event as Exchange}
+use Rattle.visit_log.specs.Run.{Standing, Leads}
+use Rattle.worker_core.specs.Port.{Suits}
+use Rattle.lone_port.specs.Lone.{Lone, book_of}
+use Rattle.search_world.specs.World.{Plays, world_at_first}
+use Rattle.search_world.specs.declared.event.Event.{Event}
+use Rattle.search_world.specs.Alone.{IsOwn, IsOwnStep, for_one, told_to_one, world_of}
+
+-- Whether the answer says that all units were drawn; that all room was claimed; that a note is posted, now or before; that the worker is to stop.
+abbrev pub says_spent : Exchange → Bool
+says_spent (request, Some (Drew AllDrawn)) = true
+says_spent exchange = false
+
+-- That all room was claimed.
+abbrev pub says_full : Exchange → Bool
+says_full (request, Some (Claimed Full)) = true
+says_full exchange = false
+
+-- That a note is posted.
+abbrev pub says_posted : Exchange → Bool
+says_posted (request, Some (Drew Done)) = true
+says_posted (request, Some PostedIt) = true
+says_posted exchange = false
+
+-- That the worker is to stop.
+abbrev pub says_stop : Exchange → Bool
+says_stop (request, Some (Polled true)) = true
+says_stop exchange = false
+
+-- Something of the kind was said.
+abbrev pub WasSaid : (Exchange → Bool) → List Exchange → Type 0
+WasSaid says log = (exchange : Exchange) × Contains log exchange × (says exchange ≡ true)
+
+-- The desk after a log: what was said of it still holds.
+pub record IsToldDesk (log : List Exchange) (desk : DeskView) : Type 0 where
+  pub spent : WasSaid says_spent log → desk.drawn ≡ desk.expansions
+  pub full : WasSaid says_full log → desk.claimed ≡ desk.room
+  pub posted : WasSaid says_posted log → IsSome desk.posted
+
+-- A search with one worker goes on so: the world of one worker comes by a schedule to where table, desk and worker stand; no stop waits to be
+-- told; the worker stands by the log; what was said of the desk holds; the worker had all units and all room that the desk gave; and unless the
+-- stop's count rose, no stop was signalled.
+pub record IsUnderWay (problem : Board) (s : SettingsView) (before after : Signal) (port : Lone) (worker : Standing) : Type 0 where
+  pub schedule : List Event
+  pub log : List Exchange
+  pub own : All IsOwn schedule
+  pub plays : Plays (world_at_first problem (for_one s)) schedule (told_to_one log) (world_of port worker false)
+  pub leads : Leads (task_for problem 1) log worker.state
+  pub task : worker.task ≡ task_for problem 1
+  pub idle : worker.waiting ≡ false
+  pub suits : Suits worker (book_of port)
+  pub desk : IsToldDesk log port.desk
+  pub expansions : port.desk.expansions ≡ s.expansions
+  pub room : port.desk.room ≡ s.room
+  pub units : port.desk.drawn ≡ worker.state.visits
+  pub rooms : port.desk.claimed ≡ worker.state.claims
+  pub quiet : (All IsOwnStep schedule × (WasSaid says_stop log → ⊥) × (after.raised ≡ before.raised)) ⊎ Rose before.raised after.raised
+  pub armed : after.armed ≡ before.armed
+  pub arms : after.arms ≡ before.arms

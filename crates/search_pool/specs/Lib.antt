@@ -1,0 +1,3 @@
+-- Searches: how they end.
+pub mod End
+pub mod Inside

@@ -1,0 +1,2 @@
+-- Lemmas about worlds.
+pub mod Stepped

@@ -1,0 +1,64 @@
+-- One request of a worker over a table and a desk that were opened for it.
+use Rattle.std.proofs.Common.{◌≡◌, inl, ℕ, ◌+◌, ◌<◌, List, [], ◌∷◌, ◌++◌, length, refl, sym, ap, ◌∙◌, subst, arith, Bool, false}
+use Rattle.std.specs.Prelude.{Option, Some, None, IfSome, IfNone, MatchOption}
+use Rattle.visit_log.specs.declared.words.WorkEnd.{WorkEnd}
+use Rattle.visit_log.specs.Visit.{Event as Exchange}
+use Rattle.visit_log.specs.Machine.{State, end_of, path_of}
+use Rattle.visit_log.specs.Run.{Leads, Standing}
+use Rattle.worker_core.specs.Port.{Book, Suits, Went, WentBy, Goes}
+use Rattle.lone_port.specs.Lone.{Lone, Turns, opened, book_of}
+use Rattle.search_world.specs.World.{Steps}
+
+-- What suits the worker suits it once it is opened.
+pub opened_suits : (worker : Standing) (port : Lone) (stops : Bool) → Suits worker (book_of port) → Suits worker (book_of (opened port stops))
+opened_suits worker port stops suits = record {
+  problem = suits.problem;
+  going = inl refl;
+  held = suits.held;
+  some = suits.some;
+  units = suits.units;
+  size = suits.size;
+  most = suits.most;
+}
+
+-- What one request comes to: it is answered, and stands in the log.
+abbrev pub IsStepped : Bool → Lone → Standing → Lone → Standing → Type 0
+IsStepped stops port worker after later =
+    (exchange : Exchange) × Steps stops port worker exchange after later
+    × ((log : List Exchange) → Leads worker.task log worker.state → Leads worker.task (log ++ exchange ∷ []) later.state)
+
+one_step : (stops : Bool) (port after : Lone) (worker later : Standing) (events : List Exchange) → WentBy Turns (opened port stops) after worker later events
+    → length events ≡ 1 → later.waiting ≡ false → IsStepped stops port worker after later
+one_step stops port after worker later [] went one idle = absurd (omega arith)
+one_step stops port after worker later (e ∷ f ∷ es) went one idle = absurd (omega arith)
+one_step stops port after worker later (e ∷ []) went one idle = (
+  e,
+  record {
+    turns = subst (λ (q : Lone). Turns (opened port stops) (path_of worker.task worker.state.frames) e.0 e.1 q) went.port.4.0 went.port.2;
+    goes = subst (λ (s : State). Goes worker.task worker.state e s) went.port.4.1 went.port.3;
+    task = went.task;
+    idle = idle;
+  },
+  went.log,
+)
+
+-- A request that was answered.
+pub stepped : (result : Option WorkEnd) (stops : Bool) (port after : Lone) (worker later : Standing) (events : List Exchange)
+    → WentBy Turns (opened port stops) after worker later events → MatchOption result (length events ≡ 1) (λ (end : WorkEnd). length events ≡ 0)
+    → later.waiting ≡ false → IfNone result (IsStepped stops port worker after later)
+stepped None stops port after worker later events went one idle = one_step stops port after worker later events went one idle
+stepped (Some end) stops port after worker later events went none idle = tt
+
+same_state : (port after : Lone) (worker later : Standing) (events : List Exchange) → WentBy Turns port after worker later events → length events ≡ 0
+    → worker.state ≡ later.state
+same_state port after worker later [] went none = went.port.1
+same_state port after worker later (e ∷ es) went none = absurd (omega arith)
+
+-- A worker that hasn't ended has a request.
+pub not_ended : {P : WorkEnd → Type 0} (result : Option WorkEnd) (port after : Lone) (worker later : Standing) (events : List Exchange)
+    → WentBy Turns port after worker later events → MatchOption result (length events ≡ 1) (λ (end : WorkEnd). length events ≡ 0)
+    → IfSome result (λ (end : WorkEnd). end_of later.state ≡ Some end) → None ≡ end_of worker.state → IfSome result P
+not_ended {P} None port after worker later events went one ended none = tt
+not_ended {P} (Some end) port after worker later events went no_event ended none =
+    let e : None ≡ Some end = none ∙ (ap end_of (same_state port after worker later events went no_event) ∙ ended) in
+    absurd (cc)
