@@ -1,6 +1,6 @@
 -- What a stop counts: how often it was signalled, and how often it was armed. A count is of 64 bits and stops at its last value, 2 ^ 64 - 1, where
 -- no rise can be told.
-use Rattle.std.specs.Prelude.{◌≡◌, ◌<◌, ◌+◌, ◌-◌, ◌^◌, ◌⊎◌, ℕ, min, Option}
+use Rattle.std.specs.Prelude.{◌≡◌, ◌<◌, ◌≤◌, ◌+◌, ◌-◌, ◌^◌, ◌⊎◌, ℕ, min, Option}
 
 -- The count rose, or stands at its last value.
 abbrev pub Rose : ℕ → ℕ → Type 0
@@ -24,5 +24,6 @@ armed_with signal after_ms = record { raised = signal.raised; armed = after_ms; 
 -- The stop once it said that a search is to stop, up to the last value of its count.
 pub record HasSignalled (before after : Signal) : Type 0 where
   pub rose : Rose before.raised after.raised
+  pub of_64_bits : after.raised ≤ 2 ^ 64 - 1
   pub armed : after.armed ≡ before.armed
   pub arms : after.arms ≡ before.arms

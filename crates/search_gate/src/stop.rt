@@ -1,13 +1,12 @@
 // Whether a search is to stop.
-ghost use Rattle.std.proofs.Common.{rules};
-ghost use Rattle.std.specs.Prelude.{◌≡◌, ◌↔◌, ◌≤◌, ◌^◌, ◌-◌, IsTrue, Contains, None, false};
+ghost use Rattle.std.specs.Prelude.{◌≡◌, ◌↔◌, IsTrue, Contains, None, false};
 ghost use Rattle.search_gate.specs.Stop.{one_more, HasSignalled};
 
 /// What tells a worker that it is to stop, a deadline for one. A worker polls it before each unit of work, and nobody else does.
 ///
 /// It tells of itself how often it said so, which never falls and rises only where it does; and how often, and for what, it was armed.
 pub trait Stop: Send {
-    ghost use Rattle.std.specs.Prelude.{◌≡◌, ◌≤◌, ◌^◌, ◌-◌, IsTrue, false};
+    ghost use Rattle.std.specs.Prelude.{◌≡◌, IsTrue, false};
     ghost use Rattle.search_gate.specs.Stop.{Signal, armed_with, HasSignalled};
 
     /// What it tells of itself.
@@ -21,9 +20,6 @@ pub trait Stop: Send {
     fn poll(&mut self) -> bool
         ensures stopped { IsTrue result → HasSignalled (signal self.old) (signal self.new) }
         ensures quiet { result ≡ false → signal self.new ≡ signal self.old };
-
-    // The count is of 64 bits.
-    ghost of_64_bits: { (s : Self) → (signal s).raised ≤ 2 ^ 64 - 1 };
 }
 
 /// A stop that never signals.
@@ -49,8 +45,6 @@ impl QuietStop {
 impl Stop for QuietStop {
     ghost signal = { λ s. record { raised = 0; armed = s.armed; arms = s.arms } };
 
-    ghost of_64_bits = { λ _. Prim.search rules };
-
     fn arm(&mut self, after_ms: Option<u64>) {
         self.armed = after_ms;
         self.arms = self.arms.saturating_add(1);
@@ -69,7 +63,6 @@ pub struct MemStop {
     raised: u64,
     armed: Option<u64>,
     arms: u64,
-    ghost of_64_bits: { raised ≤ 2 ^ 64 - 1 },
 }
 
 impl MemStop {
@@ -102,8 +95,6 @@ impl Stop for MemStop {
     ghost use Rattle.search_gate.specs.Mem.{signal_of};
 
     ghost signal = { signal_of };
-
-    ghost of_64_bits = { λ s. s.of_64_bits };
 
     fn arm(&mut self, after_ms: Option<u64>) {
         self.armed = after_ms;

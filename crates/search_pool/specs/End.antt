@@ -1,10 +1,8 @@
 -- How a search ended.
 use Rattle.std.specs.Prelude.{◌≡◌, ◌⊎◌, List, [], ◌∷◌, Some, None, All, IsSome}
 use Rattle.board_core.specs.Board.{Board}
-use Rattle.notes.specs.Derivation.{Derivation}
 use Rattle.search_gate.specs.Stop.{Signal, Rose}
 use Rattle.unit_desk.specs.Sizes.{SettingsView}
-use Rattle.unit_desk.specs.declared.cause.Cause.{Cause}
 use Rattle.unit_desk.specs.declared.cause.Cause.TheVariants.{Expansions, Room, Height, Stopped}
 use Rattle.visit_log.specs.Visit.{Event as Exchange}
 use Rattle.visit_log.specs.Frame.{task_for}

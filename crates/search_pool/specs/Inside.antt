@@ -1,12 +1,16 @@
 -- What the private functions of this crate say of one another; no public clause cites these.
-use Rattle.std.specs.Prelude.{◌≡◌, ◌⊎◌, Bool, true, false, ℕ, List, Some, None, All, Contains, IsSome}
+use Rattle.std.specs.Prelude.{◌≡◌, ◌⊎◌, Bool, true, false, List, Some, All, Contains, IsSome}
 use Rattle.board_core.specs.Board.{Board}
 use Rattle.notes.specs.declared.words.Draw.TheVariants.{Done, Spent as AllDrawn}
 use Rattle.notes.specs.declared.words.Claim.TheVariants.{NoRoom as Full}
+use Rattle.notes.specs.declared.note.TheConstants.{HEIGHT_LIMIT}
+use Rattle.unit_desk.specs.declared.cause.Cause.{Cause}
+use Rattle.unit_desk.specs.declared.cause.Cause.TheVariants.{Expansions, Room, Height, Stopped as StoppedFirst}
+use Rattle.visit_log.specs.declared.words.WorkEnd.{WorkEnd}
+use Rattle.visit_log.specs.declared.words.WorkEnd.TheVariants.{Spent, NoRoom, TooHigh, Stopped}
 use Rattle.search_gate.specs.Stop.{Signal, Rose}
 use Rattle.unit_desk.specs.Sizes.{SettingsView}
 use Rattle.unit_desk.specs.Desk.{DeskView}
-use Rattle.visit_log.specs.declared.words.Request.TheVariants.{Post}
 use Rattle.visit_log.specs.declared.words.Answer.TheVariants.{Poll as Polled, Draw as Drew, Claim as Claimed, Post as PostedIt}
 use Rattle.visit_log.specs.Frame.{task_for}
 use Rattle.visit_log.specs.Visit.{Event as Exchange}
@@ -68,3 +72,10 @@ pub record IsUnderWay (problem : Board) (s : SettingsView) (before after : Signa
   pub quiet : (All IsOwnStep schedule × (WasSaid says_stop log → ⊥) × (after.raised ≡ before.raised)) ⊎ Rose before.raised after.raised
   pub armed : after.armed ≡ before.armed
   pub arms : after.arms ≡ before.arms
+
+-- The cause names the worker's end, and the setting.
+abbrev pub IsCauseOf : SettingsView → WorkEnd → Cause → Type 0
+IsCauseOf s end (Expansions number) = (number ≡ s.expansions) × (end ≡ Spent)
+IsCauseOf s end (Room number) = (number ≡ s.room) × (end ≡ NoRoom)
+IsCauseOf s end (Height number) = (number ≡ HEIGHT_LIMIT) × (end ≡ TooHigh)
+IsCauseOf s end (StoppedFirst number) = (number ≡ 1) × (end ≡ Stopped)

@@ -1,10 +1,11 @@
 // A search with one worker.
-ghost use Rattle.std.specs.Prelude.{◌≡◌, IfOk, Some};
+ghost use Rattle.std.specs.Prelude.{◌≡◌, IsTrue, IfOk, IfSome, Some, None, true, false, MatchOption};
 ghost use Rattle.unit_desk.specs.Settings.{settings_in};
-ghost use Rattle.visit_log.specs.Machine.{end_of};
-ghost use Rattle.search_gate.specs.Stop.{Signal};
+ghost use Rattle.visit_log.specs.Machine.{asks, end_of};
+ghost use Rattle.worker_core.specs.Machine.{is_poll};
+ghost use Rattle.search_gate.specs.Stop.{HasSignalled};
 ghost use Rattle.search_pool.specs.End.{IsAlone, IsAloneUntil, IsSolution, IsStoppedBy};
-ghost use Rattle.search_pool.specs.Inside.{IsUnderWay};
+ghost use Rattle.search_pool.specs.Inside.{IsUnderWay, IsCauseOf};
 
 use crate::{Crew, SearchEnd};
 use lone_port::LonePort;
@@ -14,8 +15,20 @@ use search_world::step;
 use shogi_rules::Problem;
 use std::alloc::{AllocError, Global};
 use unit_desk::{Cause, Settings};
-use visit_log::WorkEnd;
+use visit_log::{WorkEnd, visit_laws};
 use worker_core::Worker;
+
+// Whether the worker is told to stop at its next request: the stop is polled where that is a poll, and nowhere else.
+fn is_stopped<T: Stop>(worker: &Worker, stop: &mut T) -> bool
+    ensures polls { result ≡ true → is_poll (asks worker.now.state) ≡ true }
+    ensures signalled { result ≡ true → HasSignalled (T.signal stop.old) (T.signal stop.new) }
+    ensures quiet { result ≡ false → T.signal stop.new ≡ T.signal stop.old }
+{
+    if worker.is_polling() {
+        return stop.poll();
+    }
+    false
+}
 
 // Has the worker work over the table and the desk until it has ended, and says how. It polls the stop before each unit and passes the gate behind it.
 fn work_alone<G: Gate, T: Stop>(
@@ -32,7 +45,7 @@ fn work_alone<G: Gate, T: Stop>(
     ensures ended { end_of worker.new.state ≡ Some result }
 {
     'turns: loop {
-        let stops = worker.is_polling() && stop.poll();
+        let stops = is_stopped(worker, stop);
         let drawn = port.drawn();
         if let Some(end) = step(alloc, port, worker, stops) {
             return end;
@@ -43,8 +56,10 @@ fn work_alone<G: Gate, T: Stop>(
     }
 }
 
-// Why a search gave up whose worker ended so; none where that was for want of memory. (Where it ended with Posted, a note is posted.)
-fn cause_of(end: WorkEnd, settings: &Settings) -> Option<Cause> {
+// Why a search gave up whose worker ended so; none where that was for want of memory. (Where the worker ended since a note is posted there is one.)
+fn cause_of(settings: &Settings, end: WorkEnd) -> Option<Cause>
+    ensures { IfSome result (IsCauseOf (settings_in settings.now) end) }
+{
     match end {
         WorkEnd::Spent => Some(Cause::Expansions(settings.expansions)),
         WorkEnd::NoRoom => Some(Cause::Room(settings.room)),
@@ -52,4 +67,53 @@ fn cause_of(end: WorkEnd, settings: &Settings) -> Option<Cause> {
         WorkEnd::Stopped => Some(Cause::Stopped(1)),
         WorkEnd::Posted | WorkEnd::NoMemory => None,
     }
+}
+
+/// Searches a problem with one worker, whatever the settings say of workers: it works under its own steps till it has ended. Where a note is
+/// posted, that note answers the problem; else the search gave up, for the cause that the worker's end names, and the worker comes with it.
+/// The gate is passed for each unit, as worker 1. The stop is polled before each unit; where it says that the worker is to stop, that is told
+/// to its poll. Takes the table's memory at once: about 1 KB a row. Errors: want of memory alone. (df-pn: Nagai 2002.)
+pub fn search_alone_until<G: Gate, T: Stop>(
+    alloc: Global,
+    problem: &Problem,
+    settings: &Settings,
+    gate: &G,
+    stop: &mut T,
+) -> Result<SearchEnd, AllocError>
+    // It answers what the world of one worker does, in which a stop is signalled only where the stop's count rose.
+    ensures alone { IfOk result (IsAloneUntil problem.now.position (settings_in settings.now) (T.signal stop.old) (T.signal stop.new)) }
+    // A note that solves it is valid, holds on every path, is about the problem's position and for its attacker.
+    ensures solution { IfOk result (IsSolution problem.now.position) }
+    ensures stopped { IfOk result (IsStoppedBy (T.signal stop.old) (T.signal stop.new)) }
+    // A stop is polled, and nothing else.
+    ensures armed { (T.signal stop.new).armed ≡ (T.signal stop.old).armed }
+    ensures arms { (T.signal stop.new).arms ≡ (T.signal stop.old).arms }
+{
+    let mut port = LonePort::make(alloc, problem, settings)?;
+    let mut worker = Worker::make(alloc, problem, 1);
+    let end = work_alone(alloc, problem, settings, &mut port, &mut worker, gate, stop);
+    port.laws();
+    worker.laws();
+    visit_laws();
+    if let Some(note) = port.into_note() {
+        note.laws();
+        return Ok(SearchEnd::Solved(note));
+    }
+    let Some(cause) = cause_of(settings, end) else {
+        return Err(AllocError);
+    };
+    Ok(SearchEnd::Unknown(cause, Crew::new(vec![in alloc; worker]?)))
+}
+
+/// The same with a gate that holds nobody up, and a stop that never signals: it answers what the world of one worker does under its own
+/// steps. Errors: want of memory alone.
+pub fn search_alone(
+    alloc: Global,
+    problem: &Problem,
+    settings: &Settings,
+) -> Result<SearchEnd, AllocError>
+    ensures alone { IfOk result (IsAlone problem.now.position (settings_in settings.now)) }
+    ensures solution { IfOk result (IsSolution problem.now.position) }
+{
+    search_alone_until(alloc, problem, settings, &OpenGate, &mut QuietStop::new())
 }

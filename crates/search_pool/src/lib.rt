@@ -6,8 +6,6 @@
 
 mod alone;
 mod end;
-#[cfg(test)]
-mod tests;
 
 pub use alone::{search_alone, search_alone_until};
 pub use end::{Crew, SearchEnd};

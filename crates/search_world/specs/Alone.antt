@@ -1,11 +1,10 @@
 -- The world of one worker: how a search goes that is alone.
-use Rattle.std.specs.Prelude.{◌≡◌, ◌+◌, ℕ, Bool, List, [], ◌∷◌, Some, None, All, map, Contains}
+use Rattle.std.specs.Prelude.{◌≡◌, ℕ, Bool, List, [], ◌∷◌, Some, All, map}
 use Rattle.board_core.specs.Board.{Board}
 use Rattle.notes.specs.declared.note.TheConstants.{HEIGHT_LIMIT}
 use Rattle.unit_desk.specs.Sizes.{SettingsView}
 use Rattle.unit_desk.specs.declared.cause.Cause.{Cause}
 use Rattle.unit_desk.specs.declared.cause.Cause.TheVariants.{Expansions, Room, Height, Stopped as StoppedFirst}
-use Rattle.visit_log.specs.declared.words.WorkEnd.{WorkEnd}
 use Rattle.visit_log.specs.declared.words.WorkEnd.TheVariants.{Spent, NoRoom, TooHigh, Stopped}
 use Rattle.visit_log.specs.Visit.{Event as Exchange}
 use Rattle.visit_log.specs.Machine.{end_of}

@@ -1,9 +1,7 @@
 -- A world: a table and a desk that several workers share, and what happens in it, one thing after the other, by any schedule.
-use Rattle.std.specs.Prelude.{◌≡◌, ◌+◌, ◌++◌, ◌⊎◌, ℕ, Bool, true, false, List, [], ◌∷◌, None, replicate, slice_get, slice_set, slice_index_or, if◌then◌else◌}
+use Rattle.std.specs.Prelude.{◌≡◌, ◌+◌, ◌++◌, ◌⊎◌, ℕ, zero, suc, Bool, true, false, List, [], ◌∷◌, Some, None, replicate, slice_get, slice_set, slice_index_or, if◌then◌else◌}
 use Rattle.board_core.specs.Board.{Board}
 use Rattle.unit_desk.specs.Sizes.{SettingsView}
-use Rattle.visit_log.specs.declared.words.Request.{Request}
-use Rattle.visit_log.specs.declared.words.Request.TheVariants.{Poll}
 use Rattle.visit_log.specs.Visit.{Event as Exchange}
 use Rattle.visit_log.specs.Machine.{path_of, starve, end_of}
 use Rattle.visit_log.specs.Run.{Standing}
@@ -46,7 +44,7 @@ world_at_first problem s = record {
 
 -- The worker of this number, from 1, stands at this place, from 0, and hasn't ended.
 pub record IsAtWork (world : World) (number place : ℕ) (worker : Standing) : Type 0 where
-  pub number : number ≡ place + 1
+  pub numbered : number ≡ place + 1
   pub there : slice_get world.workers place ≡ Some worker
   pub goes_on : end_of worker.state ≡ None
 

@@ -5,7 +5,7 @@
 #![tactic(auto)]
 
 mod event;
-mod step;
+mod stepping;
 
 pub use event::Event;
-pub use step::step;
+pub use stepping::step;

@@ -1,5 +1,5 @@
 // One request of a worker in a world.
-ghost use Rattle.std.specs.Prelude.{◌≡◌, ◌<◌, ◌++◌, ◌∷◌, [], List, false, Some, IfSome, IfNone};
+ghost use Rattle.std.specs.Prelude.{◌≡◌, ◌<◌, ◌++◌, ◌∷◌, [], List, false, Some, None, IfSome, IfNone};
 ghost use Rattle.visit_log.specs.Machine.{end_of};
 ghost use Rattle.visit_log.specs.Visit.{Event as Exchange};
 ghost use Rattle.visit_log.specs.Run.{Leads};
@@ -30,6 +30,7 @@ pub fn step(
     ensures steps { IfNone result ((exchange : Exchange) × Steps stops port.old worker.old exchange port.new worker.new
         × ((log : List Exchange) → Leads worker.old.task log worker.old.state → Leads worker.old.task (log ++ exchange ∷ []) worker.new.state)) }
     ensures others { KeepsOthers worker.old worker.new (book_of port.old) (book_of port.new) }
+    ensures goes_on { IfNone result (end_of worker.old.state ≡ None) }
     ensures less { IfNone result (to_come worker.new.state < to_come worker.old.state) }
     ensures ended { IfSome result (λ end. (end_of worker.old.state ≡ Some end) × (worker.new ≡ worker.old) × (port.new ≡ port.old)) }
 {

@@ -1,0 +1,187 @@
+-- How a search with one worker begins and ends.
+use Rattle.std.proofs.Common.{◌≡◌, ◌⊎◌, inl, inr, ℕ, List, [], ◌∷◌, refl, sym, ap, ◌∙◌, subst, arith, Bool, true, false}
+use Rattle.std.specs.Prelude.{Some, None, Result, Ok, Err, All, IsSome, IfOk}
+use Rattle.std.proofs.lemmas.List.Elements.{All-nil}
+use Rattle.board_core.specs.Board.{Board}
+use Rattle.notes.specs.Derivation.{Derivation}
+use Rattle.notes.specs.declared.words.Draw.TheVariants.{Spent as AllDrawn}
+use Rattle.notes.specs.declared.words.Claim.TheVariants.{NoRoom as Full}
+use Rattle.unit_desk.specs.Sizes.{SettingsView}
+use Rattle.unit_desk.specs.declared.cause.Cause.{Cause}
+use Rattle.unit_desk.specs.declared.cause.Cause.TheVariants.{Expansions, Room, Height, Stopped as StoppedFirst}
+use Rattle.visit_log.specs.declared.words.WorkEnd.{WorkEnd}
+use Rattle.visit_log.specs.declared.words.WorkEnd.TheVariants.{Spent, NoRoom, Stopped}
+use Rattle.visit_log.specs.Visit.{Event as Exchange, IsVisitLog, drew, claimed, polled}
+use Rattle.visit_log.specs.Frame.{Task, task_for}
+use Rattle.visit_log.specs.Machine.{end_of}
+use Rattle.visit_log.specs.Run.{Standing, Leads, IsReached, now_at}
+use Rattle.visit_log.specs.Laws.{EndsHaveCauses}
+use Rattle.worker_core.specs.Port.{Suits}
+use Rattle.lone_port.specs.Lone.{Lone, alone_at_first, worker_at_first, book_of}
+use Rattle.search_gate.specs.Stop.{Signal, Rose}
+use Rattle.search_world.specs.declared.event.Event.{Event}
+use Rattle.search_world.specs.Alone.{IsOwn, IsOwnStep, RunsAlone, HasCause}
+use Rattle.search_pool.specs.declared.end.SearchEnd.{SearchEnd}
+use Rattle.search_pool.specs.declared.end.SearchEnd.TheVariants.{Solved, Unknown}
+use Rattle.search_pool.specs.End.{IsAlone, IsAloneUntil, IsStoppedBy}
+use Rattle.search_pool.specs.Inside.{WasSaid, says_stop, IsUnderWay, IsCauseOf}
+
+-- 1. THE BEGINNING.
+
+nothing_said : (says : Exchange → Bool) → WasSaid says [] → ⊥
+nothing_said says w = let low = w.1.1 in omega (arith, low)
+
+at_first : (problem : Board) (s : SettingsView) (signal : Signal) → Suits (worker_at_first problem 1) (book_of (alone_at_first problem s.expansions s.room s.rows))
+    → IsUnderWay problem s signal signal (alone_at_first problem s.expansions s.room s.rows) (worker_at_first problem 1)
+at_first problem s signal suits = record {
+  schedule = [];
+  log = [];
+  own = All-nil IsOwn;
+  plays = (refl, refl);
+  leads = record { happenings = []; runs = refl; logged = refl };
+  task = refl;
+  idle = refl;
+  suits = suits;
+  desk = record {
+    spent = λ w. absurd (nothing_said _ w);
+    full = λ w. absurd (nothing_said _ w);
+    posted = λ w. absurd (nothing_said _ w);
+  };
+  expansions = refl;
+  room = refl;
+  units = refl;
+  rooms = refl;
+  quiet = inl (All-nil IsOwnStep, nothing_said says_stop, refl);
+  armed = refl;
+  arms = refl;
+}
+
+-- A search with one worker is under way before anything happens.
+pub begun : (problem : Board) (s : SettingsView) (signal : Signal) (port : Lone) (worker : Standing) → port ≡ alone_at_first problem s.expansions s.room s.rows
+    → worker ≡ worker_at_first problem 1 → ((number : ℕ) → Suits (worker_at_first problem number) (book_of port)) → IsUnderWay problem s signal signal port worker
+begun problem s signal port worker ep ew suits =
+    subst (λ (p : Lone). IsUnderWay problem s signal signal p worker) (sym ep)
+    (subst (IsUnderWay problem s signal signal (alone_at_first problem s.expansions s.room s.rows)) (sym ew)
+    (at_first problem s signal (subst (λ (p : Lone). Suits (worker_at_first problem 1) (book_of p)) ep (suits 1))))
+
+-- 2. THE END.
+
+reached : (problem : Board) (worker : Standing) (log : List Exchange) → worker.task ≡ task_for problem 1 → worker.waiting ≡ false → Leads (task_for problem 1) log worker.state
+    → IsReached worker log
+reached problem worker log task idle leads = record {
+  state = worker.state;
+  leads = subst (λ (t : Task). Leads t log worker.state) (sym task) leads;
+  now = ap (λ (b : Bool). now_at b worker.state) (sym idle);
+}
+
+runs : (problem : Board) (s : SettingsView) (before after : Signal) (port : Lone) (worker : Standing) (way : IsUnderWay problem s before after port worker)
+    → RunsAlone problem s way.schedule way.log port worker
+runs problem s before after port worker way = record {
+  own = way.own;
+  raised = false;
+  plays = way.plays;
+  reached = reached problem worker way.log way.task way.idle way.leads;
+}
+
+quietly : (before after : Signal) (schedule : List Event) (log : List Exchange)
+    → (All IsOwnStep schedule × (WasSaid says_stop log → ⊥) × (after.raised ≡ before.raised)) ⊎ Rose before.raised after.raised
+    → All IsOwnStep schedule ⊎ Rose before.raised after.raised
+quietly before after schedule log (inl q) = inl q.0
+quietly before after schedule log (inr q) = inr q
+
+-- With a note that is posted.
+pub ends_solved : (problem : Board) (s : SettingsView) (before after : Signal) (port : Lone) (worker : Standing) (end : WorkEnd) (note : Derivation)
+    → IsUnderWay problem s before after port worker → end_of worker.state ≡ Some end → Some note ≡ port.desk.posted → IsAloneUntil problem s before after (Solved note)
+ends_solved problem s before after port worker end note way ended posted = (
+  way.schedule,
+  quietly before after way.schedule way.log way.quiet,
+  record {
+    log = way.log;
+    port = port;
+    worker = worker;
+    runs = runs problem s before after port worker way;
+    ended = subst IsSome (sym ended) refl;
+    outcome = sym posted;
+  },
+)
+
+visit_log : (problem : Board) (worker : Standing) (log : List Exchange) (end : WorkEnd) → worker.task ≡ task_for problem 1 → worker.waiting ≡ false
+    → Leads (task_for problem 1) log worker.state → end_of worker.state ≡ Some end
+    → ((l : List Exchange) (e : WorkEnd) → IsReached worker l → end_of worker.state ≡ Some e → IsVisitLog worker.task l e) → IsVisitLog worker.task log end
+visit_log problem worker log end task idle leads ended whole = whole log end (reached problem worker log task idle leads) ended
+
+cause_by : (problem : Board) (s : SettingsView) (before after : Signal) (port : Lone) (worker : Standing) (end : WorkEnd) (cause : Cause)
+    → IsUnderWay problem s before after port worker → end_of worker.state ≡ Some end → EndsHaveCauses
+    → ((l : List Exchange) (e : WorkEnd) → IsReached worker l → end_of worker.state ≡ Some e → IsVisitLog worker.task l e) → IsCauseOf s end cause
+    → HasCause s worker cause
+cause_by problem s before after port worker end (Expansions number) way ended law whole is =
+    let spent : end_of worker.state ≡ Some Spent = ended ∙ ap Some is.1 in
+    let told = law worker.task way.log Spent (visit_log problem worker way.log Spent way.task way.idle way.leads spent whole) in
+    let all = way.desk.spent (drew AllDrawn, told, refl) in
+    (is.0, spent, sym way.units ∙ (all ∙ (way.expansions ∙ sym is.0)))
+cause_by problem s before after port worker end (Room number) way ended law whole is =
+    let full : end_of worker.state ≡ Some NoRoom = ended ∙ ap Some is.1 in
+    let told = law worker.task way.log NoRoom (visit_log problem worker way.log NoRoom way.task way.idle way.leads full whole) in
+    let all = way.desk.full (claimed Full, told, refl) in
+    (is.0, full, sym way.rooms ∙ (all ∙ (way.room ∙ sym is.0)))
+cause_by problem s before after port worker end (Height number) way ended law whole is = (is.0, ended ∙ ap Some is.1)
+cause_by problem s before after port worker end (StoppedFirst number) way ended law whole is = (is.0, ended ∙ ap Some is.1)
+
+-- Without one, for a cause.
+pub ends_unknown : (problem : Board) (s : SettingsView) (before after : Signal) (port : Lone) (worker : Standing) (end : WorkEnd) (cause : Cause) (crew : List Standing)
+    → IsUnderWay problem s before after port worker → end_of worker.state ≡ Some end → EndsHaveCauses
+    → ((l : List Exchange) (e : WorkEnd) → IsReached worker l → end_of worker.state ≡ Some e → IsVisitLog worker.task l e) → IsCauseOf s end cause
+    → port.desk.posted ≡ None → crew ≡ worker ∷ [] → IsAloneUntil problem s before after (Unknown cause crew)
+ends_unknown problem s before after port worker end cause crew way ended law whole is none one = (
+  way.schedule,
+  quietly before after way.schedule way.log way.quiet,
+  record {
+    log = way.log;
+    port = port;
+    worker = worker;
+    runs = runs problem s before after port worker way;
+    ended = subst IsSome (sym ended) refl;
+    outcome = (none, one, cause_by problem s before after port worker end cause way ended law whole is);
+  },
+)
+
+-- That it was stopped is told only where a stop was signalled.
+pub ends_stopped : (problem : Board) (s : SettingsView) (before after : Signal) (port : Lone) (worker : Standing) (end : WorkEnd) (cause : Cause) (crew : List Standing)
+    → IsUnderWay problem s before after port worker → end_of worker.state ≡ Some end → EndsHaveCauses
+    → ((l : List Exchange) (e : WorkEnd) → IsReached worker l → end_of worker.state ≡ Some e → IsVisitLog worker.task l e) → IsCauseOf s end cause
+    → IsStoppedBy before after (Unknown cause crew)
+ends_stopped problem s before after port worker end (Expansions number) crew way ended law whole is = tt
+ends_stopped problem s before after port worker end (Room number) crew way ended law whole is = tt
+ends_stopped problem s before after port worker end (Height number) crew way ended law whole is = tt
+ends_stopped problem s before after port worker end (StoppedFirst number) crew way ended law whole is =
+    let stopped : end_of worker.state ≡ Some Stopped = ended ∙ ap Some is.1 in
+    let told = law worker.task way.log Stopped (visit_log problem worker way.log Stopped way.task way.idle way.leads stopped whole) in
+    by_quiet way.quiet (polled true, told, refl)
+  where
+    by_quiet : (All IsOwnStep way.schedule × (WasSaid says_stop way.log → ⊥) × (after.raised ≡ before.raised)) ⊎ Rose before.raised after.raised
+        → WasSaid says_stop way.log → Rose before.raised after.raised
+    by_quiet (inl q) w = absurd (q.1 w)
+    by_quiet (inr q) w = q
+
+-- 3. NO STOP.
+
+-- What a search with a stop whose count stays answers is what it answers alone.
+pub alone_by : (problem : Board) (s : SettingsView) (before after : Signal) (end : SearchEnd) → (Rose before.raised after.raised → ⊥)
+    → IsAloneUntil problem s before after end → IsAlone problem s end
+alone_by problem s before after end never until = (until.0, by_schedule until.1, until.2)
+  where
+    by_schedule : All IsOwnStep until.0 ⊎ Rose before.raised after.raised → All IsOwnStep until.0
+    by_schedule (inl own) = own
+    by_schedule (inr rose) = absurd (never rose)
+
+-- A count that stays nought didn't rise.
+never : Rose 0 0 → ⊥
+never (inl low) = omega (arith, low)
+never (inr high) = omega (arith, high)
+
+-- So with a stop that never signals.
+pub alone_quietly : {E : Type 0} (result : Result SearchEnd E) (problem : Board) (s : SettingsView) (before after : Signal) → before.raised ≡ 0 → after.raised ≡ 0
+    → IfOk result (IsAloneUntil problem s before after) → IfOk result (IsAlone problem s)
+alone_quietly (Ok end) problem s before after one two until =
+    alone_by problem s before after end (λ rose. never (subst (λ (n : ℕ). Rose n 0) one (subst (Rose before.raised) two rose))) until
+alone_quietly (Err error) problem s before after one two until = tt

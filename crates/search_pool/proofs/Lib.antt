@@ -1,0 +1,5 @@
+-- Lemmas about searches with one worker.
+pub mod Desk
+pub mod Quiet
+pub mod Way
+pub mod Ends

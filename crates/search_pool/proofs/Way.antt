@@ -1,0 +1,175 @@
+-- A search with one worker goes on by one request.
+use Rattle.std.proofs.Common.{◌≡◌, ◌⊎◌, inl, inr, ℕ, List, [], ◌∷◌, ◌++◌, arith, refl, sym, ap, ◌∙◌, subst, append_assoc, Bool, true, false}
+use Rattle.std.specs.Prelude.{Some, None, All, if◌then◌else◌}
+use Rattle.std.proofs.lemmas.List.{map_push}
+use Rattle.std.proofs.lemmas.List.Elements.{All-push, All-append, All-cons, All-nil}
+use Rattle.board_core.specs.Board.{Board}
+use Rattle.unit_desk.specs.Sizes.{SettingsView}
+use Rattle.visit_log.specs.Visit.{Event as Exchange}
+use Rattle.visit_log.specs.Frame.{Task}
+use Rattle.visit_log.specs.Machine.{State, asks, end_of, path_of}
+use Rattle.visit_log.specs.Run.{Standing, Leads}
+use Rattle.worker_core.specs.Machine.{is_poll}
+use Rattle.worker_core.specs.Port.{Suits, KeepsOthers, Goes}
+use Rattle.lone_port.specs.Lone.{Lone, book_of, opened}
+use Rattle.search_gate.specs.Stop.{Signal, Rose, HasSignalled}
+use Rattle.search_world.specs.declared.event.Event.{Event}
+use Rattle.search_world.specs.declared.event.Event.TheVariants.{Step, Raise}
+use Rattle.search_world.specs.World.{World, Steps, IsAtWork, StepsAt, Plays, world_at_first}
+use Rattle.search_world.specs.Alone.{IsOwn, IsOwnStep, for_one, told_to_one, world_of}
+use Rattle.search_pool.specs.Inside.{says_stop, WasSaid, IsUnderWay}
+use Rattle.search_pool.proofs.Desk.{told_on, limits_stay}
+use Rattle.search_pool.proofs.Quiet.{says_no, rose_on}
+
+-- 1. SCHEDULES, ONE BEHIND THE OTHER.
+
+plays_then : (es fs : List Event) (w v u : World) (one two : List (ℕ × Exchange)) → Plays w es one v → Plays v fs two u → Plays w (es ++ fs) (one ++ two) u
+plays_then [] fs w v u one two h k =
+    subst (λ (z : List (ℕ × Exchange)). Plays w fs (z ++ two) u) (sym h.0) (subst (λ (z : World). Plays z fs two u) (sym h.1) k)
+plays_then (e ∷ es) fs w v u one two h k = (
+  h.0,
+  h.1 ++ two,
+  h.2,
+  h.3,
+  plays_then es fs h.2 v u h.1 two h.4 k,
+  ap (λ (z : List (ℕ × Exchange)). z ++ two) h.5 ∙ append_assoc h.0 h.1 two,
+)
+
+-- 2. ONE REQUEST.
+
+goes_asks : (task : Task) (s t : State) (x : Exchange) → Goes task s x t → x.0 ≡ asks s
+goes_asks task s t (q, None) h = h.0
+goes_asks task s t (q, Some a) h = h.0
+
+at_work : (port : Lone) (worker : Standing) (raised : Bool) → end_of worker.state ≡ None → IsAtWork (world_of port worker raised) 1 0 worker
+at_work port worker raised going = record { numbered = refl; there = refl; goes_on = going }
+
+either : (b : Bool) (xs : List Bool) → xs ≡ (if b then xs else xs)
+either true xs = refl
+either false xs = refl
+
+-- The worker's step, where no stop is signalled.
+step_quietly : (port after : Lone) (worker later : Standing) (x : Exchange) → end_of worker.state ≡ None → Steps false port worker x after later
+    → Plays (world_of port worker false) (Step 1 ∷ []) ((1, x) ∷ []) (world_of after later false)
+step_quietly port after worker later x going steps =
+    let at : StepsAt (world_of port worker false) 0 worker x (world_of after later false) =
+    record { later = later; steps = steps; workers = refl; raised = either (is_poll x.0) (false ∷ []) } in (
+      (1, x) ∷ [],
+      [],
+      world_of after later false,
+      inl (0, worker, x, at_work port worker false going, at, refl),
+      (refl, refl),
+      refl,
+    )
+
+cleared : (b : Bool) → b ≡ true → (false ∷ []) ≡ (if b then false ∷ [] else true ∷ [])
+cleared true e = refl
+cleared false e = absurd (cc)
+
+-- A stop is signalled, and its step.
+step_stopped : (port after : Lone) (worker later : Standing) (x : Exchange) → end_of worker.state ≡ None → is_poll x.0 ≡ true → Steps true port worker x after later
+    → Plays (world_of port worker false) (Raise 1 ∷ Step 1 ∷ []) ((1, x) ∷ []) (world_of after later false)
+step_stopped port after worker later x going polls steps =
+    let at : StepsAt (world_of port worker true) 0 worker x (world_of after later false) =
+    record { later = later; steps = steps; workers = refl; raised = cleared (is_poll x.0) polls } in
+    let next : Plays (world_of port worker true) (Step 1 ∷ []) ((1, x) ∷ []) (world_of after later false) = (
+      (1, x) ∷ [],
+      [],
+      world_of after later false,
+      inl (0, worker, x, at_work port worker true going, at, refl),
+      (refl, refl),
+      refl,
+    ) in
+    ([], (1, x) ∷ [], world_of port worker true, inl (0, worker, at_work port worker false going, refl, refl), next, refl)
+
+-- 3. WHAT BECOMES OF A SEARCH UNDER WAY.
+
+-- What the schedule is, and what the stop counts, behind a request: nothing is signalled, or the count rose.
+abbrev IsQuiet : Signal → Signal → List Event → List Exchange → Type 0
+IsQuiet before after schedule log =
+    (All IsOwnStep schedule × (WasSaid says_stop log → ⊥) × (after.raised ≡ before.raised)) ⊎ Rose before.raised after.raised
+
+said_before : (log : List Exchange) (x : Exchange) → (WasSaid says_stop log → ⊥) → says_stop x ≡ false → WasSaid says_stop (log ++ x ∷ []) → ⊥
+said_before log x none not w =
+    elim (Rattle.std.proofs.lemmas.List.Elements.Contains-push_cases log x w.0 w.1) as (λ _. ⊥) [
+      | inl there ↦ none (w.0, there, w.2)
+      | inr e ↦ (let b : false ≡ true = sym not ∙ (ap says_stop e ∙ w.2) in absurd (cc))
+    ]
+
+-- All that is known of one request of the search.
+pub record IsRequest (before mid after : Signal) (stops : Bool) (port : Lone) (worker : Standing) (x : Exchange) (next : Lone) (later : Standing) : Type 0 where
+  pub going : end_of worker.state ≡ None
+  pub polls : stops ≡ true → is_poll (asks worker.state) ≡ true
+  pub signalled : stops ≡ true → HasSignalled mid after
+  pub unmoved : stops ≡ false → after ≡ mid
+  pub steps : Steps stops port worker x next later
+  pub leads : (log : List Exchange) → Leads worker.task log worker.state → Leads worker.task (log ++ x ∷ []) later.state
+  pub suits : Suits later (book_of next)
+  pub keeps : KeepsOthers worker later (book_of port) (book_of next)
+
+abbrev new_events : Bool → List Event
+new_events true = Raise 1 ∷ Step 1 ∷ []
+new_events false = Step 1 ∷ []
+
+own_events : (stops : Bool) → All IsOwn (new_events stops)
+own_events true = All-cons IsOwn (Raise 1) (Step 1 ∷ []) refl (All-cons IsOwn (Step 1) [] refl (All-nil IsOwn))
+own_events false = All-cons IsOwn (Step 1) [] refl (All-nil IsOwn)
+
+plays_one : (stops : Bool) (port next : Lone) (worker later : Standing) (x : Exchange) → end_of worker.state ≡ None → (stops ≡ true → is_poll x.0 ≡ true)
+    → Steps stops port worker x next later → Plays (world_of port worker false) (new_events stops) ((1, x) ∷ []) (world_of next later false)
+plays_one true port next worker later x going polls steps = step_stopped port next worker later x going (polls refl) steps
+plays_one false port next worker later x going polls steps = step_quietly port next worker later x going steps
+
+quiet_on : (before mid after : Signal) (stops : Bool) (port : Lone) (worker : Standing) (x : Exchange) (next : Lone) (later : Standing) (schedule : List Event) (log : List Exchange)
+    → IsRequest before mid after stops port worker x next later → IsQuiet before mid schedule log → IsQuiet before after (schedule ++ new_events stops) (log ++ x ∷ [])
+quiet_on before mid after true port worker x next later schedule log r (inl q) =
+    inr (subst (λ (n : ℕ). Rose n after.raised) q.2 ((r.signalled refl).rose))
+quiet_on before mid after true port worker x next later schedule log r (inr q) = inr (rose_on before.raised mid.raised after.raised (r.signalled refl).of_64_bits q (r.signalled refl).rose)
+quiet_on before mid after false port worker x next later schedule log r (inl q) =
+    let no = says_no (opened port false) (path_of worker.task worker.state.frames) x.0 x.1 next r.steps.turns refl in
+    inl (
+      All-push IsOwnStep schedule (Step 1) q.0 refl,
+      said_before log x q.1 no,
+      ap (λ (z : Signal). z.raised) (r.unmoved refl) ∙ q.2,
+    )
+quiet_on before mid after false port worker x next later schedule log r (inr q) = inr (subst (λ (z : Signal). Rose before.raised z.raised) (sym (r.unmoved refl)) q)
+
+armed_on : (before mid after : Signal) (stops : Bool) (port : Lone) (worker : Standing) (x : Exchange) (next : Lone) (later : Standing)
+    → IsRequest before mid after stops port worker x next later → mid.armed ≡ before.armed → mid.arms ≡ before.arms
+    → (after.armed ≡ before.armed) × (after.arms ≡ before.arms)
+armed_on before mid after true port worker x next later r one two = ((r.signalled refl).armed ∙ one, (r.signalled refl).arms ∙ two)
+armed_on before mid after false port worker x next later r one two =
+    (ap (λ (z : Signal). z.armed) (r.unmoved refl) ∙ one, ap (λ (z : Signal). z.arms) (r.unmoved refl) ∙ two)
+
+abbrev tagged : Exchange → ℕ × Exchange
+tagged x = (1, x)
+
+-- A search under way goes on by one request.
+pub on_way : (problem : Board) (s : SettingsView) (before mid after : Signal) (stops : Bool) (port : Lone) (worker : Standing) (x : Exchange) (next : Lone) (later : Standing)
+    → IsUnderWay problem s before mid port worker → IsRequest before mid after stops port worker x next later → IsUnderWay problem s before after next later
+on_way problem s before mid after stops port worker x next later way r =
+    let polls : stops ≡ true → is_poll x.0 ≡ true = λ e. ap is_poll (goes_asks worker.task worker.state later.state x r.steps.goes) ∙ r.polls e in
+    let limits = limits_stay x port next stops (path_of worker.task worker.state.frames) r.steps.turns in
+    let armed = armed_on before mid after stops port worker x next later r way.armed way.arms in
+    record {
+      schedule = way.schedule ++ new_events stops;
+      log = way.log ++ x ∷ [];
+      own = All-append IsOwn way.schedule (new_events stops) way.own (own_events stops);
+      plays = subst (λ (z : List (ℕ × Exchange)). Plays (world_at_first problem (for_one s)) (way.schedule ++ new_events stops) z (world_of next later false))
+          (sym (map_push tagged way.log x))
+          (plays_then way.schedule (new_events stops) (world_at_first problem (for_one s)) (world_of port worker false) (world_of next later false) (told_to_one way.log) ((1, x) ∷ []) way.plays
+          (plays_one stops port next worker later x r.going polls r.steps));
+      leads = subst (λ (t : Task). Leads t (way.log ++ x ∷ []) later.state) way.task
+          (r.leads way.log (subst (λ (t : Task). Leads t way.log worker.state) (sym way.task) way.leads));
+      task = r.steps.task ∙ way.task;
+      idle = r.steps.idle;
+      suits = r.suits;
+      desk = told_on way.log x port next stops (path_of worker.task worker.state.frames) way.desk r.steps.turns;
+      expansions = limits.0 ∙ way.expansions;
+      room = limits.1 ∙ way.room;
+      units = (let k = r.keeps.units in let u = way.units in omega (arith, k, u));
+      rooms = (let k = r.keeps.rooms in let u = way.rooms in omega (arith, k, u));
+      quiet = quiet_on before mid after stops port worker x next later way.schedule way.log r way.quiet;
+      armed = armed.0;
+      arms = armed.1;
+    }
