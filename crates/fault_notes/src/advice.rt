@@ -2,6 +2,7 @@
 use crate::look::Look;
 use board_core::BadPosition;
 use cert_text::CertFault;
+use kif_text::KifFault;
 use sfen_text::TextFault;
 
 /// What is said of a text that looks like something else than a problem; none where it doesn't.
@@ -10,15 +11,28 @@ pub(crate) fn advice_on_problem_look(look: Look) -> Option<&'static str> {
         Look::Blank => Some(
             "The input is empty. A problem is one line, an SFEN: the board, the side to\nmove, and the hands.\n",
         ),
-        Look::GaveUp | Look::Answer | Look::AnswerWithReturns => Some(
-            "This looks like an answer of `tsume solve`. `tsume check` reads those; the\nproblem itself stands behind the word `problem`.\n",
-        ),
+        Look::GaveUp | Look::Answer | Look::AnswerWithReturns => Some(ON_ANSWER),
         Look::Quoted => Some("Leave out the quotes: they are no part of an SFEN.\n"),
         Look::Start => Some(
             "`startpos`, the start of a game, is no tsume problem. Give the position as an\nSFEN.\n",
         ),
         Look::ByteOrderMark | Look::Utf16 | Look::Record => advice_on_bytes(look),
         Look::Other => None,
+    }
+}
+
+const ON_ANSWER: &str =
+    "This looks like an answer of `tsume solve`. `tsume check` reads those; the\nproblem itself stands behind the word `problem`.\n";
+
+/// What is said of a text that looks like something else than a KIF file; none where it doesn't.
+pub(crate) fn advice_on_diagram_look(look: Look) -> Option<&'static str> {
+    match look {
+        Look::Blank => Some(
+            "The input is empty. With --kif a problem is the board diagram of a KIF file.\n",
+        ),
+        Look::Utf16 => Some("The text looks like UTF-16. Save it as UTF-8.\n"),
+        Look::GaveUp | Look::Answer | Look::AnswerWithReturns => Some(ON_ANSWER),
+        Look::ByteOrderMark | Look::Record | Look::Quoted | Look::Start | Look::Other => None,
     }
 }
 
@@ -46,7 +60,7 @@ fn advice_on_bytes(look: Look) -> Option<&'static str> {
         ),
         Look::Utf16 => Some("The text looks like UTF-16. Save it as ASCII.\n"),
         Look::Record => Some(
-            "This looks like a game record or a diagram (KIF, KI2, BOD or CSA), which isn't\nread. Most shogi programs copy a position as SFEN: give that line.\n",
+            "This looks like a game record or a diagram. `tsume solve --kif` reads the board\ndiagram of a KIF file in UTF-8; of any other, copy the position as SFEN.\n",
         ),
         _ => None,
     }
@@ -94,6 +108,44 @@ fn advice_on_position(fault: BadPosition) -> &'static str {
         BadPosition::TwoPawns(_) => { "A side has at most one unpromoted pawn on a file.\n" }
     }
 }
+
+/// What was expected where a text stops being a diagram's, and what a position needs.
+pub(crate) fn advice_on_diagram(fault: KifFault) -> &'static str {
+    match fault {
+        KifFault::NotUtf8(_) => {
+            "Expected: UTF-8. Many KIF files are Shift-JIS, which can be converted:\niconv -f CP932 -t UTF-8 FILE | tsume solve --kif\n"
+        }
+        KifFault::HandicapName(_) => {
+            "Names of a handicap game aren't read. Write 先手 for 下手 (Black) and 後手 for\n上手 (White), or leave the line out.\n"
+        }
+        KifFault::BadCell(10, _) => {
+            "Expected: nine rows. This is a tenth line that begins with |.\n"
+        }
+        KifFault::BadCell(_, 10) => { "Expected: the bar | behind the ninth cell.\n" }
+        KifFault::BadCell(..) => {
+            "Expected: a cell of two characters: a space, or v for White's; then ・ for an\nempty square, or a piece of 歩香桂銀金角飛玉王と杏圭全馬龍竜.\n"
+        }
+        KifFault::BadHand(_) => {
+            "Expected: なし for an empty hand, else pieces of 歩香桂銀金角飛 with blanks\nbetween them, each perhaps with its count behind it: 飛二　歩十八\n"
+        }
+        KifFault::BadCount(_) => {
+            "Expected: behind a piece a blank, or its count from 一 to 十八, as 歩二　香\n"
+        }
+        KifFault::HandTwice(_) => {
+            "Expected: each piece once in a hand, with its count behind it: 金二 and not\n金　金\n"
+        }
+        KifFault::NoDiagram => {
+            "Expected: nine rows of a diagram, lines that begin with |, before the moves.\nMoves aren't played: save the position with its diagram.\n"
+        }
+        KifFault::BadPosition(BadPosition::NoDefenderKing) => {
+            "The side to move attacks, so the other side needs a king. If White is the\nattacker, a line 後手番 says so.\n"
+        }
+        KifFault::BadPosition(fault) => advice_on_position(fault),
+    }
+}
+
+/// What is said of an SFEN that is given where a diagram is expected.
+pub(crate) const ON_SFEN_WITH_KIF: &str = "This looks like an SFEN, which is read without --kif.\n";
 
 /// What is said of a position whose side that isn't to move is in check.
 pub(crate) const ON_DEFENDER_IN_CHECK: &str =

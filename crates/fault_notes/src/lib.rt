@@ -5,6 +5,7 @@
 #![tactic(auto)]
 
 mod advice;
+mod diagram;
 mod line;
 mod look;
 mod note;

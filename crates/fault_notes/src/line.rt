@@ -70,8 +70,8 @@ pub(crate) fn append_line(
     append_part(out, line.bytes, 0)
 }
 
-// Writes so many spaces, and a mark.
-fn append_mark(out: &mut Vec<u8>, spaces: usize) -> Result<(), AllocError> {
+/// Writes so many spaces, and a mark.
+pub(crate) fn append_mark(out: &mut Vec<u8>, spaces: usize) -> Result<(), AllocError> {
     for _ in 0..spaces {
         out.push(b' ')?;
     }

@@ -6,7 +6,7 @@ use memchr::memmem;
 pub(crate) enum Look {
     /// Nothing but blanks.
     Blank,
-    /// One that begins with a byte-order mark.
+    /// One that begins with a byte-order mark, and is no record.
     ByteOrderMark,
     /// UTF-16.
     Utf16,
@@ -70,10 +70,18 @@ fn answer_look(text: &[u8]) -> Look {
     Look::Answer
 }
 
+// What a text behind a byte-order mark looks like.
+fn marked_look(text: &[u8]) -> Look {
+    if is_record(text) {
+        return Look::Record;
+    }
+    Look::ByteOrderMark
+}
+
 /// What a text looks like.
 pub(crate) fn look_of(text: &[u8]) -> Look {
-    if text.starts_with(b"\xef\xbb\xbf") {
-        return Look::ByteOrderMark;
+    if let Some(text) = text.strip_prefix(b"\xef\xbb\xbf") {
+        return marked_look(text);
     }
     if is_utf16(text) {
         return Look::Utf16;

@@ -4,6 +4,7 @@ use crate::advice::{
     ON_WRITE, advice_on_certificate, advice_on_certificate_look, advice_on_problem,
     advice_on_problem_look,
 };
+use crate::diagram::append_diagram_note;
 use crate::line::{append_line, append_place, line_of};
 use crate::look::{Look, holds, look_of};
 use crate::trouble::Trouble;
@@ -166,12 +167,13 @@ fn append_certificate_note(
 
 /// What is told of a trouble behind its first line: where a line of the input is at fault, that line with its number, and with the place
 /// marked where there is one; then what was expected, or what to do. The input is the whole text at fault; of a trouble that isn't a
-/// text's it doesn't count. Lines are of less than 80 columns, of printable ASCII, and end with a line feed. Errors: want of memory
-/// alone.
+/// text's it doesn't count. Lines are of less than 80 columns, and end with a line feed. They are of printable ASCII, but of a KIF text,
+/// where they also have the Japanese characters that such texts are written in. Errors: want of memory alone.
 pub fn explain(alloc: Global, trouble: Trouble, input: &[u8]) -> Result<Vec<u8>, AllocError> {
     let mut out = Vec::new(alloc);
     match trouble {
         Trouble::Problem(fault) => append_problem_note(alloc, &mut out, fault, input)?,
+        Trouble::Diagram(fault) => append_diagram_note(alloc, &mut out, fault, input)?,
         Trouble::DefenderInCheck => append(&mut out, ON_DEFENDER_IN_CHECK)?,
         Trouble::Certificate(fault) => append_certificate_note(alloc, &mut out, fault, input)?,
         Trouble::TooLong => append(&mut out, ON_LENGTH)?,

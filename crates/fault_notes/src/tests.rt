@@ -1,7 +1,17 @@
 use crate::{Trouble, explain};
 use cert_text::{CertEnd, read_cert};
+use kif_text::read_kif;
 use sfen_text::read_sfen;
 use std::process::Abort;
+
+// The columns that a line takes: two for a Japanese character.
+fn columns_of(line: &str) -> usize {
+    let mut columns: usize = 0;
+    for character in line.chars() {
+        columns = columns.saturating_add(if character.is_ascii() { 1 } else { 2 });
+    }
+    columns
+}
 
 fn told(rt: &(impl Abort + AllocGlobal), trouble: Trouble, input: &[u8], wanted: &str) {
     let note = explain(rt.alloc(), trouble, input)
@@ -11,15 +21,15 @@ fn told(rt: &(impl Abort + AllocGlobal), trouble: Trouble, input: &[u8], wanted:
         note.as_slice() == wanted.as_bytes(),
         "{trouble:?}: {wanted}"
     );
-    for line in note.split(|byte| *byte == b'\n') {
-        assert!(rt; line.len() < 80, "{wanted}");
+    for line in wanted.lines() {
+        assert!(rt; columns_of(line) < 80, "{wanted}");
     }
 }
 
 // What is told of each fault: of texts that are no problem, of texts that are no certificate, and of the rest.
 #[test]
 fn each_fault_is_explained(rt: HostRuntime) {
-    let problems: [(&[u8], &str); 22] = [
+    let problems: [(&[u8], &str); 23] = [
         (
             b"9/4k4/8X/9/9/9/9/9/9 b R",
             "line 1, column 8:\n    9/4k4/8X/9/9/9/9/9/9 b R\n           ^ byte 7\nExpected: a piece (a letter of PLNSGBRK, small for White's, with + before it\nwhere it is promoted), a digit 1 to 9 for empty squares, or / between rows.\n",
@@ -62,11 +72,15 @@ fn each_fault_is_explained(rt: HostRuntime) {
         ),
         (
             b"# ---- Kifu for Windows ----\n",
-            "This looks like a game record or a diagram (KIF, KI2, BOD or CSA), which isn't\nread. Most shogi programs copy a position as SFEN: give that line.\n",
+            "This looks like a game record or a diagram. `tsume solve --kif` reads the board\ndiagram of a KIF file in UTF-8; of any other, copy the position as SFEN.\n",
         ),
         (
             b"\xe5\xbe\x8c\xe6\x89\x8b\xe3\x81\xae\xe6\x8c\x81\xe9\xa7\x92\n",
-            "This looks like a game record or a diagram (KIF, KI2, BOD or CSA), which isn't\nread. Most shogi programs copy a position as SFEN: give that line.\n",
+            "This looks like a game record or a diagram. `tsume solve --kif` reads the board\ndiagram of a KIF file in UTF-8; of any other, copy the position as SFEN.\n",
+        ),
+        (
+            b"\xef\xbb\xbf# KIF\r\n",
+            "This looks like a game record or a diagram. `tsume solve --kif` reads the board\ndiagram of a KIF file in UTF-8; of any other, copy the position as SFEN.\n",
         ),
         (
             b"\"9/4k4/8R/9/9/9/9/9/9 b R\"",
@@ -113,6 +127,81 @@ fn each_fault_is_explained(rt: HostRuntime) {
         let fault = read_sfen(input).err().expect(&rt, "a fault");
         told(&rt, Trouble::Problem(fault), input, wanted);
     }
+    let diagrams: [(&[u8], &str); 12] = [
+        (
+            b"# KIF\n\x8c\xe3\x8e\xe8",
+            "line 2, column 1:\n    ????\n    ^ byte 6\nExpected: UTF-8. Many KIF files are Shift-JIS, which can be converted:\niconv -f CP932 -t UTF-8 FILE | tsume solve --kif\n",
+        ),
+        (
+            "\u{feff}# KIF\r\n上手：\u{202e}a\r\n".as_bytes(),
+            "line 2:\n    上手：?a\nNames of a handicap game aren't read. Write 先手 for 下手 (Black) and 後手 for\n上手 (White), or leave the line out.\n",
+        ),
+        (
+            "+---\n| ・ ・ ・ ・v玉 ・ ・ ・ ・|一\n# |\n| ・v歩 x ・ ・ ・ ・ ・ ・|二".as_bytes(),
+            "line 4, row 2, column 3:\n    | ・v歩 x ・ ・ ・ ・ ・ ・|二\n           ^\nExpected: a cell of two characters: a space, or v for White's; then ・ for an\nempty square, or a piece of 歩香桂銀金角飛玉王と杏圭全馬龍竜.\n",
+        ),
+        (
+            "| ・ ・ ・ ・ ・ ・ ・ ・ ・一\n".as_bytes(),
+            "line 1, row 1, column 10:\n    | ・ ・ ・ ・ ・ ・ ・ ・ ・一\n                                ^\nExpected: the bar | behind the ninth cell.\n",
+        ),
+        (
+            "先手の持駒：金玉銀\n後手の持駒：玉\n".as_bytes(),
+            "line 1:\n    先手の持駒：金玉銀\nExpected: behind a piece a blank, or its count from 一 to 十八, as 歩二　香\n",
+        ),
+        (
+            "後手の持駒：なし、玉、飛、角、金、銀、桂、香、歩、なし、玉、飛、角、金、銀、桂、香、歩".as_bytes(),
+            "line 1:\n    後手の持駒：なし、玉、飛、角、金、銀、桂、香、歩、なし、玉、飛、角、金、..\nExpected: なし for an empty hand, else pieces of 歩香桂銀金角飛 with blanks\nbetween them, each perhaps with its count behind it: 飛二　歩十八\n",
+        ),
+        (
+            "\n\n先手の持駒：金　金".as_bytes(),
+            "line 3:\n    先手の持駒：金　金\nExpected: each piece once in a hand, with its count behind it: 金二 and not\n金　金\n",
+        ),
+        (
+            "手合割：平手\n手数----指手\n".as_bytes(),
+            "Expected: nine rows of a diagram, lines that begin with |, before the moves.\nMoves aren't played: save the position with its diagram.\n",
+        ),
+        (
+            b"9/4k4/8R/9/9/9/9/9/9 b R",
+            "This looks like an SFEN, which is read without --kif.\n",
+        ),
+        (
+            b"\n",
+            "The input is empty. With --kif a problem is the board diagram of a KIF file.\n",
+        ),
+        (
+            b"\xff\xfe#\x00",
+            "The text looks like UTF-16. Save it as UTF-8.\n",
+        ),
+        (
+            b"checkmate nomate\n",
+            "This looks like an answer of `tsume solve`. `tsume check` reads those; the\nproblem itself stands behind the word `problem`.\n",
+        ),
+    ];
+    for (input, wanted) in diagrams {
+        let fault = read_kif(input).err().expect(&rt, "a fault");
+        told(&rt, Trouble::Diagram(fault), input, wanted);
+    }
+    // Nine rows without a king, and a tenth.
+    let row = "| ・ ・ ・ ・ ・ ・ ・ ・ ・|\n";
+    let mut rows = String::new(rt.alloc());
+    for _ in 0..9 {
+        rows.push_str(row).ok().expect(&rt, "memory");
+    }
+    let fault = read_kif(rows.as_bytes()).err().expect(&rt, "a fault");
+    told(
+        &rt,
+        Trouble::Diagram(fault),
+        rows.as_bytes(),
+        "The side to move attacks, so the other side needs a king. If White is the\nattacker, a line 後手番 says so.\n",
+    );
+    rows.push_str(row).ok().expect(&rt, "memory");
+    let fault = read_kif(rows.as_bytes()).err().expect(&rt, "a fault");
+    told(
+        &rt,
+        Trouble::Diagram(fault),
+        rows.as_bytes(),
+        "line 10, row 10, column 1:\n    | ・ ・ ・ ・ ・ ・ ・ ・ ・|\n     ^\nExpected: nine rows. This is a tenth line that begins with |.\n",
+    );
     let certificates: [(&[u8], &str); 11] = [
         (
             b"",

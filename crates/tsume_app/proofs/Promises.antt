@@ -1,5 +1,5 @@
 -- The promise in plain words, from how a command ended.
-use Rattle.std.proofs.Common.{◌≡◌, ◌∙◌, ℕ, List, Bool, Option, Some, None, Ok, ap, length, refl, sym, subst}
+use Rattle.std.proofs.Common.{◌≡◌, ◌∙◌, ℕ, List, Option, Some, None, Ok, ap, length, refl, sym, subst}
 use Rattle.board_core.specs.declared.moves.Move.{Move}
 use Rattle.board_core.specs.Board.{Board}
 use Rattle.clap.specs.Words.{Text as Word}
@@ -11,6 +11,7 @@ use Rattle.cert_text.specs.Reading.{IsTextOf}
 use Rattle.cert_text.specs.declared.head.Claim.{Claim}
 use Rattle.cert_text.specs.Kinds.{claim_of, positions_in}
 use Rattle.cert_check.specs.Valid.{IsValid, ValidMate, ValidEscape}
+use Rattle.tsume_words.specs.declared.form.ProblemForm.{ProblemForm}
 use Rattle.tsume_words.specs.Given.{SettingsView, Wish}
 use Rattle.tsume_words.specs.Given.Wish.{to_solve, to_check}
 use Rattle.tsume_words.specs.Meaning.{command_of}
@@ -25,40 +26,40 @@ use Rattle.tsume_app.specs.Headline.{StandsForMate, StandsForNoMate, StandsForUn
 use Rattle.tsume_app.specs.Input.{StandsFor, IsJudgedFor}
 use Rattle.tsume_app.specs.Outside.{Shown}
 use Rattle.tsume_app.specs.Run.{IsEnded, IsEndedUnasked}
-use Rattle.sfen_text.specs.Laws.{OneReadingOutcome}
+use Rattle.tsume_app.specs.Inside.{OneOutcome}
 use Rattle.tsume_app.proofs.Complete.{took_it, one_judged_for, asked_has_no_fault}
 
-pub mate_of : (settings : SettingsView) (rest : Bool) (source sink : Shown) (input : List ℕ) (c : Mating) (moves : List Move)
-    → IsEnded (to_solve settings rest) source sink (Answered (Solved (Mate c moves))) → source.told ≡ Some input → StandsForMate rest input c moves
-mate_of settings rest source sink input c moves ended told =
+pub mate_of : (settings : SettingsView) (form : ProblemForm) (source sink : Shown) (input : List ℕ) (c : Mating) (moves : List Move)
+    → IsEnded (to_solve settings form) source sink (Answered (Solved (Mate c moves))) → source.told ≡ Some input → StandsForMate form input c moves
+mate_of settings form source sink input c moves ended told =
     let d = ended.decided in
     record {
       problem = d.true_of.problem;
-      stands_for = subst (λ (i : List ℕ). StandsFor rest i (Ok d.true_of.problem)) (took_it source.told source.told_after d.input input told d.read.took) d.true_of.stands_for;
+      stands_for = subst (λ (i : List ℕ). StandsFor form i (Ok d.true_of.problem)) (took_it source.told source.told_after d.input input told d.read.took) d.true_of.stands_for;
       mate = d.true_of.true_of.mate;
       valid = d.true_of.true_of.found.valid;
       line = d.true_of.true_of.line;
     }
 
-pub no_mate_of : (settings : SettingsView) (rest : Bool) (source sink : Shown) (input : List ℕ) (c : Escaping)
-    → IsEnded (to_solve settings rest) source sink (Answered (Solved (NoMate c))) → source.told ≡ Some input → StandsForNoMate rest input c
-no_mate_of settings rest source sink input c ended told =
+pub no_mate_of : (settings : SettingsView) (form : ProblemForm) (source sink : Shown) (input : List ℕ) (c : Escaping)
+    → IsEnded (to_solve settings form) source sink (Answered (Solved (NoMate c))) → source.told ≡ Some input → StandsForNoMate form input c
+no_mate_of settings form source sink input c ended told =
     let d = ended.decided in
     record {
       problem = d.true_of.problem;
-      stands_for = subst (λ (i : List ℕ). StandsFor rest i (Ok d.true_of.problem)) (took_it source.told source.told_after d.input input told d.read.took) d.true_of.stands_for;
+      stands_for = subst (λ (i : List ℕ). StandsFor form i (Ok d.true_of.problem)) (took_it source.told source.told_after d.input input told d.read.took) d.true_of.stands_for;
       no_mate = d.true_of.true_of.no_mate;
       valid = d.true_of.true_of.found.valid;
     }
 
-pub unknown_of : (settings : SettingsView) (rest : Bool) (source sink : Shown) (input : List ℕ) (cause : Cause)
-    → IsEnded (to_solve settings rest) source sink (Answered (Solved (Unknown cause))) → source.told ≡ Some input
-    → StandsForUnknown rest settings.expansions input cause
-unknown_of settings rest source sink input cause ended told =
+pub unknown_of : (settings : SettingsView) (form : ProblemForm) (source sink : Shown) (input : List ℕ) (cause : Cause)
+    → IsEnded (to_solve settings form) source sink (Answered (Solved (Unknown cause))) → source.told ≡ Some input
+    → StandsForUnknown form settings.expansions input cause
+unknown_of settings form source sink input cause ended told =
     let d = ended.decided in
     record {
       problem = d.true_of.problem;
-      stands_for = subst (λ (i : List ℕ). StandsFor rest i (Ok d.true_of.problem)) (took_it source.told source.told_after d.input input told d.read.took) d.true_of.stands_for;
+      stands_for = subst (λ (i : List ℕ). StandsFor form i (Ok d.true_of.problem)) (took_it source.told source.told_after d.input input told d.read.took) d.true_of.stands_for;
       given_up = d.true_of.true_of;
     }
 
@@ -71,8 +72,8 @@ own_mate_of words source sink ended c moves does refuses is = go (command_of wor
   go None e = absurd (subst (IsEndedUnasked words source sink) is (refuses e))
   go (Some (to_check workers problem)) e =
       let d = subst (IsEnded (to_check workers problem) source sink) is (does (to_check workers problem) e) in absurd d.decided.true_of
-  go (Some (to_solve settings rest)) e =
-      let d = subst (IsEnded (to_solve settings rest) source sink) is (does (to_solve settings rest) e) in
+  go (Some (to_solve settings form)) e =
+      let d = subst (IsEnded (to_solve settings form) source sink) is (does (to_solve settings form) e) in
       let shown = d.decided.true_of.true_of in
       let own = sym shown.found.valid.problem in
       record {
@@ -90,8 +91,8 @@ own_no_mate_of words source sink ended c does refuses is = go (command_of words)
   go None e = absurd (subst (IsEndedUnasked words source sink) is (refuses e))
   go (Some (to_check workers problem)) e =
       let d = subst (IsEnded (to_check workers problem) source sink) is (does (to_check workers problem) e) in absurd d.decided.true_of
-  go (Some (to_solve settings rest)) e =
-      let d = subst (IsEnded (to_solve settings rest) source sink) is (does (to_solve settings rest) e) in
+  go (Some (to_solve settings form)) e =
+      let d = subst (IsEnded (to_solve settings form) source sink) is (does (to_solve settings form) e) in
       let shown = d.decided.true_of.true_of in
       let own = sym shown.found.valid.problem in
       record {
@@ -115,7 +116,7 @@ accepted_is_valid workers problem source sink input claim entries ended told =
       shows = d.true_of.true_of.shows;
     }
 
-valid_is_accepted : OneReadingOutcome → (workers : ℕ) (problem : Option Word) (source sink : Shown) (input : List ℕ) (claim : Claim) (entries : ℕ) (ended : Ended)
+valid_is_accepted : OneOutcome → (workers : ℕ) (problem : Option Word) (source sink : Shown) (input : List ℕ) (claim : Claim) (entries : ℕ) (ended : Ended)
     → IsEnded (to_check workers problem) source sink ended
     → source.told ≡ Some input → ¬ IsBrokenOff ended → IsValidText problem input claim entries → IsAccepted ended claim entries
 valid_is_accepted one workers problem source sink input claim entries (Answered (Solved s)) ended told whole valid = absurd (ended.decided.true_of)
@@ -147,7 +148,7 @@ valid_is_accepted one workers problem source sink input claim entries (Failed Re
 valid_is_accepted one workers problem source sink input claim entries (Failed NoMemory i) ended told whole valid = absurd (whole tt)
 
 -- where the run wasn't broken off, it accepts exactly where the text is a valid certificate's
-pub accepted_of : OneReadingOutcome → (workers : ℕ) (problem : Option Word) (source sink : Shown) (input : List ℕ) (claim : Claim) (entries : ℕ) (ended : Ended)
+pub accepted_of : OneOutcome → (workers : ℕ) (problem : Option Word) (source sink : Shown) (input : List ℕ) (claim : Claim) (entries : ℕ) (ended : Ended)
     → IsEnded (to_check workers problem) source sink ended → source.told ≡ Some input → ¬ IsBrokenOff ended
     → (IsAccepted ended claim entries → IsValidText problem input claim entries) × (IsValidText problem input claim entries → IsAccepted ended claim entries)
 accepted_of one workers problem source sink input claim entries ended is told whole = (

@@ -1,10 +1,11 @@
 -- What the user is told of a run beside its answer.
 use Rattle.std.specs.Prelude.{ℕ, List, [], codes}
 use Rattle.sfen_text.specs.FaultText.{fault_text}
+use Rattle.kif_text.specs.FaultText.{fault_text as diagram_fault_text}
 use Rattle.cert_text.specs.FaultText.{certificate_fault_text}
 use Rattle.tsume_words.specs.FaultText.{word_fault_text}
 use Rattle.tsume_app.specs.declared.fault.ProblemFault.{ProblemFault}
-use Rattle.tsume_app.specs.declared.fault.ProblemFault.TheVariants.{Text, DefenderInCheck}
+use Rattle.tsume_app.specs.declared.fault.ProblemFault.TheVariants.{Text, Diagram, DefenderInCheck}
 use Rattle.tsume_app.specs.declared.fault.Fault.{Fault}
 use Rattle.tsume_app.specs.declared.fault.Fault.TheVariants.{NotUtf8, Words, Asked, TooLong, Problem, Cert, Read, NoMemory}
 use Rattle.tsume_app.specs.declared.ended.Ended.{Ended}
@@ -13,6 +14,7 @@ use Rattle.tsume_app.specs.declared.ended.Ended.TheVariants.{Answered, CutShort,
 -- Why an input is no problem, in words: the fault of its text with its place, or that the defender is in check.
 abbrev pub problem_fault_text : ProblemFault → List ℕ
 problem_fault_text (Text fault) = fault_text fault
+problem_fault_text (Diagram fault) = diagram_fault_text fault
 problem_fault_text DefenderInCheck = codes "defender in check"
 
 -- Why a run failed, in words, with the place of the input's fault.

@@ -1,5 +1,5 @@
 -- The program's promise in plain words.
-use Rattle.std.specs.Prelude.{◌≡◌, ℕ, List, Bool, Option, Some, Ok, ⊤, length}
+use Rattle.std.specs.Prelude.{◌≡◌, ℕ, List, Option, Some, Ok, ⊤, length}
 use Rattle.board_core.specs.declared.moves.Move.{Move}
 use Rattle.board_core.specs.Board.{Board}
 use Rattle.mate_def.specs.Mate.{IsMate}
@@ -11,6 +11,7 @@ use Rattle.cert_text.specs.declared.head.Claim.{Claim}
 use Rattle.cert_text.specs.Kinds.{claim_of, positions_in}
 use Rattle.cert_check.specs.Valid.{IsValid, Shows, ValidMate, ValidEscape}
 use Rattle.play_line.specs.Line.{IsMainLine}
+use Rattle.tsume_words.specs.declared.form.ProblemForm.{ProblemForm}
 use Rattle.tsume_words.specs.Given.{SettingsView}
 use Rattle.tsume_words.specs.Given.Wish.{to_solve, to_check}
 use Rattle.tsume_words.specs.Meaning.{command_of}
@@ -23,33 +24,33 @@ use Rattle.tsume_app.specs.declared.ended.Ended.TheVariants.{Answered, CutShort,
 use Rattle.tsume_app.specs.Answer.{IsGivenUp}
 use Rattle.tsume_app.specs.Input.{StandsFor, IsJudgedFor}
 
--- The words ask to solve, with the rest of the pieces in the defender's hand or without.
-abbrev pub AsksToSolve : Bool → List Word → Type 0
-AsksToSolve rest words = (settings : SettingsView) × (command_of words ≡ Some (to_solve settings rest))
+-- The words ask to solve a problem of this form.
+abbrev pub AsksToSolve : ProblemForm → List Word → Type 0
+AsksToSolve form words = (settings : SettingsView) × (command_of words ≡ Some (to_solve settings form))
 
 -- The words ask to check, for the problem of this text, or, where there is none, for the certificate's own.
 abbrev pub AsksToCheck : Option Word → List Word → Type 0
 AsksToCheck problem words = (workers : ℕ) × (command_of words ≡ Some (to_check workers problem))
 
 -- The bytes stand for a problem that is a mate, the certificate is valid for it, and the moves are its main line.
-pub record StandsForMate (rest : Bool) (input : List ℕ) (c : Mating) (moves : List Move) : Type 0 where
+pub record StandsForMate (form : ProblemForm) (input : List ℕ) (c : Mating) (moves : List Move) : Type 0 where
   pub problem : Board
-  pub stands_for : StandsFor rest input (Ok problem)
+  pub stands_for : StandsFor form input (Ok problem)
   pub mate : IsMate problem.side problem
   pub valid : ValidMate c problem
   pub line : IsMainLine c problem.side problem moves
 
 -- The bytes stand for a problem that is no mate, and the certificate is valid for it.
-pub record StandsForNoMate (rest : Bool) (input : List ℕ) (c : Escaping) : Type 0 where
+pub record StandsForNoMate (form : ProblemForm) (input : List ℕ) (c : Escaping) : Type 0 where
   pub problem : Board
-  pub stands_for : StandsFor rest input (Ok problem)
+  pub stands_for : StandsFor form input (Ok problem)
   pub no_mate : ¬ IsMate problem.side problem
   pub valid : ValidEscape c problem
 
 -- The bytes stand for a problem that was given up for its cause: so many expansions tell neither a mate nor that there is none.
-pub record StandsForUnknown (rest : Bool) (expansions : ℕ) (input : List ℕ) (cause : Cause) : Type 0 where
+pub record StandsForUnknown (form : ProblemForm) (expansions : ℕ) (input : List ℕ) (cause : Cause) : Type 0 where
   pub problem : Board
-  pub stands_for : StandsFor rest input (Ok problem)
+  pub stands_for : StandsFor form input (Ok problem)
   pub given_up : IsGivenUp problem expansions cause
 
 -- The problem that the certificate itself names is a mate, for which it is valid, and the moves are its main line.

@@ -9,15 +9,19 @@ use Rattle.clap.specs.Words.{Text as Word}
 use Rattle.cert_text.specs.declared.certificate.Certificate.{Certificate}
 use Rattle.cert_text.specs.Kinds.{problem_of}
 use Rattle.sfen_text.specs.Faults.{IsReadingOutcome}
+use Rattle.kif_text.specs.Reading.{IsReadingOutcome as IsDiagramOutcome}
+use Rattle.tsume_words.specs.declared.form.Format.{Format}
+use Rattle.tsume_words.specs.declared.form.Format.TheVariants.{Sfen, Kif}
+use Rattle.tsume_words.specs.declared.form.ProblemForm.{ProblemForm}
 use Rattle.tsume_words.specs.Given.{Wish}
 use Rattle.tsume_words.specs.Given.Wish.{to_solve, to_check}
 use Rattle.tsume_app.specs.declared.fault.ProblemFault.{ProblemFault}
-use Rattle.tsume_app.specs.declared.fault.ProblemFault.TheVariants.{Text, DefenderInCheck}
+use Rattle.tsume_app.specs.declared.fault.ProblemFault.TheVariants.{Text, Diagram, DefenderInCheck}
 use Rattle.tsume_app.specs.declared.input.TheConstants.{MOST_PROBLEM_BYTES, MOST_CERTIFICATE_BYTES}
 
 -- The most bytes that the input of a command may have.
 abbrev pub limit_of : Wish → ℕ
-limit_of (to_solve settings rest) = MOST_PROBLEM_BYTES
+limit_of (to_solve settings form) = MOST_PROBLEM_BYTES
 limit_of (to_check workers problem) = MOST_CERTIFICATE_BYTES
 
 -- The position that is searched: the one that was read, with the rest of the pieces in the defender's hand where that is
@@ -26,32 +30,48 @@ abbrev pub searched_board : Bool → Board → Board
 searched_board true b = board_with_rest b
 searched_board false b = b
 
+-- What a text comes to in a format, as a position alone: the position, or its first fault, of this format and no other.
+abbrev pub IsPositionRead : Format → List ℕ → Result Board ProblemFault → Type 0
+IsPositionRead Sfen input (Ok position) = IsReadingOutcome input (Ok position)
+IsPositionRead Sfen input (Err (Text fault)) = IsReadingOutcome input (Err fault)
+IsPositionRead Sfen input (Err (Diagram fault)) = ⊥
+IsPositionRead Sfen input (Err DefenderInCheck) = ⊥
+IsPositionRead Kif input (Ok position) = IsDiagramOutcome input (Ok position)
+IsPositionRead Kif input (Err (Text fault)) = ⊥
+IsPositionRead Kif input (Err (Diagram fault)) = IsDiagramOutcome input (Err fault)
+IsPositionRead Kif input (Err DefenderInCheck) = ⊥
+
 -- The text is a position's, and the one to be searched is this problem.
-pub record IsProblemRead (rest : Bool) (input : List ℕ) (problem : Board) : Type 0 where
+pub record IsProblemRead (form : ProblemForm) (input : List ℕ) (problem : Board) : Type 0 where
   pub position : Board
-  pub read : IsReadingOutcome input (Ok position)
-  pub searched : problem ≡ searched_board rest position
+  pub read : IsPositionRead form.format input (Ok position)
+  pub searched : problem ≡ searched_board form.rest position
   pub is_problem : IsProblem problem
 
 -- The text is a position's, and in the one to be searched the side that isn't to move is in check.
-pub record IsInCheckRead (rest : Bool) (input : List ℕ) : Type 0 where
+pub record IsInCheckRead (form : ProblemForm) (input : List ℕ) : Type 0 where
   pub position : Board
-  pub read : IsReadingOutcome input (Ok position)
-  pub in_check : IsInCheck (searched_board rest position).cells (other (searched_board rest position).side)
+  pub read : IsPositionRead form.format input (Ok position)
+  pub in_check : IsInCheck (searched_board form.rest position).cells (other (searched_board form.rest position).side)
 
--- What an SFEN input stands for: a problem, or its first fault, one of the text before one of the problem.
-abbrev pub StandsFor : Bool → List ℕ → Result Board ProblemFault → Type 0
-StandsFor rest input (Ok problem) = IsProblemRead rest input problem
-StandsFor rest input (Err (Text fault)) = IsReadingOutcome input (Err fault)
-StandsFor rest input (Err DefenderInCheck) = IsInCheckRead rest input
+-- What an input stands for in this form: a problem, or its first fault, one of the text and its position before one of the problem.
+abbrev pub StandsFor : ProblemForm → List ℕ → Result Board ProblemFault → Type 0
+StandsFor form input (Ok problem) = IsProblemRead form input problem
+StandsFor form input (Err (Text fault)) = IsPositionRead form.format input (Err (Text fault))
+StandsFor form input (Err (Diagram fault)) = IsPositionRead form.format input (Err (Diagram fault))
+StandsFor form input (Err DefenderInCheck) = IsInCheckRead form input
+
+-- The words give a certificate's problem as an SFEN, just as it stands.
+abbrev pub given_form : ProblemForm
+given_form = record { format = Sfen; rest = false }
 
 -- The words give a problem that the certificate has to be for, and its text is none: this is its first fault.
 abbrev pub IsAskedFault : Wish → ProblemFault → Type 0
-IsAskedFault (to_solve settings rest) fault = ⊥
+IsAskedFault (to_solve settings form) fault = ⊥
 IsAskedFault (to_check workers None) fault = ⊥
-IsAskedFault (to_check workers (Some text)) fault = StandsFor false text (Err fault)
+IsAskedFault (to_check workers (Some text)) fault = StandsFor given_form text (Err fault)
 
 -- The problem for which a certificate is judged: the one whose text the words give, or its own where they give none.
 abbrev pub IsJudgedFor : Option Word → Certificate → Board → Type 0
 IsJudgedFor None c p = p ≡ problem_of c
-IsJudgedFor (Some text) c p = StandsFor false text (Ok p)
+IsJudgedFor (Some text) c p = StandsFor given_form text (Ok p)

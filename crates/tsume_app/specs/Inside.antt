@@ -1,5 +1,5 @@
 -- What the private functions of this crate say of one another; no public clause cites these.
-use Rattle.std.specs.Prelude.{◌≡◌, [], Option, Some, None, Ok, false}
+use Rattle.std.specs.Prelude.{◌≡◌, ℕ, List, [], Option, Some, None, Result, Ok}
 use Rattle.usi_text.specs.Lines.{AllHaveText}
 use Rattle.tsume_io.specs.Faults.{Rose}
 use Rattle.tsume_io.specs.Sink.{GrewBy, GrewByPrefix}
@@ -15,7 +15,10 @@ use Rattle.shogi_rules.specs.declared.problem.Problem.{Problem as GivenProblem}
 use Rattle.tsume_words.specs.Given.{Wish}
 use Rattle.tsume_words.specs.Given.Wish.{to_solve, to_check}
 use Rattle.tsume_app.specs.Answer.{answer_text}
-use Rattle.tsume_app.specs.Input.{StandsFor}
+use Rattle.board_core.specs.Board.{Board}
+use Rattle.tsume_words.specs.declared.form.Format.{Format}
+use Rattle.tsume_app.specs.declared.fault.ProblemFault.{ProblemFault}
+use Rattle.tsume_app.specs.Input.{given_form, IsPositionRead, StandsFor}
 use Rattle.tsume_app.specs.Outside.{Shown, NeverFailed, IsUntouched}
 
 -- Every move of a solution's line has a text.
@@ -51,9 +54,14 @@ HasWritten sink answer (Failed fault input) = (fault ≡ NoMemory) × (input ≡
 
 -- The problem that the words give for a certificate, where they give one.
 abbrev pub IsAskedProblem : Wish → Option GivenProblem → Type 0
-IsAskedProblem (to_solve settings rest) None = Unit {0}
-IsAskedProblem (to_solve settings rest) (Some problem) = ⊥
+IsAskedProblem (to_solve settings form) None = Unit {0}
+IsAskedProblem (to_solve settings form) (Some problem) = ⊥
 IsAskedProblem (to_check workers None) None = Unit {0}
 IsAskedProblem (to_check workers None) (Some problem) = ⊥
 IsAskedProblem (to_check workers (Some text)) None = ⊥
-IsAskedProblem (to_check workers (Some text)) (Some problem) = StandsFor false text (Ok problem.position)
+IsAskedProblem (to_check workers (Some text)) (Some problem) = StandsFor given_form text (Ok problem.position)
+
+-- A law: no text of a format has two outcomes, be they positions or first faults.
+abbrev pub OneOutcome : Type 0
+OneOutcome = (format : Format) (input : List ℕ) (one other : Result Board ProblemFault) → IsPositionRead format input one
+    → IsPositionRead format input other → one ≡ other

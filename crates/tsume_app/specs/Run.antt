@@ -1,9 +1,10 @@
 -- What a run of the program did.
-use Rattle.std.specs.Prelude.{◌≡◌, ◌≤◌, ◌⊎◌, ℕ, List, [], Bool, false, Option, Some, None, Ok, Err, length, ⊤}
+use Rattle.std.specs.Prelude.{◌≡◌, ◌≤◌, ◌⊎◌, ℕ, List, [], Option, Some, None, Ok, Err, length, ⊤}
 use Rattle.board_core.specs.Board.{Board}
 use Rattle.tsume_io.specs.Faults.{Rose}
 use Rattle.tsume_io.specs.Source.{TookAll, TookAtMost, TookOneMoreThan, HasMoreThan}
 use Rattle.tsume_io.specs.Sink.{GrewBy, GrewByPrefix}
+use Rattle.tsume_words.specs.declared.form.ProblemForm.{ProblemForm}
 use Rattle.tsume_words.specs.Given.{Wish, MayAskForHelp}
 use Rattle.tsume_words.specs.Given.Wish.{to_solve, to_check}
 use Rattle.tsume_words.specs.Meaning.{IsRefusalOf}
@@ -21,13 +22,13 @@ use Rattle.tsume_app.specs.declared.fault.Fault.TheVariants.{NotUtf8, Words, Ask
 use Rattle.tsume_app.specs.declared.ended.Ended.{Ended}
 use Rattle.tsume_app.specs.declared.ended.Ended.TheVariants.{Answered, CutShort, Failed}
 use Rattle.tsume_app.specs.Answer.{answer_text, IsTrueOf, IsTrueOfCertificate}
-use Rattle.tsume_app.specs.Input.{limit_of, StandsFor, IsAskedFault, IsJudgedFor}
+use Rattle.tsume_app.specs.Input.{limit_of, given_form, StandsFor, IsAskedFault, IsJudgedFor}
 use Rattle.tsume_app.specs.Outside.{Shown, NeverFailed, IsUntouched}
 
 -- The bytes of an input are a problem of which the solution is true.
-pub record IsSolution (rest : Bool) (expansions : ℕ) (input : List ℕ) (solution : Solution) : Type 0 where
+pub record IsSolution (form : ProblemForm) (expansions : ℕ) (input : List ℕ) (solution : Solution) : Type 0 where
   pub problem : Board
-  pub stands_for : StandsFor rest input (Ok problem)
+  pub stands_for : StandsFor form input (Ok problem)
   pub true_of : IsTrueOf problem expansions solution
 
 -- The bytes of an input are the text of one certificate, of which the judgement is true, for the problem whose text the words give, or
@@ -42,16 +43,16 @@ pub record IsJudged (problem : Option Word) (input : List ℕ) (judgement : Judg
 
 -- An answer is true of the bytes of an input: a solution of the problem that they are, or a judgement on the certificate.
 abbrev pub IsTrueOfInput : Wish → List ℕ → Answer → Type 0
-IsTrueOfInput (to_solve settings rest) input (Solved solution) = IsSolution rest settings.expansions input solution
-IsTrueOfInput (to_solve settings rest) input (Judged judgement) = ⊥
-IsTrueOfInput (to_solve settings rest) input (Help text) = ⊥
+IsTrueOfInput (to_solve settings form) input (Solved solution) = IsSolution form settings.expansions input solution
+IsTrueOfInput (to_solve settings form) input (Judged judgement) = ⊥
+IsTrueOfInput (to_solve settings form) input (Help text) = ⊥
 IsTrueOfInput (to_check workers problem) input (Solved solution) = ⊥
 IsTrueOfInput (to_check workers problem) input (Judged judgement) = IsJudged problem input judgement
 IsTrueOfInput (to_check workers problem) input (Help text) = ⊥
 
 -- The bytes of an input are no problem, and this is their first fault; `solve` alone tells it.
 abbrev pub IsProblemFault : Wish → List ℕ → ProblemFault → Type 0
-IsProblemFault (to_solve settings rest) input fault = StandsFor rest input (Err fault)
+IsProblemFault (to_solve settings form) input fault = StandsFor form input (Err fault)
 IsProblemFault (to_check workers problem) input fault = ⊥
 
 -- The bytes of an input are no certificate's text.
@@ -64,7 +65,7 @@ HasOneFault input fault = HasFirstFault input fault × ((other : CertFault) → 
 
 -- The bytes of an input are no certificate's text, and this is their first fault; `check` alone tells it.
 abbrev pub IsCertificateFault : Wish → List ℕ → CertFault → Type 0
-IsCertificateFault (to_solve settings rest) input fault = ⊥
+IsCertificateFault (to_solve settings form) input fault = ⊥
 IsCertificateFault (to_check workers problem) input fault = HasOneFault input fault × IsNoCertificate input
 
 -- The bytes of an input were all that the source had left, and no more than the command takes.
@@ -159,12 +160,12 @@ GivesHelp (CutShort answer) = ⊥
 GivesHelp (Failed fault input) = ⊥
 
 -- The bytes that the source has left are a problem, and short enough.
-pub record IsProblemGiven (rest : Bool) (limit : ℕ) (left : Option (List ℕ)) : Type 0 where
+pub record IsProblemGiven (form : ProblemForm) (limit : ℕ) (left : Option (List ℕ)) : Type 0 where
   pub input : List ℕ
   pub problem : Board
   pub told : left ≡ Some input
   pub short : length input ≤ limit
-  pub stands_for : StandsFor rest input (Ok problem)
+  pub stands_for : StandsFor form input (Ok problem)
 
 -- The bytes that the source has left are the text of a certificate, and short enough.
 pub record IsCertificateGiven (limit : ℕ) (left : Option (List ℕ)) : Type 0 where
@@ -178,11 +179,11 @@ pub record IsCertificateGiven (limit : ℕ) (left : Option (List ℕ)) : Type 0 
 -- The text that the words give for a certificate's problem is one's, where they give one.
 abbrev pub IsProblemAsked : Option Word → Type 0
 IsProblemAsked None = Unit {0}
-IsProblemAsked (Some text) = (problem : Board) × StandsFor false text (Ok problem)
+IsProblemAsked (Some text) = (problem : Board) × StandsFor given_form text (Ok problem)
 
 -- The bytes that the source has left are what a command is asked about, and so is the problem that the words give.
 abbrev pub IsWellPosed : Wish → Option (List ℕ) → Type 0
-IsWellPosed (to_solve settings rest) left = IsProblemGiven rest (limit_of (to_solve settings rest)) left
+IsWellPosed (to_solve settings form) left = IsProblemGiven form (limit_of (to_solve settings form)) left
 IsWellPosed (to_check workers problem) left = IsCertificateGiven (limit_of (to_check workers problem)) left × IsProblemAsked problem
 
 -- The run ended with an answer that was written whole.

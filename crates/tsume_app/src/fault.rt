@@ -2,6 +2,7 @@
 ghost use Rattle.std.specs.Prelude.{◌≡◌, Some};
 
 use cert_text::CertFault;
+use kif_text::KifFault;
 use sfen_text::TextFault;
 use std::alloc::AllocError;
 use std::fmt::{self, Write};
@@ -10,8 +11,10 @@ use tsume_words::WordFault;
 /// Why an input is no problem.
 #[derive(Clone, Copy, PartialEq, Eq, Debug)]
 pub enum ProblemFault {
-    /// It is no position: the first fault of its text.
+    /// It is no position: its first fault as an SFEN.
     Text(TextFault),
+    /// It is no position: its first fault as a KIF diagram.
+    Diagram(KifFault),
     /// The side that isn't to move is in check.
     DefenderInCheck,
 }
@@ -26,6 +29,16 @@ impl From<TextFault> for ProblemFault {
     }
 }
 
+impl From<KifFault> for ProblemFault {
+    ghost use Rattle.tsume_app.specs.declared.fault.ProblemFault.TheVariants.{Diagram};
+
+    ghost from_gives = { λ diagram fault. fault ≡ Diagram diagram };
+
+    fn from(fault: KifFault) -> ProblemFault {
+        ProblemFault::Diagram(fault)
+    }
+}
+
 impl fmt::Display for ProblemFault {
     ghost use Rattle.tsume_app.specs.FaultText.{problem_fault_text};
 
@@ -34,6 +47,7 @@ impl fmt::Display for ProblemFault {
     fn fmt<W: Write>(&self, f: &mut fmt::Formatter<W>) -> fmt::Result {
         match self {
             ProblemFault::Text(fault) => write!(f, "{fault}"),
+            ProblemFault::Diagram(fault) => write!(f, "{fault}"),
             ProblemFault::DefenderInCheck => write!(f, "defender in check"),
         }
     }

@@ -10,6 +10,7 @@ fn trouble_of_fault(fault: &Fault) -> Option<Trouble> {
         Fault::NotUtf8 | Fault::Words(_) | Fault::Asked(_) | Fault::Read => None,
         Fault::TooLong => Some(Trouble::TooLong),
         Fault::Problem(ProblemFault::Text(fault)) => Some(Trouble::Problem(*fault)),
+        Fault::Problem(ProblemFault::Diagram(fault)) => Some(Trouble::Diagram(*fault)),
         Fault::Problem(ProblemFault::DefenderInCheck) => Some(Trouble::DefenderInCheck),
         Fault::Cert(fault) => Some(Trouble::Certificate(*fault)),
         Fault::NoMemory => Some(Trouble::NoMemory),

@@ -1,5 +1,5 @@
 // The run of the program.
-ghost use Rattle.std.specs.Prelude.{◌≡◌, ◌⊎◌, ◌↔◌, ℕ, Bool, List, [], Option, Some, None, IfOk, IfErr, MatchResult, option_map, string_bytes};
+ghost use Rattle.std.specs.Prelude.{◌≡◌, ◌⊎◌, ◌↔◌, ℕ, List, [], Option, Some, None, IfOk, IfErr, MatchResult, option_map, string_bytes};
 ghost use Rattle.board_core.specs.declared.moves.Move.{Move};
 ghost use Rattle.cert_text.specs.Certificate.{Mating, Escaping};
 ghost use Rattle.tsume_io.specs.Faults.{Rose};
@@ -8,11 +8,12 @@ ghost use Rattle.tsume_words.specs.Given.{Wish, SettingsView, AsksForHelp, file_
 ghost use Rattle.tsume_words.specs.Given.Wish.{to_solve};
 ghost use Rattle.tsume_words.specs.Meaning.{FailsFirst, command_of, texts_of, wish_of};
 ghost use Rattle.tsume_words.specs.declared.faults.WordFault.{WordFault};
+ghost use Rattle.tsume_words.specs.declared.form.ProblemForm.{ProblemForm};
 ghost use Rattle.clap.specs.Words.{Text as Word};
 ghost use Rattle.tsume_app.specs.declared.answer.Cause.{Cause};
 ghost use Rattle.tsume_app.specs.declared.fault.ProblemFault.{ProblemFault};
 ghost use Rattle.tsume_app.specs.Headline.{AsksToSolve, AsksToCheck, StandsForMate, StandsForNoMate, StandsForUnknown, NamesMate, NamesNoMate, IsValidText, IsAccepted, IsBrokenOff};
-ghost use Rattle.tsume_app.specs.Inside.{HasTexts, HasWritten, IsAskedProblem, IsReadCounted};
+ghost use Rattle.tsume_app.specs.Inside.{HasTexts, HasWritten, IsAskedProblem, IsReadCounted, OneOutcome};
 ghost use Rattle.tsume_app.specs.Input.{limit_of, IsAskedFault};
 ghost use Rattle.tsume_app.specs.Outside.{Shown, shown, NeverFailed};
 ghost use Rattle.tsume_app.specs.Run.{IsReadWhole, IsTrueOfInput, HasCause, IsEnded, IsCounted, IsEndedUnasked, GivesHelp, IsWellPosed, IsAnswered, WantsMemory};
@@ -24,12 +25,13 @@ use crate::input::{Input, MOST_CERTIFICATE_BYTES, MOST_PROBLEM_BYTES};
 use crate::judgement::judge_input;
 use crate::solution::{read_problem, solve_input};
 use crate::text::append_answer;
+use kif_text::kif_laws;
 use search_gate::Gate;
 use sfen_text::sfen_laws;
 use shogi_rules::Problem;
 use std::alloc::{AllocError, Global};
 use tsume_io::{ReadEnd, Sink, Source, read_all, write_all};
-use tsume_words::{Command, WordsEnd, read_words};
+use tsume_words::{Command, Format, ProblemForm, WordsEnd, read_words};
 
 fn limit_of(command: &Command) -> usize
     ensures { result ≡ limit_of (wish_of command.now) }
@@ -40,6 +42,14 @@ fn limit_of(command: &Command) -> usize
     }
 }
 
+// No text has two outcomes, in any format.
+fn text_laws()
+    ensures { OneOutcome }
+{
+    sfen_laws();
+    kif_laws();
+}
+
 // The problem that the words give for a certificate, where they give one.
 fn problem_in(command: &Command) -> Result<Option<Problem>, ProblemFault>
     ensures { MatchResult result (IsAskedProblem (wish_of command.now)) (IsAskedFault (wish_of command.now)) }
@@ -48,7 +58,13 @@ fn problem_in(command: &Command) -> Result<Option<Problem>, ProblemFault>
         Command::Check {
             problem: Some(text),
             ..
-        } => Ok(Some(read_problem(text.as_bytes(), false)?)),
+        } => {
+            let form = ProblemForm {
+                format: Format::Sfen,
+                rest: false,
+            };
+            Ok(Some(read_problem(text.as_bytes(), form)?))
+        }
         Command::Check { problem: None, .. } | Command::Solve { .. } => Ok(None),
     }
 }
@@ -58,8 +74,7 @@ fn asked_problem(command: &Command) -> Result<Option<Problem>, ProblemFault>
     ensures found { MatchResult result (IsAskedProblem (wish_of command.now)) (IsAskedFault (wish_of command.now)) }
     ensures stopped { (fault : ProblemFault) → IsAskedFault (wish_of command.now) fault → result ≡ Err fault }
 {
-    // No text has two outcomes.
-    sfen_laws();
+    text_laws();
     problem_in(command)
 }
 
@@ -91,7 +106,7 @@ fn answer_to<G: Gate>(
         → IfErr result (λ fault. HasCause (wish_of command.now) source fault input.now) }
 {
     match command {
-        Command::Solve { settings, rest } => solve_input(alloc, input, settings, *rest, gate),
+        Command::Solve { settings, form } => solve_input(alloc, input, settings, *form, gate),
         Command::Check { .. } => judge_input(alloc, asked, input),
     }
 }
@@ -188,8 +203,8 @@ pub fn named_file(alloc: Global, words: &[String]) -> Result<Option<String>, All
 /// of them, and three tests after it; words that are refused end the run before anything is read. So does a request for help or for the
 /// version, whose text is written to the sink.
 ///
-/// `solve` reads a problem (SFEN) from the source; with `--rest` the defender is first given all pieces but kings that are
-/// neither on the board nor in a hand. It writes to the sink the USI answer that the problem is a mate, with a main line, or that it is
+/// `solve` reads a problem from the source, an SFEN or, with `--kif`, the board diagram of a KIF file in UTF-8; with `--rest` the defender
+/// is then given all pieces but kings that are neither on the board nor in a hand. It writes to the sink the USI answer that the problem is a mate, with a main line, or that it is
 /// none, and the certificate; or, where the expansions were used up first, that it was given up. `check` reads a certificate,
 /// perhaps behind the line of the USI answer, and writes whether it is valid for its own problem, or for the one that `--problem` gives
 /// (SFEN), or the first reason why it isn't; a certificate about another problem doesn't list it. Positions are compared, and not texts.
@@ -208,19 +223,19 @@ pub fn run<S: Source, K: Sink, G: Gate>(
 ) -> Ended
     // In plain words. Where `solve` ended with a mate, the bytes that the source had left stand for a problem that is a mate, the
     // certificate is valid for it, and the moves are its main line.
-    ensures mate { (rest : Bool) (input : List ℕ) (c : Mating) (moves : List Move)
-        → AsksToSolve rest (texts_of words.items) → S.left source.old ≡ Some input
-        → result ≡ Ended.Answered (Answer.Solved (Solution.Mate c moves)) → StandsForMate rest input c moves }
+    ensures mate { (form : ProblemForm) (input : List ℕ) (c : Mating) (moves : List Move)
+        → AsksToSolve form (texts_of words.items) → S.left source.old ≡ Some input
+        → result ≡ Ended.Answered (Answer.Solved (Solution.Mate c moves)) → StandsForMate form input c moves }
 
     // Where it ended with no mate, the problem is none, and the certificate is valid for it.
-    ensures no_mate { (rest : Bool) (input : List ℕ) (c : Escaping)
-        → AsksToSolve rest (texts_of words.items) → S.left source.old ≡ Some input
-        → result ≡ Ended.Answered (Answer.Solved (Solution.NoMate c)) → StandsForNoMate rest input c }
+    ensures no_mate { (form : ProblemForm) (input : List ℕ) (c : Escaping)
+        → AsksToSolve form (texts_of words.items) → S.left source.old ≡ Some input
+        → result ≡ Ended.Answered (Answer.Solved (Solution.NoMate c)) → StandsForNoMate form input c }
 
     // Where it gave up, the stated expansions tell neither.
-    ensures gave_up { (settings : SettingsView) (rest : Bool) (input : List ℕ) (cause : Cause)
-        → command_of (texts_of words.items) ≡ Some (to_solve settings rest) → S.left source.old ≡ Some input
-        → result ≡ Ended.Answered (Answer.Solved (Solution.Unknown cause)) → StandsForUnknown rest settings.expansions input cause }
+    ensures gave_up { (settings : SettingsView) (form : ProblemForm) (input : List ℕ) (cause : Cause)
+        → command_of (texts_of words.items) ≡ Some (to_solve settings form) → S.left source.old ≡ Some input
+        → result ≡ Ended.Answered (Answer.Solved (Solution.Unknown cause)) → StandsForUnknown form settings.expansions input cause }
 
     // Whatever the source tells of its bytes, as a file tells nothing: what ended with a mate names one.
     ensures own_mate { (c : Mating) (moves : List Move) → result ≡ Ended.Answered (Answer.Solved (Solution.Mate c moves)) → NamesMate c moves }
@@ -261,7 +276,6 @@ pub fn run<S: Source, K: Sink, G: Gate>(
         → ¬ Rose (S.faults source.old) (S.faults source.new) → ¬ Rose (K.faults sink.old) (K.faults sink.new)
         → IsAnswered result ⊎ WantsMemory result }
 {
-    // No text has two outcomes.
-    sfen_laws();
+    text_laws();
     words_ended(alloc, words, source, sink, gate)
 }

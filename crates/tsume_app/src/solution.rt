@@ -1,11 +1,12 @@
 // What `solve` finds.
 ghost use Rattle.std.specs.Prelude.{◌≡◌, Ok, Err, IfOk, IfErr, MatchResult};
+ghost use Rattle.board_core.specs.Board.{HasDefender};
 ghost use Rattle.plain_search.specs.Outcome.{IsMateFound, IsEscapeFound};
 ghost use Rattle.tsume_words.specs.Given.Wish.{to_solve};
 ghost use Rattle.tsume_words.specs.Meaning.{settings_in};
 ghost use Rattle.tsume_app.specs.Answer.{IsTrueOf};
 ghost use Rattle.tsume_app.specs.Inside.{HasLine, HasTexts};
-ghost use Rattle.tsume_app.specs.Input.{StandsFor, searched_board};
+ghost use Rattle.tsume_app.specs.Input.{IsPositionRead, StandsFor, searched_board};
 ghost use Rattle.tsume_app.specs.Outside.{Shown};
 ghost use Rattle.tsume_app.specs.Run.{IsReadWhole, IsTrueOfInput, HasCause};
 
@@ -14,13 +15,25 @@ use crate::fault::{Fault, ProblemFault};
 use board_core::Position;
 use cert_check::valid_is_accepted;
 use cert_text::{EscapeCertificate, MateCertificate};
+use kif_text::read_kif;
 use plain_search::{Outcome, search};
 use play_line::main_line;
 use search_gate::{Expansions, Gate};
 use sfen_text::read_sfen;
 use shogi_rules::{Problem, accept_problem};
 use std::alloc::{AllocError, Global};
-use tsume_words::Settings;
+use tsume_words::{Format, ProblemForm, Settings};
+
+// The position of a text in this format, or its first fault. The side that isn't to move has a king.
+fn read_position(input: &[u8], format: Format) -> Result<Position, ProblemFault>
+    ensures exact { IsPositionRead format input.now result }
+    ensures defender { IfOk result HasDefender }
+{
+    match format {
+        Format::Sfen => Ok(read_sfen(input)?),
+        Format::Kif => Ok(read_kif(input)?),
+    }
+}
 
 // The position that is searched: the one that was read, with the rest of the pieces in the defender's hand where that is asked for.
 fn searched_position(position: Position, rest: bool) -> Position
@@ -33,12 +46,13 @@ fn searched_position(position: Position, rest: bool) -> Position
     }
 }
 
-/// The problem that the bytes of an SFEN text stand for, or their first fault.
-pub(crate) fn read_problem(input: &[u8], rest: bool) -> Result<Problem, ProblemFault>
-    ensures { MatchResult result (λ problem. StandsFor rest input.now (Ok problem.position)) (λ fault. StandsFor rest input.now (Err fault)) }
+/// The problem that the bytes of a text stand for in this form, or their first fault: of the text, then of the position, then that the
+/// side that isn't to move is in check. What follows the reading of the position is the same in all formats.
+pub(crate) fn read_problem(input: &[u8], form: ProblemForm) -> Result<Problem, ProblemFault>
+    ensures { MatchResult result (λ problem. StandsFor form input.now (Ok problem.position)) (λ fault. StandsFor form input.now (Err fault)) }
 {
-    let position = read_sfen(input)?;
-    match accept_problem(searched_position(position, rest)) {
+    let position = read_position(input, form.format)?;
+    match accept_problem(searched_position(position, form.rest)) {
         Ok(problem) => Ok(problem),
         Err(_) => Err(ProblemFault::DefenderInCheck),
     }
@@ -89,22 +103,22 @@ fn solution_of<G: Gate>(
     }
 }
 
-/// What is answered to the bytes of an SFEN text: a verdict on the problem that they stand for, or that it was given up; or
+/// What is answered to the bytes of a problem's text: a verdict on the problem that they stand for, or that it was given up; or
 /// their first fault.
 pub(crate) fn solve_input<G: Gate>(
     alloc: Global,
     input: &[u8],
     settings: &Settings,
-    rest: bool,
+    form: ProblemForm,
     gate: &G,
 ) -> Result<Answer, Fault>
-    ensures true_of { IfOk result (IsTrueOfInput (to_solve (settings_in settings.now) rest) input.now) }
+    ensures true_of { IfOk result (IsTrueOfInput (to_solve (settings_in settings.now) form) input.now) }
     ensures texts { IfOk result HasTexts }
     // Wherever these bytes were read whole.
-    ensures cause { (source : Shown) → IsReadWhole (to_solve (settings_in settings.now) rest) source input.now
-        → IfErr result (λ fault. HasCause (to_solve (settings_in settings.now) rest) source fault input.now) }
+    ensures cause { (source : Shown) → IsReadWhole (to_solve (settings_in settings.now) form) source input.now
+        → IfErr result (λ fault. HasCause (to_solve (settings_in settings.now) form) source fault input.now) }
 {
-    let problem = read_problem(input, rest)?;
+    let problem = read_problem(input, form)?;
     let solution = solution_of(alloc, &problem, settings.expansions, gate)?;
     Ok(Answer::Solved(solution))
 }

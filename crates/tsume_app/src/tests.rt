@@ -176,6 +176,61 @@ fn a_faulty_input_is_told_and_kept(rt: HostRuntime) -> Result<(), Fail> {
     Ok(())
 }
 
+// The same problem as GOLD's. Black's hand stands in line 15.
+const DIAGRAM: &str = "# KIF
+後手の持駒：なし
+  ９ ８ ７ ６ ５ ４ ３ ２ １
++---------------------------+
+| ・ ・ ・ ・v玉 ・ ・ ・ ・|一
+| ・ ・ ・ ・ ・ ・ ・ ・ ・|二
+| ・ ・ ・ ・ 歩 ・ ・ ・ ・|三
+| ・ ・ ・ ・ ・ ・ ・ ・ ・|四
+| ・ ・ ・ ・ ・ ・ ・ ・ ・|五
+| ・ ・ ・ ・ ・ ・ ・ ・ ・|六
+| ・ ・ ・ ・ ・ ・ ・ ・ ・|七
+| ・ ・ ・ ・ ・ ・ ・ ・ ・|八
+| ・ ・ ・ ・ ・ ・ ・ ・ ・|九
++---------------------------+
+先手の持駒：金
+手数----指手---------消費時間--
+";
+
+#[test]
+fn a_diagram_stands_for_its_problem(rt: HostRuntime) -> Result<(), Fail> {
+    // Words, a text of the diagram and what stands in its place, and what is kept or told. A byte-order mark stands in front, and each
+    // line ends with CR LF.
+    let table = [
+        ("solve --kif", "KIF", "KIF", GOLD_TEXT),
+        ("solve --rest --kif", "KIF", "KIF", REST_TEXT),
+        ("solve --kif", " 歩", " x", "bad cell 3 5"),
+        ("solve --kif", "| ・ ・ ・ ・ ・ ・ ・ ・ ・|九\n", "", "no diagram"),
+        ("solve --kif", "金\n", "金五十\n", "bad count in line 15"),
+        ("solve --kif", "後手の持駒：なし", "上手：", "handicap name in line 2"),
+        ("solve --kif", "金\n", "金　金\n", "hand twice at 15"),
+        ("solve --kif", "手数", "後手番\n手数", "no defender king"),
+        ("solve --kif", "v玉 ・", "v玉 飛", "defender in check"),
+        ("solve", "KIF", "KIF", "bad piece at 0"),
+    ];
+    for (words, old, new, wanted) in table {
+        let text = DIAGRAM.replace(rt.alloc(), old, new)?;
+        let lines = text.as_str().replace(rt.alloc(), "\n", "\r\n")?;
+        let lines = lines.as_str();
+        let input = format!(in rt.alloc(); "\u{feff}{lines}")?;
+        let seen = seen_of(rt.alloc(), words, input.as_str(), (7, 0), (11, 0))?;
+        if seen.status == 0 {
+            assert!(rt;
+                seen.kept.as_slice() == wanted.as_bytes(),
+                "{words} {wanted}"
+            );
+        } else {
+            assert_eq!(rt; seen.status, 3, "{words} {wanted}");
+            assert!(rt; seen.fault.as_str() == wanted, "{words} {wanted}");
+            assert_eq!(rt; seen.read, input.len(), "{words} {wanted}");
+        }
+    }
+    Ok(())
+}
+
 #[test]
 fn words_are_refused_before_anything_is_read(rt: HostRuntime) -> Result<(), Fail> {
     // Words, and a part of the fault's text. The source would fail at its first read.
@@ -183,7 +238,7 @@ fn words_are_refused_before_anything_is_read(rt: HostRuntime) -> Result<(), Fail
         ("", "Usage"),
         ("mate", "mate"),
         ("solve --workers 0", "1..=64"),
-        ("solve --kif", "--kif"),
+        ("check --kif", "--kif"),
         ("help dance", "dance"),
         ("solve a b", "'b'"),
         ("solve --rows 24", "rows is no power of two"),
@@ -235,10 +290,11 @@ fn a_file_is_named_where_words_ask_for_a_command(rt: HostRuntime) -> Result<(), 
         ("solve", ""),
         ("solve -", ""),
         ("solve a.sfen", "a.sfen"),
+        ("solve --kif a.kif", "a.kif"),
         ("check ../a_b.cert --workers 2", "../a b.cert"),
         ("check --problem 4k4/9/9/9/9/9/9/9/9_b_- a", "a"),
         // Refused, by clap, by a test after it and for the problem; and help.
-        ("solve --kif a.sfen", ""),
+        ("check --kif a.kif", ""),
         ("solve --rows 24 a.sfen", ""),
         ("check --problem 4k4/9_b_- a", ""),
         ("solve --help a.sfen", ""),
@@ -421,6 +477,14 @@ fn the_user_is_told_how_a_run_ended(rt: HostRuntime) -> Result<(), Fail> {
             0,
             3,
             "tsume: defender in check\nThe side to move attacks, and the other king is in check already: no legal move\nled here. Is the other side to move?\n",
+        ),
+        (
+            "solve --kif",
+            GOLD,
+            0,
+            0,
+            3,
+            "tsume: no diagram\nThis looks like an SFEN, which is read without --kif.\n",
         ),
         (
             "solve --rows 24",

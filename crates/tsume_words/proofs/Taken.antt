@@ -118,7 +118,7 @@ GivesIfFaultless s = (words : List Text) → level_fault s [] nothing_held words
 firsts : Each (λ s. Each (IsFirst s.rules) s.rules) (built tsume_line).subs
 unfolding tsume_line
 firsts = (
-  (refl, (refl, (refl, (refl, (refl, (refl, (refl, (refl, tt)))))))),
+  (refl, (refl, (refl, (refl, (refl, (refl, (refl, (refl, (refl, tt))))))))),
   ((refl, (refl, (refl, (refl, tt)))), ((refl, tt), tt)),
 )
 
@@ -130,7 +130,8 @@ solve_given words all = record {
   room = number_given _ 1 MOST_ROOM _ all.1.1.0 refl refl refl;
   rows = number_given _ LEAST_ROWS MOST_ROWS _ all.1.1.1.0 refl refl refl;
   shards = number_given _ 1 MOST_SHARDS _ all.1.1.1.1.0 refl refl refl;
-  rest = flag_given _ _ all.1.1.1.1.1.0 refl refl refl;
+  kif = flag_given _ _ all.1.1.1.1.1.0 refl refl refl;
+  rest = flag_given _ _ all.1.1.1.1.1.1.0 refl refl refl;
 }
 
 check_given : (words : List Text) → Each (GivesValue (rows_after check_shape.rules [] words)) check_shape.rules

@@ -8,6 +8,9 @@ use Rattle.clap.specs.Kinds.{IsAmong, Kinds}
 use Rattle.clap.specs.declared.error.kind.ErrorKind.{ErrorKind}
 use Rattle.clap.specs.declared.error.kind.ErrorKind.TheVariants.{DisplayHelp, DisplayVersion}
 use Rattle.clap.specs.Words.{IsUnsignedIn, Row, Text, fault_of, first_of, one_of, subcommand_of}
+use Rattle.tsume_words.specs.declared.form.Format.{Format}
+use Rattle.tsume_words.specs.declared.form.Format.TheVariants.{Sfen, Kif}
+use Rattle.tsume_words.specs.declared.form.ProblemForm.{ProblemForm}
 use Rattle.tsume_words.specs.declared.settings.TheConstants.{MOST_WORKERS, MOST_ROOM, LEAST_ROWS, MOST_ROWS, MOST_SHARDS}
 use Rattle.search_gate.specs.declared.expansions.TheConstants.{MOST_EXPANSIONS}
 use Rattle.tsume_words.specs.Line.{tsume_line}
@@ -64,10 +67,10 @@ pub record SettingsView : Type 0 where
   pub rows : ℕ
   pub shards : ℕ
 
--- What a command asks for: to solve, with its numbers and whether the rest is given to the defender; or to check, with
--- its workers and, where the certificate has to be for a given problem, its text.
+-- What a command asks for: to solve, with its numbers and the form of the problem; or to check, with its workers and, where the
+-- certificate has to be for a given problem, its text.
 pub data Wish : Type 0 where
-  to_solve : SettingsView → Bool → Wish
+  to_solve : SettingsView → ProblemForm → Wish
   to_check : ℕ → Option Text → Wish
 
 -- The five numbers that clap gives for `solve`.
@@ -80,10 +83,22 @@ settings_of found = record {
   shards = number_of (codes "shards") found;
 }
 
+-- A problem is written as KIF where that is said, or else as SFEN.
+abbrev pub format_where : Bool → Format
+format_where true = Kif
+format_where false = Sfen
+
+-- The form of a problem, by the flags that clap found for `solve`.
+abbrev pub form_of : List Row → ProblemForm
+form_of found = record {
+  format = format_where (is_flagged (codes "kif") found);
+  rest = is_flagged (codes "rest") found;
+}
+
 -- What a command of this name asks for, by what clap found for it.
 abbrev pub wish_named : Text × List Row → Option Wish
 wish_named p =
-    if bytes_eq p.0 (codes "solve") then Some (to_solve (settings_of p.1) (is_flagged (codes "rest") p.1))
+    if bytes_eq p.0 (codes "solve") then Some (to_solve (settings_of p.1) (form_of p.1))
     else (if bytes_eq p.0 (codes "check") then Some (to_check (number_of (codes "workers") p.1) (text_of (codes "problem") p.1)) else None)
 
 -- A wish stands where clap found no fault.
@@ -129,6 +144,7 @@ pub record IsForSolve (found : List Row) : Type 0 where
   pub room : HasNumber (codes "room") 1 MOST_ROOM found
   pub rows : HasNumber (codes "rows") LEAST_ROWS MOST_ROWS found
   pub shards : HasNumber (codes "shards") 1 MOST_SHARDS found
+  pub kif : HasFlag (codes "kif") found
   pub rest : HasFlag (codes "rest") found
 
 -- What clap gives for one of the two commands, each number in its range.

@@ -44,6 +44,13 @@ problem_option = record (new_rule (codes "problem")) {
   value_names = 1;
 }
 
+-- The flag `--kif` takes no value.
+abbrev pub kif_flag : Rule
+kif_flag = record (new_rule (codes "kif")) {
+  long = Some (codes "kif");
+  action = Some SetTrue;
+}
+
 -- The flag `--rest` takes no value.
 abbrev pub rest_flag : Rule
 rest_flag = record (new_rule (codes "rest")) {
@@ -58,9 +65,10 @@ file_word = record (new_rule (codes "file")) {
   value_names = 1;
 }
 
--- `solve` has the five numbers, the flag and the file.
+-- `solve` has the five numbers, the two flags and the file.
 abbrev pub solve_line : App
 solve_line = with_rule
+    (with_rule
     (with_rule
     (with_rule
     (with_rule
@@ -69,6 +77,7 @@ solve_line = with_rule
     room_option)
     rows_option)
     shards_option)
+    kif_flag)
     rest_flag)
     file_word
 

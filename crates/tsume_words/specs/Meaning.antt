@@ -22,7 +22,7 @@ are_sound n = is_power_of_two n.rows && (is_power_of_two n.shards && nat_le n.sh
 
 -- A wish to solve stands where its numbers are sound, a wish to check always.
 abbrev pub sound_wish : Wish → Option Wish
-sound_wish (to_solve settings rest) = if are_sound settings then Some (to_solve settings rest) else None
+sound_wish (to_solve settings form) = if are_sound settings then Some (to_solve settings form) else None
 sound_wish (to_check workers problem) = Some (to_check workers problem)
 
 -- What the words ask for: none where clap refuses them or one of the three tests after it fails.
@@ -41,12 +41,12 @@ settings_in s = record {
 
 -- What a command asks for.
 abbrev pub wish_of : Command → Wish
-wish_of (Solve settings rest) = to_solve (settings_in settings) rest
+wish_of (Solve settings form) = to_solve (settings_in settings) form
 wish_of (Check workers problem) = to_check workers (option_map string_bytes problem)
 
 -- By how many workers a command is to be done.
 abbrev pub workers_of : Command → ℕ
-workers_of (Solve settings rest) = settings.workers
+workers_of (Solve settings form) = settings.workers
 workers_of (Check workers problem) = workers
 
 -- The numbers fail this test and pass those before it: the rows are a power of two, then the shards, and then there are
@@ -59,7 +59,7 @@ FailFirst (Clap text) n = ⊥
 
 -- The wish is to solve with numbers of which this test is the first to fail.
 abbrev pub IsStoppedBy : WordFault → Wish → Type 0
-IsStoppedBy fault (to_solve settings rest) = FailFirst fault settings
+IsStoppedBy fault (to_solve settings form) = FailFirst fault settings
 IsStoppedBy fault (to_check workers problem) = ⊥
 
 -- Clap takes the words, and this test after it is the first to fail.

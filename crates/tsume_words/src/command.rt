@@ -1,14 +1,13 @@
 // The commands of the program.
-use crate::Settings;
+use crate::{ProblemForm, Settings};
 
 /// What the words of the command line ask for.
 #[derive(Debug, Drop)]
 pub enum Command {
-    /// Solve the problem that is read. With `rest` the defender is first given all pieces but kings that are neither on
-    /// the board nor in a hand.
+    /// Solve the problem that is read, which has this form.
     Solve {
         settings: Settings,
-        rest: bool,
+        form: ProblemForm,
     },
     /// Check the certificate that is read, by this many threads; from the words come 1 to 64. With a `problem` (its SFEN, as
     /// the words have it) the certificate has to be for that one.

@@ -2,7 +2,7 @@
 ghost use Rattle.std.specs.Prelude.{◌≡◌, IfOk, false};
 ghost use Rattle.clap.specs.Words.{app_of, rule_of};
 ghost use Rattle.clap.specs.declared.builder.command.Command.TheViews.{out-Command as fields_of};
-ghost use Rattle.tsume_words.specs.Line.{number_option, workers_option, expansions_option, room_option, rows_option, shards_option, problem_option, rest_flag, file_word, solve_line};
+ghost use Rattle.tsume_words.specs.Line.{number_option, workers_option, expansions_option, room_option, rows_option, shards_option, problem_option, kif_flag, rest_flag, file_word, solve_line};
 ghost use Rattle.tsume_words.specs.Line.{check_line, tsume_line};
 
 use crate::settings::{LEAST_ROWS, MOST_ROOM, MOST_ROWS, MOST_SHARDS, MOST_WORKERS};
@@ -123,6 +123,20 @@ fn problem_option<'a>(alloc: Global) -> Arg<'a>
         )
 }
 
+fn kif_flag<'a>(alloc: Global) -> Arg<'a>
+    ensures rule { rule_of result ≡ kif_flag }
+    ensures local { result.global ≡ false }
+{
+    Arg::new(alloc, "kif")
+        .long("kif")
+        .action(ArgAction::SetTrue)
+        .help(
+            "Read the board diagram of a KIF file, in UTF-8, instead\n\
+             of an SFEN. Its moves aren't played. Off unless given;\n\
+             it costs nothing",
+        )
+}
+
 fn rest_flag<'a>(alloc: Global) -> Arg<'a>
     ensures rule { rule_of result ≡ rest_flag }
     ensures local { result.global ≡ false }
@@ -152,7 +166,7 @@ fn solve_command<'a>(alloc: Global) -> Result<Command<'a>, AllocError>
     ensures local { IfOk result (λ command. (fields_of command).has_globals ≡ false) }
 {
     Command::new(alloc, "solve")
-        .about("Solves a problem (SFEN), and prints its mate or that there is none")
+        .about("Solves a problem (SFEN or KIF); prints its mate, or that there is none")
         .after_help(
             "It prints a certificate too, which `tsume check` accepts. Every interposition\n\
              counts, also one that only delays (the convention that leaves out useless ones\n\
@@ -167,6 +181,7 @@ fn solve_command<'a>(alloc: Global) -> Result<Command<'a>, AllocError>
         .arg(room_option(alloc))?
         .arg(rows_option(alloc))?
         .arg(shards_option(alloc))?
+        .arg(kif_flag(alloc))?
         .arg(rest_flag(alloc))?
         .arg(file_word(
             alloc,

@@ -4,7 +4,7 @@ ghost use Rattle.std.specs.Prelude.{option_and_then};
 ghost use Rattle.std.specs.Int.{IsPowerOfTwo, is_power_of_two};
 ghost use Rattle.clap.specs.Words.{found_of, kind_of, rows_of, subcommand_rows_of};
 ghost use Rattle.tsume_words.specs.Given.{AsksForHelp, HasFlag, HasNumber, IsForCommand, IsForSolve, IsNumberGiven, Wish, file_named, file_of, is_help};
-ghost use Rattle.tsume_words.specs.Given.{all_words, is_flagged, number_of, settings_of, but_dash, text_of, wish_named};
+ghost use Rattle.tsume_words.specs.Given.{all_words, form_of, is_flagged, number_of, settings_of, but_dash, text_of, wish_named};
 ghost use Rattle.tsume_words.specs.Given.Wish.{to_solve, to_check};
 ghost use Rattle.tsume_words.specs.Meaning.{IsOutcomeFor, FailsFirst, IsClapsEnd, IsEndFor, IsHelp, command_of};
 ghost use Rattle.tsume_words.specs.Meaning.{texts_of, wish_of, workers_of};
@@ -14,7 +14,7 @@ ghost use Rattle.tsume_words.specs.declared.settings.TheConstants.{MOST_WORKERS,
 ghost use Rattle.search_gate.specs.declared.expansions.TheConstants.{MOST_EXPANSIONS};
 
 use crate::line::command_line;
-use crate::{Asked, Command, Settings, Size, WordFault, WordsEnd};
+use crate::{Asked, Command, Format, ProblemForm, Settings, Size, WordFault, WordsEnd};
 use clap::ArgMatches;
 use clap::error::ErrorKind;
 use search_gate::Expansions;
@@ -141,12 +141,27 @@ fn expansions(given: &ArgMatches<'_>) -> Expansions
     }
 }
 
-// Whether clap found `--rest`.
-fn is_rest(given: &ArgMatches<'_>) -> bool
-    requires { HasFlag (codes "rest") (rows_of (found_of given.now)) }
-    ensures { result ≡ is_flagged (codes "rest") (rows_of (found_of given.now)) }
+// Whether clap found the flag of this name.
+fn is_flagged(given: &ArgMatches<'_>, name: &str) -> bool
+    requires { HasFlag name.now (rows_of (found_of given.now)) }
+    ensures { result ≡ is_flagged name.now (rows_of (found_of given.now)) }
 {
-    given.get_flag("rest")
+    given.get_flag(name)
+}
+
+// How the words say that the problem is given.
+fn form(given: &ArgMatches<'_>) -> ProblemForm
+    requires kif { HasFlag (codes "kif") (rows_of (found_of given.now)) }
+    requires rest { HasFlag (codes "rest") (rows_of (found_of given.now)) }
+    ensures { result ≡ form_of (rows_of (found_of given.now)) }
+{
+    let format = if is_flagged(given, "kif") {
+        Format::Kif
+    } else {
+        Format::Sfen
+    };
+    let rest = is_flagged(given, "rest");
+    ProblemForm { format, rest }
 }
 
 // The text that clap gives for the option of this name.
@@ -199,7 +214,7 @@ fn check(alloc: Global, given: &ArgMatches<'_>) -> Result<Asked, WordsEnd>
 fn solve(alloc: Global, given: &ArgMatches<'_>) -> Result<Asked, WordsEnd>
     requires { IsForSolve (rows_of (found_of given.now)) }
     ensures outcome { let found = rows_of (found_of given.now) in
-        IsOutcomeFor (to_solve (settings_of found) (is_flagged (codes "rest") found)) result }
+        IsOutcomeFor (to_solve (settings_of found) (form_of found)) result }
     ensures file { IfOk result (λ asked. option_map string_bytes asked.file ≡ but_dash (text_of (codes "file") (rows_of (found_of given.now)))) }
     ensures workers { IfOk result (λ asked. IsFromTo 1 MOST_WORKERS (workers_of asked.command)) }
 {
@@ -208,7 +223,7 @@ fn solve(alloc: Global, given: &ArgMatches<'_>) -> Result<Asked, WordsEnd>
     let room = room(given);
     let rows = number(given, "rows");
     let shards = number(given, "shards");
-    let rest = is_rest(given);
+    let form = form(given);
     if !is_power_of_two(rows) {
         return Err(WordsEnd::Fault(WordFault::NotPowerOfTwo(Size::Rows)));
     }
@@ -225,7 +240,7 @@ fn solve(alloc: Global, given: &ArgMatches<'_>) -> Result<Asked, WordsEnd>
         rows,
         shards,
     };
-    let command = Command::Solve { settings, rest };
+    let command = Command::Solve { settings, form };
     let file = file(alloc, given)?;
     Ok(Asked { command, file })
 }

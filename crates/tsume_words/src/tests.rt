@@ -3,10 +3,16 @@ use super::*;
 use std::alloc::{AllocError, Global};
 use std::test::Fail;
 
-// A line, and what it asks for: the numbers in the order of the settings and whether `--rest` stands, or the workers; and the file.
-static ASKED: [(&str, &str); 26] = [
+// A line, and what it asks for: the numbers in the order of the settings, whether `--rest` stands, and `kif` where `--kif` does; or the
+// workers; and the file.
+static ASKED: [(&str, &str); 28] = [
     ("solve", "solve 1 1000000 1048576 16384 16 false"),
     ("solve --rest", "solve 1 1000000 1048576 16384 16 true"),
+    ("solve --kif", "solve 1 1000000 1048576 16384 16 false kif"),
+    (
+        "solve --rest --kif a.kif",
+        "solve 1 1000000 1048576 16384 16 true kif of a.kif",
+    ),
     (
         "solve --workers 64",
         "solve 64 1000000 1048576 16384 16 false",
@@ -82,7 +88,7 @@ static REFUSED: [(&str, &str); 23] = [
         "error: unexpected argument '--workers' found",
     ),
     ("solve a b", "error: unexpected argument 'b' found"),
-    ("solve --kif", "error: unexpected argument '--kif' found"),
+    ("check --kif", "error: unexpected argument '--kif' found"),
     (
         "check --rows 16",
         "error: unexpected argument '--rows' found",
@@ -142,13 +148,13 @@ static REFUSED: [(&str, &str); 23] = [
 ];
 
 // A request for help or for the version, and a part of its text.
-static HELPED: [(&str, &str); 15] = [
+static HELPED: [(&str, &str); 16] = [
     ("--version", "tsume 0.1.0\n"),
     ("-V --help", "tsume 0.1.0\n"),
     ("--help", "Usage: tsume <COMMAND>\n"),
     (
         "-h",
-        "\n  solve  Solves a problem (SFEN), and prints its mate",
+        "\n  solve  Solves a problem (SFEN or KIF); prints its mate",
     ),
     ("help", "\n  check  Checks a certificate, alone or behind"),
     (
@@ -165,6 +171,10 @@ static HELPED: [(&str, &str); 15] = [
         "\n      --rest            Give the defender all pieces",
     ),
     ("solve -h", " Off unless given; the search may list more\n"),
+    (
+        "solve -h",
+        "\n      --kif             Read the board diagram of a KIF file, in UTF-8, instead\n",
+    ),
     (
         "solve -h",
         "Every interposition\ncounts, also one that only delays",
@@ -191,7 +201,7 @@ fn words_of(alloc: Global, line: &str) -> Result<Vec<String>, AllocError> {
 
 fn command_text(alloc: Global, command: &Command) -> Result<String, AllocError> {
     match command {
-        Command::Solve { settings, rest } => {
+        Command::Solve { settings, form } => {
             let Settings {
                 workers,
                 expansions,
@@ -200,7 +210,12 @@ fn command_text(alloc: Global, command: &Command) -> Result<String, AllocError> 
                 shards,
             } = *settings;
             let expansions = expansions.count;
-            format!(in alloc; "solve {workers} {expansions} {room} {rows} {shards} {rest}")
+            let rest = form.rest;
+            let kif = match form.format {
+                Format::Sfen => "",
+                Format::Kif => " kif",
+            };
+            format!(in alloc; "solve {workers} {expansions} {room} {rows} {shards} {rest}{kif}")
         }
         Command::Check { workers, problem } => match problem {
             Some(problem) => format!(in alloc; "check {workers} {problem}"),

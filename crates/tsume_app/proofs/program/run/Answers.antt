@@ -9,25 +9,25 @@ use Rattle.tsume_app.proofs.Promises.{mate_of, no_mate_of, unknown_of, own_mate_
 use Rattle.tsume_app.proofs.program.run.Goals as goal
 
 pub returns-clause-mate : goal.returns-clause-mate
-returns-clause-mate g c = λ rest input certificate moves asks told is.
+returns-clause-mate g c = λ form input certificate moves asks told is.
     let source = shown g.S.Source.left g.S.Source.faults c.args.source.now c.words_ended.new.source in
     let sink = shown g.K.Sink.kept g.K.Sink.faults c.args.sink.now c.words_ended.new.sink in
-    mate_of asks.0 rest source sink input certificate moves
-    (subst (λ (e : Ended). IsEnded (to_solve asks.0 rest) source sink e) is (c.words_ended.ensures.ended (to_solve asks.0 rest) asks.1)) told
+    mate_of asks.0 form source sink input certificate moves
+    (subst (λ (e : Ended). IsEnded (to_solve asks.0 form) source sink e) is (c.words_ended.ensures.ended (to_solve asks.0 form) asks.1)) told
 
 pub returns-clause-no_mate : goal.returns-clause-no_mate
-returns-clause-no_mate g c = λ rest input certificate asks told is.
+returns-clause-no_mate g c = λ form input certificate asks told is.
     let source = shown g.S.Source.left g.S.Source.faults c.args.source.now c.words_ended.new.source in
     let sink = shown g.K.Sink.kept g.K.Sink.faults c.args.sink.now c.words_ended.new.sink in
-    no_mate_of asks.0 rest source sink input certificate
-    (subst (λ (e : Ended). IsEnded (to_solve asks.0 rest) source sink e) is (c.words_ended.ensures.ended (to_solve asks.0 rest) asks.1)) told
+    no_mate_of asks.0 form source sink input certificate
+    (subst (λ (e : Ended). IsEnded (to_solve asks.0 form) source sink e) is (c.words_ended.ensures.ended (to_solve asks.0 form) asks.1)) told
 
 pub returns-clause-gave_up : goal.returns-clause-gave_up
-returns-clause-gave_up g c = λ settings rest input cause asks told is.
+returns-clause-gave_up g c = λ settings form input cause asks told is.
     let source = shown g.S.Source.left g.S.Source.faults c.args.source.now c.words_ended.new.source in
     let sink = shown g.K.Sink.kept g.K.Sink.faults c.args.sink.now c.words_ended.new.sink in
-    unknown_of settings rest source sink input cause
-    (subst (λ (e : Ended). IsEnded (to_solve settings rest) source sink e) is (c.words_ended.ensures.ended (to_solve settings rest) asks)) told
+    unknown_of settings form source sink input cause
+    (subst (λ (e : Ended). IsEnded (to_solve settings form) source sink e) is (c.words_ended.ensures.ended (to_solve settings form) asks)) told
 
 pub returns-clause-own_mate : goal.returns-clause-own_mate
 returns-clause-own_mate g c = λ certificate moves is.
@@ -45,11 +45,11 @@ pub returns-clause-accepted : goal.returns-clause-accepted
 returns-clause-accepted g c = λ problem input claim entries asks told whole.
     let source = shown g.S.Source.left g.S.Source.faults c.args.source.now c.words_ended.new.source in
     let sink = shown g.K.Sink.kept g.K.Sink.faults c.args.sink.now c.words_ended.new.sink in
-    accepted_of c.sfen_laws.ensures.outcomes asks.0 problem source sink input claim entries c.words_ended.result
+    accepted_of c.text_laws.ensures asks.0 problem source sink input claim entries c.words_ended.result
     (c.words_ended.ensures.ended (to_check asks.0 problem) asks.1) told whole
 
 pub returns-clause-complete : goal.returns-clause-complete
 returns-clause-complete g c = λ wish asks posed sound kept.
     let source = shown g.S.Source.left g.S.Source.faults c.args.source.now c.words_ended.new.source in
     let sink = shown g.K.Sink.kept g.K.Sink.faults c.args.sink.now c.words_ended.new.sink in
-    complete_of c.sfen_laws.ensures.outcomes wish source sink c.words_ended.result (c.words_ended.ensures.ended wish asks) posed sound kept
+    complete_of c.text_laws.ensures wish source sink c.words_ended.result (c.words_ended.ensures.ended wish asks) posed sound kept

@@ -6,4 +6,4 @@ use Rattle.tsume_app.proofs.solution.read_problem.Goals as goal
 pub accept_problem-requires : goal.accept_problem-requires
 accept_problem-requires c =
     subst (λ (b : Board). HasDefender b) (sym c.searched_position.ensures)
-    (searched_has_king c.args.rest c.in_ok-position.position c.in_ok-position.ensures.defender)
+    (searched_has_king c.args.form.rest c.in_ok-position.position c.in_ok-position.ensures.defender)

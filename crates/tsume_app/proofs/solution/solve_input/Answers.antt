@@ -6,5 +6,5 @@ use Rattle.tsume_app.proofs.solution.solve_input.Goals as goal
 
 pub returns-in_err-solution-clause-cause : goal.returns-in_err-solution-clause-cause
 returns-in_err-solution-clause-cause g c = λ source read.
-    let wanted = read_then_wanted (to_solve (settings_in c.args.settings.now) c.args.rest) source c.args.input.now read in
+    let wanted = read_then_wanted (to_solve (settings_in c.args.settings.now) c.args.form) source c.args.input.now read in
     search rules

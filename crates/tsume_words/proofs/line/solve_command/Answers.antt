@@ -23,11 +23,14 @@ returns c =
     let no_3 = stays_local _ _ _ c.in_ok-arg-3.ensures.globals no_2 n.local in
     let no_4 = stays_local _ _ _ c.in_ok-arg-4.ensures.globals no_3 r.local in
     let no_5 = stays_local _ _ _ c.in_ok-arg-5.ensures.globals no_4 s.local in
+    let k = c.kif_flag.ensures in
     let f = c.rest_flag.ensures in
     let w_file = c.file_word.ensures in
-    let six = c.in_ok-arg-6.ensures.shape f.local ∙ ap₂ with_rule five f.rule in
-    let no_6 = stays_local _ _ _ c.in_ok-arg-6.ensures.globals no_5 f.local in
+    let six = c.in_ok-arg-6.ensures.shape k.local ∙ ap₂ with_rule five k.rule in
+    let no_6 = stays_local _ _ _ c.in_ok-arg-6.ensures.globals no_5 k.local in
+    let seven = c.in_ok-arg-7.ensures.shape f.local ∙ ap₂ with_rule six f.rule in
+    let no_7 = stays_local _ _ _ c.in_ok-arg-7.ensures.globals no_6 f.local in
     record {
-      app = IfOk-weaker c.arg-7.result _ _ (λ r adds. adds.shape w_file.local ∙ ap₂ with_rule six w_file.rule) c.arg-7.ensures;
-      local = IfOk-weaker c.arg-7.result _ _ (λ r adds. stays_local _ _ _ adds.globals no_6 w_file.local) c.arg-7.ensures;
+      app = IfOk-weaker c.arg-8.result _ _ (λ r adds. adds.shape w_file.local ∙ ap₂ with_rule seven w_file.rule) c.arg-8.ensures;
+      local = IfOk-weaker c.arg-8.result _ _ (λ r adds. stays_local _ _ _ adds.globals no_7 w_file.local) c.arg-8.ensures;
     }
