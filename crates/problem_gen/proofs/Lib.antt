@@ -1,0 +1,5 @@
+pub mod Alone
+pub mod Attacking
+pub mod Drawing
+pub mod Generated
+pub mod Leftover

@@ -1,0 +1,3 @@
+-- The problems that the generator makes, by number.
+pub mod Draws
+pub mod Generator
