@@ -18,7 +18,7 @@ use Rattle.plain_search.specs.Ranks.{rank_at, IsRanked, IsBeaten, AreWon, AreLos
 use Rattle.plain_search.specs.Plain.{IsFirstInto, HoldsEscape, IsPlainEscape}
 use Rattle.plain_search.specs.Decision.{known_of}
 use Rattle.plain_search.specs.Agenda.{AreListed}
-use Rattle.plain_search.specs.Entries.{AreEscapeEntries}
+use Rattle.cert_order.specs.Entries.{AreEscapeEntries}
 use Rattle.list_laws.proofs.Standing.{contained, at_place, get_cases, more}
 use Rattle.plain_search.proofs.Ranking.{Ranks, not_both}
 use Rattle.plain_search.proofs.Steps.{step_by, by_of, after_side, step_evasions, step_checks}

@@ -6,12 +6,10 @@ pub mod Told
 pub mod Agendas
 pub mod Mates
 pub mod Escapes
-pub mod TextOrder
-pub mod Picked
 pub mod Exact
 pub mod Reached
 pub mod Deciding
 pub mod MoveOrder
 pub mod Held
-pub mod PlainPicked
 pub mod Ends
+pub mod Sorted

@@ -24,7 +24,7 @@ use Rattle.cert_text.specs.Certificate.{AreApart}
 use Rattle.plain_search.specs.Graph.{AreSteps, IsGraph, moves_of, steps_at, expansions_of}
 use Rattle.plain_search.specs.Ranks.{rank_at, HasRank, IsBelow, IsRanked, IsBeaten, IsWon, AreRanks}
 use Rattle.plain_search.specs.Agenda.{AreListed}
-use Rattle.plain_search.specs.Entries.{AreMateEntries}
+use Rattle.cert_order.specs.Entries.{AreMateEntries}
 use Rattle.list_laws.proofs.Standing.{contained, at_place, from_map, contains_map, get_cases, more}
 use Rattle.plain_search.proofs.Ranking.{Ranks, within, rank_cases, some_unranked, unranked-is}
 use Rattle.plain_search.proofs.Steps.{step_by, by_of, after_side, step_checks}

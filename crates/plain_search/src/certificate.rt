@@ -1,27 +1,15 @@
-// Certificates of entries that are yet to be put in order.
-ghost use Rattle.std.specs.Prelude.{◌<◌, ℕ, IfOk, List, Contains, length};
+// Certificates of the entries that were found.
+ghost use Rattle.std.specs.Prelude.{IfOk, List};
 ghost use Rattle.board_core.specs.Board.{Board};
 ghost use Rattle.cert_check.specs.Valid.{ValidMate, ValidEscape};
+ghost use Rattle.cert_order.specs.Entries.{AreMateEntries, AreEscapeEntries};
 ghost use Rattle.plain_search.specs.Plain.{IsPlainMate, IsPlainEscape};
-ghost use Rattle.plain_search.specs.Entries.{AreMateEntries, ArePlainEntries, AreEscapeEntries, ArePicked};
+ghost use Rattle.plain_search.specs.Entries.{ArePlainEntries};
 
-use crate::order::text_order;
 use board_core::Position;
 use cert_text::{EscapeCertificate, MateCertificate, MateEntry};
 use shogi_rules::Problem;
 use std::alloc::{AllocError, Global};
-
-// The items at these places, in this order.
-fn items_at<T: Copy>(alloc: Global, items: &[T], order: &[usize]) -> Result<Vec<T>, AllocError>
-    requires { (place : ℕ) → Contains order.now place → place < length items.now }
-    ensures { IfOk result (λ picked. ArePicked items.now order.now picked.items) }
-{
-    let mut picked = Vec::new(alloc);
-    for place in order {
-        picked.push(items[*place])?;
-    }
-    Ok(picked)
-}
 
 /// The certificate of a mate's entries, in the order of their texts.
 pub(crate) fn mate_certificate(
@@ -33,13 +21,7 @@ pub(crate) fn mate_certificate(
     ensures valid { IfOk result (λ certificate. ValidMate certificate problem.now.position) }
     ensures plain { IfOk result (λ certificate. (known : List Board) → ArePlainEntries problem.now.position known entries.now → IsPlainMate problem.now.position known certificate) }
 {
-    let mut positions = Vec::new(alloc);
-    for entry in entries {
-        positions.push(entry.at)?;
-    }
-    let order = text_order(alloc, &positions)?;
-    let sorted = items_at(alloc, entries, &order)?;
-    Ok(MateCertificate::new(*problem, sorted))
+    cert_order::mate_certificate(alloc, problem, entries)
 }
 
 /// The certificate of an escape's entries, in the order of their texts.
@@ -52,7 +34,5 @@ pub(crate) fn escape_certificate(
     ensures valid { IfOk result (λ certificate. ValidEscape certificate problem.now.position) }
     ensures plain { IfOk result (λ certificate. (known : List Board) → IsPlainEscape problem.now.position known (record { problem = problem.now.position; entries = entries.now }) → IsPlainEscape problem.now.position known certificate) }
 {
-    let order = text_order(alloc, entries)?;
-    let sorted = items_at(alloc, entries, &order)?;
-    Ok(EscapeCertificate::new(*problem, sorted))
+    cert_order::escape_certificate(alloc, problem, entries)
 }

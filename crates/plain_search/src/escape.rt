@@ -4,7 +4,7 @@ ghost use Rattle.plain_search.specs.Graph.{IsGraph, expansions_of};
 ghost use Rattle.plain_search.specs.Ranks.{rank_at, IsBeaten, AreWon, AreLost, IsWayOut};
 ghost use Rattle.plain_search.specs.Plain.{IsPlainEscape};
 ghost use Rattle.plain_search.specs.Decision.{known_of};
-ghost use Rattle.plain_search.specs.Entries.{AreEscapeEntries};
+ghost use Rattle.cert_order.specs.Entries.{AreEscapeEntries};
 
 use crate::agenda::Agenda;
 use crate::graph::Graph;

@@ -15,7 +15,6 @@ mod graph;
 mod grow;
 mod levels;
 mod mate;
-mod order;
 mod outcome;
 mod ranks;
 #[cfg(test)]

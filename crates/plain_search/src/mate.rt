@@ -6,7 +6,8 @@ ghost use Rattle.plain_search.specs.Graph.{IsGraph, steps_at, moves_of, expansio
 ghost use Rattle.plain_search.specs.declared.graph.Step.{Step};
 ghost use Rattle.plain_search.specs.Ranks.{rank_at, HasRank, IsWon, IsBeaten, AreRanks};
 ghost use Rattle.plain_search.specs.Decision.{known_of};
-ghost use Rattle.plain_search.specs.Entries.{AreMateEntries, ArePlainEntries};
+ghost use Rattle.cert_order.specs.Entries.{AreMateEntries};
+ghost use Rattle.plain_search.specs.Entries.{ArePlainEntries};
 
 use crate::agenda::Agenda;
 use crate::graph::{Graph, Step};

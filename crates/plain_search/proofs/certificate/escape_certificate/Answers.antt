@@ -1,28 +1,9 @@
-use Rattle.std.proofs.Common.{List, ℕ, Contains, subst}
-use Rattle.plain_search.specs.Entries.{ArePicked}
-use Rattle.plain_search.proofs.Picked.{escaping, valid_escape}
-use Rattle.plain_search.proofs.PlainPicked.{plain_escape}
+use Rattle.std.proofs.lemmas.Result.{IfOk-weaker}
+use Rattle.plain_search.proofs.Sorted.{plain_escape}
 use Rattle.plain_search.proofs.certificate.escape_certificate.Goals as goal
 
-pub items_at-requires : goal.items_at-requires
-items_at-requires c place there =
-    c.in_ok-order.ensures.within place (subst (λ (os : List ℕ). Contains os place) c.deref.ensures.value there)
-
-pub new-requires : goal.new-requires
-new-requires c =
-    escaping c.args.problem.now.position c.args.entries.now c.in_ok-sorted.sorted.items c.in_ok-order.order.items c.args.problem.now.accepted c.requires
-    c.in_ok-order.ensures
-    (subst (λ (os : List ℕ). ArePicked c.args.entries.now os c.in_ok-sorted.sorted.items) c.deref.ensures.value c.in_ok-sorted.ensures)
-
-pub returns-clause-valid : goal.returns-clause-valid
-returns-clause-valid c =
-    valid_escape c.args.problem.now.position c.args.entries.now c.in_ok-sorted.sorted.items c.in_ok-order.order.items c.new.result c.new.ensures c.requires
-    c.in_ok-order.ensures
-    (subst (λ (os : List ℕ). ArePicked c.args.entries.now os c.in_ok-sorted.sorted.items) c.deref.ensures.value c.in_ok-sorted.ensures)
-
 pub returns-clause-plain : goal.returns-clause-plain
-returns-clause-plain c known plain =
-    plain_escape c.args.problem.now.position known c.args.entries.now c.in_ok-sorted.sorted.items c.in_ok-order.order.items c.new.result c.new.ensures
-    c.in_ok-order.ensures
-    (subst (λ (os : List ℕ). ArePicked c.args.entries.now os c.in_ok-sorted.sorted.items) c.deref.ensures.value c.in_ok-sorted.ensures)
-    plain
+returns-clause-plain c =
+    IfOk-weaker c.escape_certificate.result _ _
+    (λ certificate same known plain. plain_escape c.args.problem.now.position known c.args.entries.now certificate same plain)
+    c.escape_certificate.ensures.same

@@ -1,44 +1,9 @@
-use Rattle.std.proofs.Common.{◌∙◌, arith, sym, subst, List, ℕ, Contains}
-use Rattle.board_core.specs.Board.{Board}
-use Rattle.board_core.specs.Kept.{IsKept}
-use Rattle.cert_text.specs.Certificate.{AreApart}
-use Rattle.plain_search.specs.Entries.{IsTextOrder, ArePicked}
-use Rattle.plain_search.proofs.Picked.{all_positions, as_many, of_entries, mating, valid_mate, plain_mate}
+use Rattle.std.proofs.lemmas.Result.{IfOk-weaker}
+use Rattle.plain_search.proofs.Sorted.{plain_mate}
 use Rattle.plain_search.proofs.certificate.mate_certificate.Goals as goal
 
-pub text_order-requires-clause-apart : goal.text_order-requires-clause-apart
-text_order-requires-clause-apart c =
-    let e = c.deref.ensures.value ∙ all_positions c.args.entries.now c.loop-entry.entry-index c.loop-entry.positions.items c.loop-entry.invariant c.loop-entry-test.false in
-    subst AreApart (sym e) c.requires.apart
-
-pub text_order-requires-clause-kept : goal.text_order-requires-clause-kept
-text_order-requires-clause-kept c b there =
-    let e = c.deref.ensures.value ∙ all_positions c.args.entries.now c.loop-entry.entry-index c.loop-entry.positions.items c.loop-entry.invariant c.loop-entry-test.false in
-    of_entries IsKept c.args.entries.now c.requires.kept b (subst (λ (bs : List Board). Contains bs b) e there)
-
-pub items_at-requires : goal.items_at-requires
-items_at-requires c place there =
-    let e = c.deref.ensures.value ∙ all_positions c.args.entries.now c.loop-entry.entry-index c.loop-entry.positions.items c.loop-entry.invariant c.loop-entry-test.false in
-    let n = as_many c.args.entries.now in
-    let ordered = subst (λ (bs : List Board). IsTextOrder bs c.in_ok-order.order.items) e c.in_ok-order.ensures in
-    let w = ordered.within place (subst (λ (os : List ℕ). Contains os place) c.deref-2.ensures.value there) in
-    omega arith
-
-pub new-requires : goal.new-requires
-new-requires c =
-    let e = c.deref.ensures.value ∙ all_positions c.args.entries.now c.loop-entry.entry-index c.loop-entry.positions.items c.loop-entry.invariant c.loop-entry-test.false in
-    mating c.args.problem.now.position c.args.entries.now c.in_ok-sorted.sorted.items c.in_ok-order.order.items c.args.problem.now.accepted c.requires
-    (subst (λ (bs : List Board). IsTextOrder bs c.in_ok-order.order.items) e c.in_ok-order.ensures)
-    (subst (λ (os : List ℕ). ArePicked c.args.entries.now os c.in_ok-sorted.sorted.items) c.deref-2.ensures.value c.in_ok-sorted.ensures)
-
-pub returns : goal.returns
-returns c =
-    let e = c.deref.ensures.value ∙ all_positions c.args.entries.now c.loop-entry.entry-index c.loop-entry.positions.items c.loop-entry.invariant c.loop-entry-test.false in
-    let ordered = subst (λ (bs : List Board). IsTextOrder bs c.in_ok-order.order.items) e c.in_ok-order.ensures in
-    let picked = subst (λ (os : List ℕ). ArePicked c.args.entries.now os c.in_ok-sorted.sorted.items) c.deref-2.ensures.value c.in_ok-sorted.ensures in
-    record {
-      valid = valid_mate c.args.problem.now.position c.args.entries.now c.in_ok-sorted.sorted.items c.in_ok-order.order.items c.new.result c.new.ensures
-          c.requires ordered picked;
-      plain = plain_mate c.args.problem.now.position c.args.entries.now c.in_ok-sorted.sorted.items c.in_ok-order.order.items c.new.result c.new.ensures
-          ordered picked;
-    }
+pub returns-clause-plain : goal.returns-clause-plain
+returns-clause-plain c =
+    IfOk-weaker c.mate_certificate.result _ _
+    (λ certificate same known plain. plain_mate c.args.problem.now.position known c.args.entries.now certificate same plain)
+    c.mate_certificate.ensures.same

@@ -3,8 +3,8 @@ use Rattle.std.proofs.lemmas.Grind.{common_steps}
 use Rattle.std.proofs.lemmas.Option.{slice_get_read}
 use Rattle.std.proofs.lemmas.Map.Iter.{rest_all}
 use Rattle.std.specs.Map.Iter.{deref}
-use Rattle.plain_search.proofs.TextOrder.{none_yet, one_text_more, text_ordered}
-use Rattle.plain_search.proofs.order.text_order.Goals as goal
+use Rattle.cert_order.proofs.TextOrder.{none_yet, one_text_more, text_ordered}
+use Rattle.cert_order.proofs.order.text_order.Goals as goal
 
 pub loop-place-init : goal.loop-place-init
 loop-place-init c = none_yet c.args.positions.now c.new-by_text.result c.new-by_text.ensures.empty

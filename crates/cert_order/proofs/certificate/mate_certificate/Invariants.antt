@@ -1,6 +1,6 @@
 use Rattle.std.proofs.Common.{◌≡◌, take}
 use Rattle.cert_text.specs.Certificate.{positions_of}
-use Rattle.plain_search.proofs.certificate.mate_certificate.Given as goal
+use Rattle.cert_order.proofs.certificate.mate_certificate.Given as goal
 
 abbrev pub invariant-loop-entry : goal.invariant-loop-entry
 invariant-loop-entry l = l.positions.items ≡ positions_of (take l.entry-index l.entries)

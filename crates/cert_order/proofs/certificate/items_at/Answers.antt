@@ -1,9 +1,9 @@
 use Rattle.std.proofs.Common.{◌<◌, List, ℕ, get_or, length, subst, arith}
 use Rattle.std.proofs.lemmas.List.{take_all}
 use Rattle.std.proofs.lemmas.List.Elements.{Contains-get_or}
-use Rattle.plain_search.specs.Entries.{ArePicked}
-use Rattle.plain_search.proofs.Picked.{pick_more}
-use Rattle.plain_search.proofs.certificate.items_at.Goals as goal
+use Rattle.cert_order.specs.Order.{ArePicked}
+use Rattle.cert_order.proofs.Picked.{pick_more}
+use Rattle.cert_order.proofs.certificate.items_at.Goals as goal
 
 pub bounds-items-place : goal.bounds-items-place
 bounds-items-place g c = c.requires _ (Contains-get_or c.args.order.now c.loop-place.place-index 0 c.loop-place-test.true)

@@ -11,8 +11,8 @@ use Rattle.shogi_rules.specs.Tsume.{IsProblem}
 use Rattle.mate_def.specs.Mate.{IsClosed}
 use Rattle.cert_text.specs.Certificate.{Mating, Escaping, IsMating, IsEscaping, IsRising, positions_of}
 use Rattle.cert_check.specs.Valid.{IsListedBelow, ValidMate, ValidEscape}
-use Rattle.plain_search.specs.Plain.{IsPlainMate}
-use Rattle.plain_search.specs.Entries.{AreMateEntries, ArePlainEntries, mating_of, AreEscapeEntries, RiseAt, IsTextOrder, ArePicked}
+use Rattle.cert_order.specs.Entries.{AreMateEntries, AreEscapeEntries, HaveSame}
+use Rattle.cert_order.specs.Order.{RiseAt, IsTextOrder, ArePicked}
 use Rattle.list_laws.proofs.Standing.{contained, at_place, from_map}
 
 -- 1. The members.
@@ -128,25 +128,12 @@ pub valid_mate : (p : Board) (entries sorted : List MateEntry) (order : List ℕ
 valid_mate p entries sorted order certificate is are ordered picked =
     subst (λ (c : Mating). ValidMate c p) (sym is) (valid_sorted p entries sorted order are ordered picked)
 
--- the same entries in another order lead to the same positions
-plain_sorted : (p : Board) (known : List Board) (entries sorted : List MateEntry) → ((entry : MateEntry) → Contains entries entry → Contains sorted entry)
-    → ((entry : MateEntry) → Contains sorted entry → Contains entries entry) → ArePlainEntries p known entries
-    → IsPlainMate p known (mating_of p sorted)
-plain_sorted p known entries sorted kept of plain = record {
-  entries = λ entry c. plain.entries entry (of entry c);
-  reached = λ entry positions c holds. plain.reached entry positions (of entry c) (record {
-    problem = holds.problem;
-    next = λ e evasion there held is_evasion. holds.next e evasion (kept e there) held is_evasion;
-  });
-}
-
-pub plain_mate : (p : Board) (entries sorted : List MateEntry) (order : List ℕ) (certificate : Mating)
-    → certificate ≡ record { problem = p; entries = sorted } → IsTextOrder (positions_of entries) order → ArePicked entries order sorted
-    → (known : List Board) → ArePlainEntries p known entries → IsPlainMate p known certificate
-plain_mate p entries sorted order certificate is ordered picked known plain =
-    let kept = λ (entry : MateEntry) (c : Contains entries entry). is_picked entries order sorted (all_entries entries order ordered) picked entry c in
-    let of = λ (entry : MateEntry) (c : Contains sorted entry). of_picked entries order sorted picked entry c in
-    subst (λ (c : Mating). IsPlainMate p known c) (sym is) (plain_sorted p known entries sorted kept of plain)
+pub same_mate : (p : Board) (entries sorted : List MateEntry) (order : List ℕ) (certificate : Mating)
+    → certificate ≡ record { problem = p; entries = sorted }
+    → IsTextOrder (positions_of entries) order → ArePicked entries order sorted → HaveSame certificate.entries entries
+same_mate p entries sorted order certificate is ordered picked =
+    subst (λ (c : Mating). HaveSame c.entries entries) (sym is)
+    (λ entry. (of_picked entries order sorted picked entry, is_picked entries order sorted (all_entries entries order ordered) picked entry))
 
 -- 3. An escape's entries.
 
@@ -175,3 +162,10 @@ valid_escape p entries sorted order certificate is are ordered picked =
     let of = λ (b : Board) (c : Contains sorted b). of_picked entries order sorted picked b c in
     subst (λ (c : Escaping). ValidEscape c p) (sym is)
     (record { problem = refl; listed = kept p are.listed; closed = closed_sorted p.side entries sorted kept of are.closed })
+
+pub same_escape : (p : Board) (entries sorted : List Board) (order : List ℕ) (certificate : Escaping)
+    → certificate ≡ record { problem = p; entries = sorted } → IsTextOrder entries order → ArePicked entries order sorted
+    → HaveSame certificate.entries entries
+same_escape p entries sorted order certificate is ordered picked =
+    subst (λ (c : Escaping). HaveSame c.entries entries) (sym is)
+    (λ b. (of_picked entries order sorted picked b, is_picked entries order sorted ordered.all picked b))

@@ -3,7 +3,7 @@ ghost use Rattle.std.specs.Prelude.{IfOk, Contains};
 ghost use Rattle.board_core.specs.Board.{Board};
 ghost use Rattle.board_core.specs.Kept.{IsKept};
 ghost use Rattle.cert_text.specs.Certificate.{AreApart};
-ghost use Rattle.plain_search.specs.Entries.{IsTextOrder};
+ghost use Rattle.cert_order.specs.Order.{IsTextOrder};
 
 use board_core::Position;
 use sfen_text::write_sfen;

@@ -1,6 +1,6 @@
 use Rattle.std.proofs.Common.{◌≡◌, ◌++◌}
-use Rattle.plain_search.proofs.TextOrder.{AreTextsBelow}
-use Rattle.plain_search.proofs.order.text_order.Given as goal
+use Rattle.cert_order.proofs.TextOrder.{AreTextsBelow}
+use Rattle.cert_order.proofs.order.text_order.Given as goal
 
 abbrev pub invariant-loop-place : goal.invariant-loop-place
 invariant-loop-place l = AreTextsBelow l.positions l.place l.by_text

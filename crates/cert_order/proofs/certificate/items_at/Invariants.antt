@@ -1,6 +1,6 @@
 use Rattle.std.proofs.Common.{take}
-use Rattle.plain_search.specs.Entries.{ArePicked}
-use Rattle.plain_search.proofs.certificate.items_at.Given as goal
+use Rattle.cert_order.specs.Order.{ArePicked}
+use Rattle.cert_order.proofs.certificate.items_at.Given as goal
 
 abbrev pub invariant-loop-place : goal.invariant-loop-place
 invariant-loop-place g l = ArePicked l.items (take l.place-index l.order) l.picked.items

@@ -1,0 +1,251 @@
+-- The walk of an escape: what is listed so far, and which notes are yet to be walked.
+use Rattle.std.proofs.Common.{◌≡◌, ◌≢◌, ◌++◌, ◌⊎◌, inl, inr, ℕ, zero, suc, List, [], ◌∷◌, length, map, reverse, Contains, arith, refl, sym, ◌∙◌, ap, subst}
+use Rattle.std.specs.Prelude.{Some, slice_get}
+use Rattle.std.proofs.lemmas.List.{map_push}
+use Rattle.std.proofs.lemmas.Option.{slice_get_within}
+use Rattle.std.proofs.lemmas.List.Elements.{Contains-append_left, Contains-append_right, Contains-append_cases, Contains-push, Contains-push_cases}
+use Rattle.bit_boards.specs.declared.piece.Side.{Side}
+use Rattle.board_core.specs.declared.keys.Key.{Key}
+use Rattle.board_core.specs.declared.moves.Move.{Move}
+use Rattle.board_core.specs.Board.{Board}
+use Rattle.board_core.specs.Kept.{IsKept}
+use Rattle.board_core.specs.Key.{key_of}
+use Rattle.shogi_rules.specs.Tsume.{IsCheck, IsProblem}
+use Rattle.mate_def.specs.Mate.{HasEvasionTo}
+use Rattle.cert_text.specs.Certificate.{AreApart}
+use Rattle.cert_order.specs.Entries.{AreEscapeEntries}
+use Rattle.notes.specs.declared.rule.Conclusion.{Conclusion}
+use Rattle.notes.specs.declared.rule.Conclusion.TheVariants.{Escape}
+use Rattle.cert_check.specs.declared.places.Places.{Places}
+use Rattle.cert_check.specs.Places.{ArePlacesOf, IsWith, IsPlaceOrNext}
+use Rattle.list_laws.proofs.Standing.{contained}
+use Rattle.notes.specs.Valid.{IsValid}
+use Rattle.notes.specs.Derivation.{Derivation, attacker_of, conclusion_of, position_of, tag_of}
+use Rattle.cert_extract.specs.Tree.{two_under}
+use Rattle.cert_extract.specs.Extracted.{IsEscapeFrom}
+use Rattle.cert_extract.proofs.Trees.{in_itself, in_reverse, of_reverse}
+use Rattle.cert_extract.proofs.Rules.{IsPending, EscapesDown, escapes_down, kept_at, problem_at}
+
+-- the position is that of a note that is yet to be walked
+abbrev pub IsAhead : List Derivation → Board → Type 0
+IsAhead pending q = (n : Derivation) × Contains pending n × (position_of n ≡ q)
+
+pub record IsListed (attacker : Side) (top : Derivation) (b : Board) : Type 0 where
+  pub from : IsEscapeFrom top b
+  pub kept : IsKept b
+  pub is_problem : IsProblem b
+  pub turn : b.side ≡ attacker
+
+-- the position is listed or ahead; from each listed position, each check has an evasion to one that is; the tags of what is ahead have
+-- only keys of listed positions
+pub record IsEscapeWalk (p : Board) (top : Derivation) (positions : List Board) (pending : List Derivation) : Type 0 where
+  pub start : Contains positions p ⊎ IsAhead pending p
+  pub ways : (b : Board) (check : Move) → Contains positions b → IsCheck p.side b check
+      → HasEvasionTo p.side (λ q. Contains positions q ⊎ IsAhead pending q) b check
+  pub notes : (n : Derivation) → Contains pending n → IsPending Escape p.side top n
+  pub tags : (n : Derivation) (key : Key) → Contains pending n → Contains (tag_of n) key → (b : Board) × Contains positions b × (key.0 ≡ key_of b)
+  pub listed : (b : Board) → Contains positions b → IsListed p.side top b
+
+pub none_in : {X : Type 0} (x : X) (T : Type 0) → Contains [] x → T
+none_in x T c = absurd (let inside = c.1 in omega (arith, inside))
+
+pub escape_begun : (p : Board) (top : Derivation) → IsPending Escape p.side top top → position_of top ≡ p → tag_of top ≡ [] → IsEscapeWalk p top [] (top ∷ [])
+escape_begun p top h about closed = record {
+  start = inr (top, (zero, omega arith, refl), about);
+  ways = λ b check c is. none_in b _ c;
+  notes = λ n c. subst (λ (d : Derivation). IsPending Escape p.side top d) (alone n c) h;
+  tags = λ n key c held.
+      none_in key _ (subst (λ (tag : List Key). Contains tag key) closed (subst (λ (d : Derivation). Contains (tag_of d) key) (sym (alone n c)) held));
+  listed = λ b c. none_in b _ c;
+}
+  where
+    alone : (n : Derivation) → Contains (top ∷ []) n → top ≡ n
+    alone n (zero, inside, e) = e
+    alone n (suc k, inside, e) = absurd (omega (arith, inside))
+
+-- what was listed or ahead still is, where a note is no longer ahead but its position is listed
+still : (positions more : List Board) (rest ahead : List Derivation) (note : Derivation) → ((b : Board) → Contains positions b → Contains more b)
+    → ((n : Derivation) → Contains rest n → Contains ahead n) → Contains more (position_of note)
+    → (q : Board) → Contains positions q ⊎ IsAhead (rest ++ note ∷ []) q → Contains more q ⊎ IsAhead ahead q
+still positions more rest ahead note longer kept here q (inl h) = inl (longer q h)
+still positions more rest ahead note longer kept here q (inr (n, c, e)) = elim (Contains-push_cases rest note n c) [
+  | inl before ↦ inr (n, kept n before, e)
+  | inr same ↦ inl (subst (Contains more) (ap position_of same ∙ e) here)
+]
+
+still_way : (attacker : Side) (b : Board) (check : Move) (P Q : Board → Type 0) → ((q : Board) → P q → Q q) → HasEvasionTo attacker P b check
+    → HasEvasionTo attacker Q b check
+still_way attacker b check P Q f way = record { evasion = way.evasion; is_evasion = way.is_evasion; leads = f _ way.leads }
+
+module _ (p : Board) (top : Derivation) (positions : List Board) (rest : List Derivation) (note : Derivation)
+    (walk : IsEscapeWalk p top positions (rest ++ note ∷ [])) where
+  -- the note's position is listed: it isn't walked again
+  pub escape_met : Contains positions (position_of note) → IsEscapeWalk p top positions rest
+  escape_met here =
+      let go = still positions positions rest rest note (λ b c. c) (λ n c. c) here in
+      record {
+        start = go p walk.start;
+        ways = λ b check c is. still_way p.side b check _ _ go (walk.ways b check c is);
+        notes = λ n c. walk.notes n (Contains-append_left rest (note ∷ []) n c);
+        tags = λ n key c held. walk.tags n key (Contains-append_left rest (note ∷ []) n c) held;
+        listed = walk.listed;
+      }
+
+  here_pending : IsPending Escape p.side top note
+  here_pending = walk.notes note (Contains-push rest note)
+
+  down : EscapesDown p.side top note
+  down = escapes_down p.side top note here_pending
+
+  abbrev more : List Board
+  more = positions ++ position_of note ∷ []
+
+  abbrev ahead : List Derivation
+  ahead = rest ++ reverse (two_under note)
+
+  is_more : (b : Board) → Contains positions b → Contains more b
+  is_more b c = Contains-append_left positions (position_of note ∷ []) b c
+
+  -- a key of the note's tag, or its position's, is that of a listed position
+  key_listed : (key : Key) → (key.0 ≡ key_of (position_of note)) ⊎ Contains (tag_of note) key → (b : Board) × Contains more b × (key.0 ≡ key_of b)
+  key_listed key (inl own) = (position_of note, Contains-push positions (position_of note), own)
+  key_listed key (inr held) = let found = walk.tags note key (Contains-push rest note) held in (found.0, is_more found.0 found.1, found.2)
+
+  listed_more : (b : Board) → Contains more b → IsListed p.side top b
+  listed_more b c = elim (Contains-push_cases positions (position_of note) b c) [
+    | inl before ↦ walk.listed b before
+    | inr same ↦ subst (IsListed p.side top) same (record {
+      from = record { note = note; within = here_pending.within; about = refl; concludes = here_pending.concludes };
+      kept = kept_at note here_pending.valid;
+      is_problem = problem_at Escape p.side top note here_pending;
+      turn = here_pending.turn;
+    })
+  ]
+
+  go_on : (q : Board) → Contains positions q ⊎ IsAhead (rest ++ note ∷ []) q → Contains more q ⊎ IsAhead ahead q
+  go_on = still positions more rest ahead note is_more (λ n c. Contains-append_left rest (reverse (two_under note)) n c) (Contains-push positions (position_of note))
+
+  own_ways : (check : Move) → IsCheck p.side (position_of note) check → HasEvasionTo p.side (λ q. Contains more q ⊎ IsAhead ahead q) (position_of note) check
+  own_ways check is =
+      let way = down.ways check is in
+      record {
+        evasion = way.evasion;
+        is_evasion = way.is_evasion;
+        leads = elim way.leads [
+          | inl on ↦ inr (on.0, Contains-append_right rest (reverse (two_under note)) on.0 (in_reverse (two_under note) on.0 on.1), on.2)
+          | inr back ↦
+              let found = key_listed back.key back.held in
+              let same = back.of_no_other found.0 (listed_more found.0 found.1).kept (sym found.2) in
+              inl (subst (Contains more) same found.1)
+        ];
+      }
+
+  -- the note's position isn't listed yet: it is, and what is two steps under it is ahead
+  pub escape_walked : IsEscapeWalk p top more ahead
+  escape_walked = record {
+    start = go_on p walk.start;
+    ways = λ b check c is. elim (Contains-push_cases positions (position_of note) b c) [
+      | inl before ↦ still_way p.side b check _ _ go_on (walk.ways b check before is)
+      | inr same ↦
+          subst (λ (a : Board). HasEvasionTo p.side (λ q. Contains more q ⊎ IsAhead ahead q) a check) same
+          (own_ways check (subst (λ (a : Board). IsCheck p.side a check) (sym same) is))
+    ];
+    notes = λ n c. elim (Contains-append_cases rest (reverse (two_under note)) n c) [
+      | inl before ↦ walk.notes n (Contains-append_left rest (note ∷ []) n before)
+      | inr new ↦ down.next n (of_reverse (two_under note) n new)
+    ];
+    tags = λ n key c held. elim (Contains-append_cases rest (reverse (two_under note)) n c) [
+      | inl before ↦
+          let found = walk.tags n key (Contains-append_left rest (note ∷ []) n before) held in
+          (found.0, is_more found.0 found.1, found.2)
+      | inr new ↦ key_listed key (down.tags n key (of_reverse (two_under note) n new) held)
+    ];
+    listed = listed_more;
+  }
+
+none_ahead : (positions : List Board) (q : Board) → Contains positions q ⊎ IsAhead [] q → Contains positions q
+none_ahead positions q (inl h) = h
+none_ahead positions q (inr (n, c, e)) = none_in n _ c
+
+-- nothing is ahead
+pub escape_ended : (p : Board) (top : Derivation) (positions : List Board) → IsEscapeWalk p top positions [] → AreApart positions → AreEscapeEntries p positions
+escape_ended p top positions walk apart = record {
+  listed = none_ahead positions p walk.start;
+  closed = record {
+    turn = λ b c. (walk.listed b c).turn;
+    answered = λ b check c is. still_way p.side b check _ _ (λ q h. inl (none_ahead positions q h)) (walk.ways b check c is);
+  };
+  problems = λ b c. record { is_problem = (walk.listed b c).is_problem; side = (walk.listed b c).turn };
+  kept = λ b c. (walk.listed b c).kept;
+  apart = apart;
+}
+
+-- Places of positions
+
+-- the place behind all others is that of a new position, and any other that of a listed one
+pub is_new : (positions : List Board) (q : Board) (place : ℕ) → IsPlaceOrNext positions q place → place ≡ length positions → ¬ Contains positions q
+is_new positions q place (inl at) last = absurd (let inside = slice_get_within positions place q at in omega (arith, inside, last))
+is_new positions q place (inr new) last = new.0
+
+pub is_old : (positions : List Board) (q : Board) (place : ℕ) → IsPlaceOrNext positions q place → place ≢ length positions → slice_get positions place ≡ Some q
+is_old positions q place (inl at) differs = at
+is_old positions q place (inr new) differs = absurd (differs new.1)
+
+abbrev pub Adds : Places → Board → Places → Type 0
+Adds old q new = (positions longer : List Board) → ArePlacesOf old positions → IsWith positions q longer → ArePlacesOf new longer
+
+pub placed_new : (old new : Places) (q r : Board) (positions longer : List Board) (place : ℕ) → ArePlacesOf old positions → Adds old q new
+    → IsPlaceOrNext positions q place → place ≡ length positions → r ≡ q → longer ≡ positions ++ r ∷ [] → ArePlacesOf new longer
+placed_new old new q r positions longer place known adds at last same is =
+    adds positions longer known (inr (is_new positions q place at last, is ∙ ap (λ (b : Board). positions ++ b ∷ []) same))
+
+pub placed_old : (old new : Places) (q : Board) (positions : List Board) (place : ℕ) → ArePlacesOf old positions → Adds old q new
+    → IsPlaceOrNext positions q place → place ≢ length positions → ArePlacesOf new positions
+placed_old old new q positions place known adds at differs =
+    adds positions positions known (inl (contained positions place q (is_old positions q place at differs), refl))
+
+-- The stack of notes, as references
+
+-- a note about the problem is one to be walked
+pub pending_first : (conclusion : Conclusion) (p : Board) (note : Derivation) → IsValid note → conclusion_of note ≡ conclusion → position_of note ≡ p
+    → attacker_of note ≡ p.side → IsPending conclusion p.side note note
+pending_first conclusion p note valid concludes about attacks = record {
+  within = in_itself note;
+  valid = valid;
+  concludes = concludes;
+  same_attacker = attacks;
+  turn = ap (λ (b : Board). b.side) about;
+}
+
+module _ {A : Type 0} (v : A → Derivation) where
+  pub first_pending : (pending none : List A) (x : A) → none ≡ [] → pending ≡ none ++ x ∷ [] → map v pending ≡ v x ∷ []
+  first_pending pending none x empty is = ap (map v) (is ∙ ap (λ (xs : List A). xs ++ x ∷ []) empty)
+
+  pub popped : (pending rest : List A) (next : A) → pending ≡ rest ++ next ∷ [] → map v pending ≡ map v rest ++ v next ∷ []
+  popped pending rest next is = ap (map v) is ∙ map_push v rest next
+
+  pub escape_at_first : (p : Board) (positions : List Board) (pending none : List A) (x : A) → positions ≡ [] → none ≡ [] → pending ≡ none ++ x ∷ []
+      → IsPending Escape p.side (v x) (v x) → position_of (v x) ≡ p → tag_of (v x) ≡ [] → IsEscapeWalk p (v x) positions (map v pending)
+  escape_at_first p positions pending none x unlisted empty is h about closed =
+      subst (λ (bs : List Board). IsEscapeWalk p (v x) bs (map v pending)) (sym unlisted)
+      (subst (IsEscapeWalk p (v x) []) (sym (first_pending pending none x empty is)) (escape_begun p (v x) h about closed))
+
+  pub escape_on : (p : Board) (top : Derivation) (positions longer : List Board) (pending rest new : List A) (next : A) (r : Board)
+      → pending ≡ rest ++ next ∷ [] → map v new ≡ map v rest ++ reverse (two_under (v next)) → r ≡ position_of (v next) → longer ≡ positions ++ r ∷ []
+      → IsEscapeWalk p top positions (map v pending) → IsEscapeWalk p top longer (map v new)
+  escape_on p top positions longer pending rest new next r is pushed same listed walk =
+      subst (λ (bs : List Board). IsEscapeWalk p top bs (map v new)) (sym (listed ∙ ap (λ (b : Board). positions ++ b ∷ []) same))
+      (subst (IsEscapeWalk p top (positions ++ position_of (v next) ∷ [])) (sym pushed)
+      (escape_walked p top positions (map v rest) (v next) (subst (IsEscapeWalk p top positions) (popped pending rest next is) walk)))
+
+  pub escape_past : (p : Board) (top : Derivation) (positions : List Board) (pending rest : List A) (next : A) (q : Board) (place : ℕ)
+      → pending ≡ rest ++ next ∷ [] → q ≡ position_of (v next) → slice_get positions place ≡ Some q
+      → IsEscapeWalk p top positions (map v pending) → IsEscapeWalk p top positions (map v rest)
+  escape_past p top positions pending rest next q place is same at walk =
+      escape_met p top positions (map v rest) (v next) (subst (IsEscapeWalk p top positions) (popped pending rest next is) walk)
+      (subst (Contains positions) same (contained positions place q at))
+
+  pub escape_done : (p : Board) (top : Derivation) (positions : List Board) (pending : List A) → length pending ≡ 0
+      → IsEscapeWalk p top positions (map v pending) → AreApart positions → AreEscapeEntries p positions
+  escape_done p top positions [] none walk apart = escape_ended p top positions walk apart
+  escape_done p top positions (x ∷ pending) none walk apart = absurd (omega (arith, none))

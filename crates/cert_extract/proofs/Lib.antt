@@ -1,0 +1,6 @@
+pub mod Trees
+pub mod Pushed
+pub mod Rules
+pub mod Escapes
+pub mod Texts
+pub mod Mates

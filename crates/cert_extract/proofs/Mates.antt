@@ -1,0 +1,364 @@
+-- The walk of a mate: what is listed so far, and which notes are yet to be walked.
+use Rattle.std.proofs.Common.{◌≡◌, ◌≢◌, ◌<◌, ◌≤◌, ◌*◌, ◌++◌, ◌⊎◌, inl, inr, ℕ, zero, suc, List, [], ◌∷◌, length, get_or, map, set, reverse, Contains, arith, refl, sym, ◌∙◌, ap, subst}
+use Rattle.std.specs.Prelude.{Some, slice_get}
+use Rattle.std.specs.Option.{option_map}
+use Rattle.std.proofs.lemmas.List.{length-map}
+use Rattle.std.proofs.lemmas.Option.{same_Some, slice_get_within, slice_get_read, slice_get-map}
+use Rattle.std.proofs.lemmas.List.Elements.{Contains-append_left, Contains-append_right, Contains-append_cases, Contains-push, Contains-push_cases}
+use Rattle.bit_boards.specs.declared.piece.Side.{Side}
+use Rattle.board_core.specs.declared.moves.Move.{Move}
+use Rattle.board_core.specs.Board.{Board}
+use Rattle.board_core.specs.Kept.{IsKept}
+use Rattle.board_core.specs.Text.{HasText}
+use Rattle.list_laws.proofs.Standing.{contained, contains_map}
+use Rattle.shogi_rules.specs.Rules.{after}
+use Rattle.shogi_rules.specs.Tsume.{IsCheck, IsEvasion, IsProblem}
+use Rattle.mate_def.specs.Mate.{after_both}
+use Rattle.cert_text.specs.declared.entry.MateEntry.{MateEntry}
+use Rattle.cert_text.specs.Certificate.{AreApart, positions_of}
+use Rattle.cert_check.specs.Valid.{IsListedBelow}
+use Rattle.cert_order.specs.Entries.{AreMateEntries}
+use Rattle.notes.specs.declared.rule.Rule.TheVariants.{MateBy}
+use Rattle.notes.specs.declared.rule.Conclusion.TheVariants.{Mate}
+use Rattle.notes.specs.Derivation.{Derivation, position_of, rule_of, height_of}
+use Rattle.cert_extract.specs.Tree.{two_under}
+use Rattle.cert_extract.specs.Extracted.{IsMateFrom}
+use Rattle.cert_extract.proofs.Trees.{in_reverse, of_reverse}
+use Rattle.cert_extract.proofs.Rules.{IsPending, MatesDown, mates_down, kept_at, problem_at}
+use Rattle.cert_check.specs.declared.places.Places.{Places}
+use Rattle.cert_check.specs.Places.{ArePlacesOf, IsPlaceOrNext}
+use Rattle.shogi_rules.specs.Laws.{LegalBoardMoves}
+use Rattle.cert_extract.proofs.Escapes.{IsAhead, none_in, Adds, is_old, placed_new, placed_old, first_pending, popped}
+use Rattle.cert_extract.proofs.Texts.{check_has_text}
+
+-- 1. Lists in which one item is put in another's place
+
+pub set_cases : {X : Type 0} (xs : List X) (k : ℕ) (y x : X) → Contains (set xs k y) x → Contains xs x ⊎ (y ≡ x)
+set_cases [] k y x c = inl c
+set_cases (z ∷ xs) zero y x (zero, inside, e) = inr e
+set_cases (z ∷ xs) zero y x (suc j, inside, e) = inl (suc j, inside, e)
+set_cases (z ∷ xs) (suc k) y x (zero, inside, e) = inl (zero, omega arith, e)
+set_cases (z ∷ xs) (suc k) y x (suc j, inside, e) = elim (set_cases xs k y x (j, omega (arith, inside), e)) [
+  | inl there ↦ inl (suc there.0, (let within = there.1 in omega (arith, within)), there.2)
+  | inr same ↦ inr same
+]
+
+pub set_here : {X : Type 0} (xs : List X) (k : ℕ) (old y : X) → slice_get xs k ≡ Some old → Contains (set xs k y) y
+set_here [] k old y at = absurd (cc)
+set_here (z ∷ xs) zero old y at = (zero, omega arith, refl)
+set_here (z ∷ xs) (suc k) old y at = let more = set_here xs k old y at in (suc more.0, (let inside = more.1 in omega (arith, inside)), more.2)
+
+pub set_keeps : {X : Type 0} (xs : List X) (k : ℕ) (old y x : X) → slice_get xs k ≡ Some old → Contains xs x → Contains (set xs k y) x ⊎ (old ≡ x)
+set_keeps [] k old y x at c = absurd (cc)
+set_keeps (z ∷ xs) zero old y x at (zero, inside, e) = inr (sym (same_Some z old at) ∙ e)
+set_keeps (z ∷ xs) zero old y x at (suc j, inside, e) = inl (suc j, inside, e)
+set_keeps (z ∷ xs) (suc k) old y x at (zero, inside, e) = inl (zero, omega arith, e)
+set_keeps (z ∷ xs) (suc k) old y x at (suc j, inside, e) = elim (set_keeps xs k old y x at (j, omega (arith, inside), e)) [
+  | inl there ↦ inl (suc there.0, (let within = there.1 in omega (arith, within)), there.2)
+  | inr same ↦ inr same
+]
+
+pub map-set : {X Y : Type 0} (f : X → Y) (xs : List X) (k : ℕ) (old y : X) → slice_get xs k ≡ Some old → f y ≡ f old → map f (set xs k y) ≡ map f xs
+map-set f [] k old y at e = absurd (cc)
+map-set f (z ∷ xs) zero old y at e = let same = e ∙ ap f (sym (same_Some z old at)) in λ i. same i ∷ map f xs
+map-set f (z ∷ xs) (suc k) old y at e = let same = map-set f xs k old y at e in λ i. f z ∷ same i
+
+-- 2. The walk
+
+pub record IsListedMate (attacker : Side) (top : Derivation) (entry : MateEntry) : Type 0 where
+  pub from : IsMateFrom top entry
+  pub kept : IsKept entry.at
+  pub is_problem : IsProblem entry.at
+  pub turn : entry.at.side ≡ attacker
+  pub has_text : HasText entry.by
+
+-- the position is listed with a lower rank, or is that of a note ahead of less than twice that height
+abbrev pub IsBelow : List MateEntry → List Derivation → ℕ → Board → Type 0
+IsBelow entries pending rank q =
+    IsListedBelow entries rank q ⊎ ((n : Derivation) × Contains pending n × (position_of n ≡ q) × (height_of n < 2 * rank))
+
+-- an entry's move is a check, and each evasion leads to a position with a lower rank, listed or ahead
+pub record IsBorne (attacker : Side) (entries : List MateEntry) (pending : List Derivation) (entry : MateEntry) : Type 0 where
+  pub check : IsCheck attacker entry.at entry.by
+  pub evasions : (evasion : Move) → IsEvasion attacker (after entry.at entry.by) evasion
+      → IsBelow entries pending entry.rank.number (after_both entry.at entry.by evasion)
+
+pub record IsMateWalk (p : Board) (top : Derivation) (entries : List MateEntry) (pending : List Derivation) : Type 0 where
+  pub start : Contains (positions_of entries) p ⊎ IsAhead pending p
+  pub borne : (entry : MateEntry) → Contains entries entry → IsBorne p.side entries pending entry
+  pub notes : (n : Derivation) → Contains pending n → IsPending Mate p.side top n
+  pub listed : (entry : MateEntry) → Contains entries entry → IsListedMate p.side top entry
+
+pub mate_begun : (p : Board) (top : Derivation) → IsPending Mate p.side top top → position_of top ≡ p → IsMateWalk p top [] (top ∷ [])
+mate_begun p top h about = record {
+  start = inr (top, (zero, omega arith, refl), about);
+  borne = λ entry c. none_in entry _ c;
+  notes = λ n c. subst (λ (d : Derivation). IsPending Mate p.side top d) (alone n c) h;
+  listed = λ entry c. none_in entry _ c;
+}
+  where
+    alone : (n : Derivation) → Contains (top ∷ []) n → top ≡ n
+    alone n (zero, inside, e) = e
+    alone n (suc k, inside, e) = absurd (omega (arith, inside))
+
+-- each position that is listed below a rank still is
+abbrev pub StayBelow : List MateEntry → List MateEntry → Type 0
+StayBelow entries more = (rank : ℕ) (b : Board) → IsListedBelow entries rank b → IsListedBelow more rank b
+
+-- what was below a rank still is, where a note is no longer ahead but its position is listed with a rank that isn't above half its height
+still_below : (entries more : List MateEntry) (rest ahead : List Derivation) (note : Derivation) → StayBelow entries more
+    → ((n : Derivation) → Contains rest n → Contains ahead n)
+    → ((rank : ℕ) → height_of note < 2 * rank → IsListedBelow more rank (position_of note))
+    → (rank : ℕ) (q : Board) → IsBelow entries (rest ++ note ∷ []) rank q → IsBelow more ahead rank q
+still_below entries more rest ahead note stay kept here rank q (inl h) = inl (stay rank q h)
+still_below entries more rest ahead note stay kept here rank q (inr (n, c, e, low)) = elim (Contains-push_cases rest note n c) [
+  | inl before ↦ inr (n, kept n before, e, low)
+  | inr same ↦
+      let high : height_of note ≡ height_of n = ap height_of same in
+      inl (subst (IsListedBelow more rank) (ap position_of same ∙ e) (here rank (omega (arith, low, high))))
+]
+
+still_borne : (attacker : Side) (entries more : List MateEntry) (pending ahead : List Derivation)
+    → ((rank : ℕ) (q : Board) → IsBelow entries pending rank q → IsBelow more ahead rank q) → (entry : MateEntry)
+    → IsBorne attacker entries pending entry → IsBorne attacker more ahead entry
+still_borne attacker entries more pending ahead go entry borne = record {
+  check = borne.check;
+  evasions = λ evasion is. go entry.rank.number _ (borne.evasions evasion is);
+}
+
+still_start : (entries more : List MateEntry) (rest ahead : List Derivation) (note : Derivation) (p : Board)
+    → ((b : Board) → Contains (positions_of entries) b → Contains (positions_of more) b)
+    → ((n : Derivation) → Contains rest n → Contains ahead n) → Contains (positions_of more) (position_of note)
+    → Contains (positions_of entries) p ⊎ IsAhead (rest ++ note ∷ []) p → Contains (positions_of more) p ⊎ IsAhead ahead p
+still_start entries more rest ahead note p longer kept here (inl h) = inl (longer p h)
+still_start entries more rest ahead note p longer kept here (inr (n, c, e)) = elim (Contains-push_cases rest note n c) [
+  | inl before ↦ inr (n, kept n before, e)
+  | inr same ↦ inl (subst (Contains (positions_of more)) (ap position_of same ∙ e) here)
+]
+
+-- the entry is about the note's position, by its check, and its rank is half its height
+pub record IsEntryOf (note : Derivation) (entry : MateEntry) : Type 0 where
+  pub about : entry.at ≡ position_of note
+  pub by : rule_of note ≡ MateBy entry.by
+  pub high : height_of note ≡ 2 * entry.rank.number
+
+by_of : (a b : Move) → MateBy a ≡ MateBy b → a ≡ b
+by_of a b e = cc
+
+module _ (p : Board) (top : Derivation) (entries : List MateEntry) (rest : List Derivation) (note : Derivation)
+    (walk : IsMateWalk p top entries (rest ++ note ∷ [])) where
+  -- the note's position is listed with a rank that isn't above half its height: it isn't walked again
+  pub mate_met : (old : MateEntry) → Contains entries old → old.at ≡ position_of note → 2 * old.rank.number ≤ height_of note
+      → IsMateWalk p top entries rest
+  mate_met old c about low =
+      let here : (rank : ℕ) → height_of note < 2 * rank → IsListedBelow entries rank (position_of note) =
+      λ rank h. record { entry = old; listed = c; same = about; lower = omega (arith, low, h) } in
+      let go = still_below entries entries rest rest note (λ rank b l. l) (λ n c. c) here in
+      let listed_here = subst (Contains (positions_of entries)) about (contains_map (λ (e : MateEntry). e.at) entries old c) in
+      record {
+        start = still_start entries entries rest rest note p (λ b c. c) (λ n c. c) listed_here walk.start;
+        borne = λ entry c. still_borne p.side entries entries (rest ++ note ∷ []) rest go entry (walk.borne entry c);
+        notes = λ n c. walk.notes n (Contains-append_left rest (note ∷ []) n c);
+        listed = walk.listed;
+      }
+
+  here_pending : IsPending Mate p.side top note
+  here_pending = walk.notes note (Contains-push rest note)
+
+  down : MatesDown p.side top note
+  down = mates_down p.side top note here_pending
+
+  abbrev ahead : List Derivation
+  ahead = rest ++ reverse (two_under note)
+
+  module _ (entry : MateEntry) (is : IsEntryOf note entry) (goes : LegalBoardMoves) where
+    its_check : IsCheck p.side entry.at entry.by
+    its_check =
+        subst (λ (b : Board). IsCheck p.side b entry.by) (sym is.about)
+        (subst (IsCheck p.side (position_of note)) (by_of down.check entry.by (sym down.by ∙ is.by)) down.is_check)
+
+    its_listed : IsListedMate p.side top entry
+    its_listed = record {
+      from = record { note = note; within = here_pending.within; about = sym is.about; by = is.by; high = is.high };
+      kept = subst IsKept (sym is.about) (kept_at note here_pending.valid);
+      is_problem = subst IsProblem (sym is.about) (problem_at Mate p.side top note here_pending);
+      turn = ap (λ (b : Board). b.side) is.about ∙ here_pending.turn;
+      has_text = check_has_text goes p.side entry.at entry.by (subst IsKept (sym is.about) (kept_at note here_pending.valid)) its_check;
+    }
+
+    its_borne : (more : List MateEntry) → IsBorne p.side more ahead entry
+    its_borne more = record {
+      check = its_check;
+      evasions = λ evasion h.
+          let same_check = by_of down.check entry.by (sym down.by ∙ is.by) in
+          let before : after entry.at entry.by ≡ after (position_of note) down.check =
+          ap (λ (b : Board). after b entry.by) is.about ∙ ap (after (position_of note)) (sym same_check) in
+          let found = down.evasions evasion (subst (λ (b : Board). IsEvasion p.side b evasion) before h) in
+          let low = down.lower found.0 found.1 in
+          let high = is.high in
+          inr (
+            found.0,
+            Contains-append_right rest (reverse (two_under note)) found.0 (in_reverse (two_under note) found.0 found.1),
+            found.2 ∙ ap (λ (b : Board). after b evasion) (sym before),
+            omega (arith, low, high),
+          );
+    }
+
+    -- the entry is listed now, each other one was, and ranks have only fallen
+    pub mate_walked : (more : List MateEntry) → StayBelow entries more → Contains more entry
+        → ((other : MateEntry) → Contains more other → Contains entries other ⊎ (entry ≡ other))
+        → ((b : Board) → Contains (positions_of entries) b → Contains (positions_of more) b) → IsMateWalk p top more ahead
+    mate_walked more stay there of longer =
+        let here : (rank : ℕ) → height_of note < 2 * rank → IsListedBelow more rank (position_of note) =
+        λ rank h. record { entry = entry; listed = there; same = is.about; lower = (let high = is.high in omega (arith, high, h)) } in
+        let kept = λ (n : Derivation) (c : Contains rest n). Contains-append_left rest (reverse (two_under note)) n c in
+        let go = still_below entries more rest ahead note stay kept here in
+        let listed_here = subst (Contains (positions_of more)) is.about (contains_map (λ (e : MateEntry). e.at) more entry there) in
+        record {
+          start = still_start entries more rest ahead note p longer kept listed_here walk.start;
+          borne = λ other c. elim (of other c) [
+            | inl before ↦ still_borne p.side entries more (rest ++ note ∷ []) ahead go other (walk.borne other before)
+            | inr same ↦ subst (IsBorne p.side more ahead) same (its_borne more)
+          ];
+          notes = λ n c. elim (Contains-append_cases rest (reverse (two_under note)) n c) [
+            | inl before ↦ walk.notes n (Contains-append_left rest (note ∷ []) n before)
+            | inr new ↦ down.next n (of_reverse (two_under note) n new)
+          ];
+          listed = λ other c. elim (of other c) [
+            | inl before ↦ walk.listed other before
+            | inr same ↦ subst (IsListedMate p.side top) same its_listed
+          ];
+        }
+
+-- 3. How the entries change
+
+-- an entry is put behind the others
+pub pushed_below : (entries : List MateEntry) (entry : MateEntry) → StayBelow entries (entries ++ entry ∷ [])
+pushed_below entries entry rank b l = record {
+  entry = l.entry;
+  listed = Contains-append_left entries (entry ∷ []) l.entry l.listed;
+  same = l.same;
+  lower = l.lower;
+}
+
+pub positions_pushed : (entries : List MateEntry) (entry : MateEntry) → positions_of (entries ++ entry ∷ []) ≡ positions_of entries ++ entry.at ∷ []
+positions_pushed [] entry = refl
+positions_pushed (first ∷ entries) entry = let more = positions_pushed entries entry in λ i. first.at ∷ more i
+
+-- an entry takes the place of one of the same position and greater rank
+pub set_below : (entries : List MateEntry) (k : ℕ) (old entry : MateEntry) → slice_get entries k ≡ Some old → entry.at ≡ old.at
+    → entry.rank.number < old.rank.number → StayBelow entries (set entries k entry)
+set_below entries k old entry at about low rank b l = elim (set_keeps entries k old entry l.entry at l.listed) [
+  | inl there ↦ record { entry = l.entry; listed = there; same = l.same; lower = l.lower }
+  | inr same ↦
+      let was : old.rank.number ≡ l.entry.rank.number = ap (λ (e : MateEntry). e.rank.number) same in
+      let less = l.lower in
+      record {
+        entry = entry;
+        listed = set_here entries k old entry at;
+        same = about ∙ (ap (λ (e : MateEntry). e.at) same ∙ l.same);
+        lower = omega (arith, low, was, less);
+      }
+]
+
+-- an entry of a place that isn't behind all others
+pub within_entries : (entries : List MateEntry) (q : Board) (place : ℕ) → IsPlaceOrNext (positions_of entries) q place → place ≢ length entries
+    → place < length entries
+within_entries entries q place at differs =
+    let many = length-map entries (λ (e : MateEntry). e.at) in
+    let there = is_old (positions_of entries) q place at (λ same. differs (same ∙ many)) in
+    let inside = slice_get_within (positions_of entries) place q there in
+    omega (arith, inside, many)
+
+pub old_entry : (entries : List MateEntry) (q : Board) (place : ℕ) (old : MateEntry) → IsPlaceOrNext (positions_of entries) q place → place ≢ length entries
+    → old ≡ get_or entries place old → (slice_get entries place ≡ Some old) × (old.at ≡ q)
+old_entry entries q place old at differs is =
+    let many = length-map entries (λ (e : MateEntry). e.at) in
+    let there = is_old (positions_of entries) q place at (λ same. differs (same ∙ many)) in
+    let here = slice_get_read entries (length entries) place old refl (within_entries entries q place at differs) is in
+    let mapped = slice_get-map (λ (e : MateEntry). e.at) entries place ∙ ap (option_map (λ (e : MateEntry). e.at)) here in
+    (here, same_Some old.at q (sym mapped ∙ there))
+
+pub entries_placed_new : (old new : Places) (entry : MateEntry) (entries longer : List MateEntry) (place : ℕ) → ArePlacesOf old (positions_of entries)
+    → Adds old entry.at new → IsPlaceOrNext (positions_of entries) entry.at place → place ≡ length entries → longer ≡ entries ++ entry ∷ []
+    → ArePlacesOf new (positions_of longer)
+entries_placed_new old new entry entries longer place known adds at last is =
+    let many = length-map entries (λ (e : MateEntry). e.at) in
+    placed_new old new entry.at entry.at (positions_of entries) (positions_of longer) place known adds at (last ∙ sym many) refl
+    (ap positions_of is ∙ positions_pushed entries entry)
+
+pub entries_placed_old : (old new : Places) (entry : MateEntry) (entries : List MateEntry) (place : ℕ) → ArePlacesOf old (positions_of entries)
+    → Adds old entry.at new → IsPlaceOrNext (positions_of entries) entry.at place → place ≢ length entries → ArePlacesOf new (positions_of entries)
+entries_placed_old old new entry entries place known adds at differs =
+    let many = length-map entries (λ (e : MateEntry). e.at) in
+    placed_old old new entry.at (positions_of entries) place known adds at (λ same. differs (same ∙ many))
+
+pub positions_set : (entries : List MateEntry) (place : ℕ) (old entry : MateEntry) → slice_get entries place ≡ Some old → old.at ≡ entry.at
+    → positions_of (set entries place entry) ≡ positions_of entries
+positions_set entries place old entry at same = map-set (λ (e : MateEntry). e.at) entries place old entry at (sym same)
+
+-- 4. Nothing is ahead
+
+listed_alone : (entries : List MateEntry) (rank : ℕ) (q : Board) → IsBelow entries [] rank q → IsListedBelow entries rank q
+listed_alone entries rank q (inl h) = h
+listed_alone entries rank q (inr (n, c, e, low)) = none_in n _ c
+
+start_alone : (entries : List MateEntry) (p : Board) → Contains (positions_of entries) p ⊎ IsAhead [] p → Contains (positions_of entries) p
+start_alone entries p (inl h) = h
+start_alone entries p (inr (n, c, e)) = none_in n _ c
+
+pub mate_ended : (p : Board) (top : Derivation) (entries : List MateEntry) → IsMateWalk p top entries [] → AreApart (positions_of entries) → AreMateEntries p entries
+mate_ended p top entries walk apart = record {
+  listed = start_alone entries p walk.start;
+  borne_out = λ entry c.
+      let b = walk.borne entry c in
+      record { check = b.check; evasions = λ evasion is. listed_alone entries entry.rank.number _ (b.evasions evasion is) };
+  problems = λ entry c. record { is_problem = (walk.listed entry c).is_problem; side = (walk.listed entry c).turn };
+  kept = λ entry c. (walk.listed entry c).kept;
+  texts = λ entry c. (walk.listed entry c).has_text;
+  apart = apart;
+}
+
+-- 5. The stack of notes, as references
+
+module _ {A : Type 0} (v : A → Derivation) where
+  pub mate_at_first : (p : Board) (entries : List MateEntry) (pending none : List A) (x : A) → entries ≡ [] → none ≡ [] → pending ≡ none ++ x ∷ []
+      → IsPending Mate p.side (v x) (v x) → position_of (v x) ≡ p → IsMateWalk p (v x) entries (map v pending)
+  mate_at_first p entries pending none x unlisted empty is h about =
+      subst (λ (es : List MateEntry). IsMateWalk p (v x) es (map v pending)) (sym unlisted)
+      (subst (IsMateWalk p (v x) []) (sym (first_pending v pending none x empty is)) (mate_begun p (v x) h about))
+
+  module _ (p : Board) (top : Derivation) (entries : List MateEntry) (pending rest : List A) (next : A) (is : pending ≡ rest ++ next ∷ [])
+      (walk : IsMateWalk p top entries (map v pending)) where
+    at_next : IsMateWalk p top entries (map v rest ++ v next ∷ [])
+    at_next = subst (IsMateWalk p top entries) (popped v pending rest next is) walk
+
+    pub mate_past : (place : ℕ) (old entry : MateEntry) → IsEntryOf (v next) entry → slice_get entries place ≡ Some old → old.at ≡ entry.at
+        → old.rank.number ≤ entry.rank.number → IsMateWalk p top entries (map v rest)
+    mate_past place old entry its at same low =
+        let high = its.high in
+        mate_met p top entries (map v rest) (v next) at_next old (contained entries place old at) (same ∙ its.about) (omega (arith, high, low))
+
+    pub mate_on : (new : List A) (entry : MateEntry) → map v new ≡ map v rest ++ reverse (two_under (v next)) → IsEntryOf (v next) entry → LegalBoardMoves
+        → (more : List MateEntry) → more ≡ entries ++ entry ∷ [] → IsMateWalk p top more (map v new)
+    mate_on new entry pushed its goes more listed =
+        subst (λ (es : List MateEntry). IsMateWalk p top es (map v new)) (sym listed)
+        (subst (IsMateWalk p top (entries ++ entry ∷ [])) (sym pushed)
+        (mate_walked p top entries (map v rest) (v next) at_next entry its goes (entries ++ entry ∷ []) (pushed_below entries entry)
+        (Contains-push entries entry) (λ other c. Contains-push_cases entries entry other c)
+        (λ b c. subst (λ (bs : List Board). Contains bs b) (sym (positions_pushed entries entry)) (Contains-append_left (positions_of entries) (entry.at ∷ []) b c))))
+
+    pub mate_lower : (new : List A) (entry old : MateEntry) (place : ℕ) → map v new ≡ map v rest ++ reverse (two_under (v next)) → IsEntryOf (v next) entry
+        → LegalBoardMoves → slice_get entries place ≡ Some old → old.at ≡ entry.at → entry.rank.number < old.rank.number
+        → (more : List MateEntry) → more ≡ set entries place entry → IsMateWalk p top more (map v new)
+    mate_lower new entry old place pushed its goes at same low more listed =
+        subst (λ (es : List MateEntry). IsMateWalk p top es (map v new)) (sym listed)
+        (subst (IsMateWalk p top (set entries place entry)) (sym pushed)
+        (mate_walked p top entries (map v rest) (v next) at_next entry its goes (set entries place entry) (set_below entries place old entry at (sym same) low)
+        (set_here entries place old entry at) (λ other c. set_cases entries place entry other c)
+        (λ b c. subst (λ (bs : List Board). Contains bs b) (sym (positions_set entries place old entry at same)) c)))
+
+  pub mate_done : (p : Board) (top : Derivation) (entries : List MateEntry) (pending : List A) → length pending ≡ 0
+      → IsMateWalk p top entries (map v pending) → AreApart (positions_of entries) → AreMateEntries p entries
+  mate_done p top entries [] none walk apart = mate_ended p top entries walk apart
+  mate_done p top entries (x ∷ pending) none walk apart = absurd (omega (arith, none))

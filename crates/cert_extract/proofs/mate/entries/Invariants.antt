@@ -1,0 +1,15 @@
+use Rattle.std.proofs.Common.{map}
+use Rattle.cert_text.specs.Certificate.{positions_of}
+use Rattle.cert_check.specs.Places.{ArePlacesOf}
+use Rattle.cert_extract.proofs.Trees.{weight}
+use Rattle.cert_extract.proofs.Mates.{IsMateWalk}
+use Rattle.cert_extract.proofs.mate.entries.Given as goal
+
+abbrev pub invariant-loop-next : goal.invariant-loop-next
+invariant-loop-next l = record {
+  places : ArePlacesOf l.places (positions_of l.entries.items);
+  walk : IsMateWalk l.problem.position l.note l.entries.items (map (λ n. n.now) l.pending.items);
+}
+
+abbrev pub decreases-loop-next : goal.decreases-loop-next
+decreases-loop-next l = weight (map (λ n. n.now) l.pending.items)

@@ -1,0 +1,39 @@
+-- What is extracted from a note's tree.
+use Rattle.std.specs.Prelude.{◌≡◌, ◌*◌, Contains}
+use Rattle.board_core.specs.Board.{Board}
+use Rattle.cert_text.specs.declared.entry.MateEntry.{MateEntry}
+use Rattle.cert_text.specs.declared.head.Claim.{Claim}
+use Rattle.cert_text.specs.declared.head.Claim.TheVariants as claims
+use Rattle.cert_text.specs.declared.certificate.Certificate.{Certificate}
+use Rattle.cert_text.specs.declared.certificate.Certificate.TheVariants as certificates
+use Rattle.notes.specs.declared.rule.Rule.TheVariants.{MateBy}
+use Rattle.notes.specs.declared.rule.Conclusion.{Conclusion}
+use Rattle.notes.specs.declared.rule.Conclusion.TheVariants.{Mate, Escape}
+use Rattle.notes.specs.Derivation.{Derivation, rule_of, position_of, height_of, conclusion_of}
+use Rattle.cert_extract.specs.Tree.{IsIn}
+
+-- What a certificate of a conclusion claims.
+abbrev pub claim_by : Conclusion → Claim
+claim_by Mate = claims.Mate
+claim_by Escape = claims.Escape
+
+-- A mate's entry comes from the tree: a note in it is about the entry's position, its last step is by the entry's check, and its
+-- height is twice the entry's rank.
+pub record IsMateFrom (tree : Derivation) (entry : MateEntry) : Type 0 where
+  pub note : Derivation
+  pub within : IsIn tree note
+  pub about : position_of note ≡ entry.at
+  pub by : rule_of note ≡ MateBy entry.by
+  pub high : height_of note ≡ 2 * entry.rank.number
+
+-- An escape's position comes from the tree: a note in it is about the position, and concludes an escape.
+pub record IsEscapeFrom (tree : Derivation) (b : Board) : Type 0 where
+  pub note : Derivation
+  pub within : IsIn tree note
+  pub about : position_of note ≡ b
+  pub concludes : conclusion_of note ≡ Escape
+
+-- Each entry of a certificate comes from the tree.
+abbrev pub ComesFrom : Derivation → Certificate → Type 0
+ComesFrom tree (certificates.Mate c) = (entry : MateEntry) → Contains c.entries entry → IsMateFrom tree entry
+ComesFrom tree (certificates.Escape c) = (b : Board) → Contains c.entries b → IsEscapeFrom tree b

@@ -1,0 +1,51 @@
+//! From a closed note to the certificate of what it says.
+//!
+//! A search by proof numbers ends with a note about the problem: a derivation whose tree may be read many times over, since notes
+//! share what is under them. [`extract`] walks it, each position once, or again where a mate is shorter, and lists the attacker's
+//! positions that it meets. What comes out is a valid certificate, of the kind that the note concludes, that anybody can check without
+//! the note.
+#![tactic(auto)]
+
+ghost use Rattle.std.specs.Prelude.{◌≡◌, [], IfOk};
+ghost use Rattle.notes.specs.Derivation.{position_of, attacker_of, tag_of, conclusion_of};
+ghost use Rattle.cert_text.specs.Kinds.{claim_of};
+ghost use Rattle.cert_check.specs.Valid.{IsValid};
+ghost use Rattle.cert_extract.specs.Extracted.{claim_by, ComesFrom};
+
+mod escape;
+mod mate;
+mod steps;
+
+use cert_order::{escape_certificate, mate_certificate};
+use cert_text::Certificate;
+use notes::{Conclusion, Note};
+use shogi_rules::Problem;
+use std::alloc::{AllocError, Global};
+
+/// The certificate of what a note says that depends on no repetition and is about the problem, for its attacker. It is a mate's or an
+/// escape's as the note concludes, and valid for the problem. It lists positions of the attacker that notes of the note's tree are about:
+/// a mate's each with the check of one of these notes, and half its height as the rank. The tree is walked depth first, in the order
+/// of the notes; a position that is met again is walked again only where the note is a lower mate. Errors: want of memory alone.
+pub fn extract(alloc: Global, problem: &Problem, note: &Note) -> Result<Certificate, AllocError>
+    requires closed { tag_of note.now ≡ [] }
+    requires about { position_of note.now ≡ problem.now.position }
+    requires same_attacker { attacker_of note.now ≡ problem.now.position.side }
+
+    // It is of the kind that the note concludes, and valid for the problem, which it is about and lists.
+    ensures kind { IfOk result (λ certificate. claim_of certificate ≡ claim_by (conclusion_of note.now)) }
+    ensures valid { IfOk result (λ certificate. IsValid certificate problem.now.position) }
+
+    // Whatever it lists comes from a note of the tree.
+    ensures from { IfOk result (λ certificate. ComesFrom note.now certificate) }
+{
+    match note.conclusion() {
+        Conclusion::Mate => {
+            let entries = mate::entries(alloc, problem, note)?;
+            Ok(Certificate::Mate(mate_certificate(alloc, problem, &entries)?))
+        }
+        Conclusion::Escape => {
+            let positions = escape::positions(alloc, problem, note)?;
+            Ok(Certificate::Escape(escape_certificate(alloc, problem, &positions)?))
+        }
+    }
+}

@@ -1,0 +1,70 @@
+// The entries of a mate, from a note about the problem.
+ghost use Rattle.std.specs.Prelude.{◌≡◌, ◌*◌, [], IfOk, Contains};
+ghost use Rattle.cert_text.specs.declared.entry.MateEntry.{MateEntry};
+ghost use Rattle.notes.specs.Derivation.{position_of, attacker_of, rule_of, height_of, conclusion_of};
+ghost use Rattle.notes.specs.declared.rule.Rule.TheVariants.{MateBy};
+ghost use Rattle.notes.specs.declared.rule.Conclusion.TheVariants.{Mate};
+ghost use Rattle.notes.specs.Truth.{IsToMove};
+ghost use Rattle.cert_order.specs.Entries.{AreMateEntries};
+ghost use Rattle.cert_extract.specs.Extracted.{IsMateFrom};
+
+use crate::steps::push_next;
+use cert_check::Places;
+use cert_text::{MateEntry, Rank};
+use notes::{Note, Rule};
+use shogi_rules::{Problem, legal_laws};
+use std::alloc::{AllocError, Global};
+
+// What a note of a mate says of its position, the attacker's to move.
+fn entry_of(note: &Note) -> MateEntry
+    requires mate { conclusion_of note.now ≡ Mate }
+    requires turn { IsToMove (attacker_of note.now) note.now }
+    ensures about { result.at ≡ position_of note.now }
+    ensures by { rule_of note.now ≡ MateBy result.by }
+    ensures high { height_of note.now ≡ 2 * result.rank.number }
+{
+    note.laws();
+    match note.rule() {
+        Rule::MateBy(check) => MateEntry {
+            rank: Rank {
+                number: note.height() / 2,
+            },
+            by: check,
+            at: *note.position(),
+        },
+        _ => unreachable!(),
+    }
+}
+
+/// The attacker's positions in the note's tree, each once, with the check and half the height of the lowest note that was met there.
+pub(crate) fn entries(
+    alloc: Global,
+    problem: &Problem,
+    note: &Note,
+) -> Result<Vec<MateEntry>, AllocError>
+    requires about { position_of note.now ≡ problem.now.position }
+    requires same_attacker { attacker_of note.now ≡ problem.now.position.side }
+    requires mate { conclusion_of note.now ≡ Mate }
+    ensures entries { IfOk result (λ entries. AreMateEntries problem.now.position entries.items) }
+    ensures from { IfOk result (λ entries. (entry : MateEntry) → Contains entries.items entry → IsMateFrom note.now entry) }
+{
+    // The note is valid, and so is each note of its tree; and checks have a text.
+    note.laws();
+    legal_laws();
+    let mut places = Places::new(alloc);
+    let mut entries: Vec<MateEntry> = Vec::new(alloc);
+    let mut pending = Vec::new(alloc);
+    pending.push(note)?;
+    while let Some(next) = pending.pop() {
+        let entry = entry_of(next);
+        let place = places.add(&entry.at)?;
+        if place == entries.len() {
+            entries.push(entry)?;
+            push_next(&mut pending, next)?;
+        } else if entry.rank.number < entries[place].rank.number {
+            entries[place] = entry;
+            push_next(&mut pending, next)?;
+        }
+    }
+    Ok(entries)
+}

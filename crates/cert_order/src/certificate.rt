@@ -1,0 +1,59 @@
+// Certificates of entries that are yet to be put in order.
+ghost use Rattle.std.specs.Prelude.{◌<◌, ℕ, IfOk, Contains, length};
+ghost use Rattle.cert_check.specs.Valid.{ValidMate, ValidEscape};
+ghost use Rattle.cert_order.specs.Entries.{AreMateEntries, AreEscapeEntries, HaveSame};
+ghost use Rattle.cert_order.specs.Order.{ArePicked};
+
+use crate::order::text_order;
+use board_core::Position;
+use cert_text::{EscapeCertificate, MateCertificate, MateEntry};
+use shogi_rules::Problem;
+use std::alloc::{AllocError, Global};
+
+// The items at these places, in this order.
+fn items_at<T: Copy>(alloc: Global, items: &[T], order: &[usize]) -> Result<Vec<T>, AllocError>
+    requires { (place : ℕ) → Contains order.now place → place < length items.now }
+    ensures { IfOk result (λ picked. ArePicked items.now order.now picked.items) }
+{
+    let mut picked = Vec::new(alloc);
+    for place in order {
+        picked.push(items[*place])?;
+    }
+    Ok(picked)
+}
+
+/// The certificate of a mate's entries: it is about the problem, lists the same entries, in the order of the bytes of their positions'
+/// SFEN texts, and is valid. Errors: want of memory alone.
+pub fn mate_certificate(
+    alloc: Global,
+    problem: &Problem,
+    entries: &[MateEntry],
+) -> Result<MateCertificate, AllocError>
+    requires { AreMateEntries problem.now.position entries.now }
+    ensures valid { IfOk result (λ certificate. ValidMate certificate problem.now.position) }
+    ensures same { IfOk result (λ certificate. HaveSame certificate.entries entries.now) }
+{
+    let mut positions = Vec::new(alloc);
+    for entry in entries {
+        positions.push(entry.at)?;
+    }
+    let order = text_order(alloc, &positions)?;
+    let sorted = items_at(alloc, entries, &order)?;
+    Ok(MateCertificate::new(*problem, sorted))
+}
+
+/// The certificate of an escape's positions: it is about the problem, lists the same positions, in the order of the bytes of their SFEN
+/// texts, and is valid. Errors: want of memory alone.
+pub fn escape_certificate(
+    alloc: Global,
+    problem: &Problem,
+    entries: &[Position],
+) -> Result<EscapeCertificate, AllocError>
+    requires { AreEscapeEntries problem.now.position entries.now }
+    ensures valid { IfOk result (λ certificate. ValidEscape certificate problem.now.position) }
+    ensures same { IfOk result (λ certificate. HaveSame certificate.entries entries.now) }
+{
+    let order = text_order(alloc, entries)?;
+    let sorted = items_at(alloc, entries, &order)?;
+    Ok(EscapeCertificate::new(*problem, sorted))
+}

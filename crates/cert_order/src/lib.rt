@@ -1,0 +1,11 @@
+//! Certificates of entries that are yet to be put in order.
+//!
+//! Who finds a mate or an escape finds its entries in an order of his own. A certificate lists them in the order of the bytes of their
+//! positions' SFEN texts. [`mate_certificate`] and [`escape_certificate`] make it of entries that bear out what they claim: it lists the
+//! same entries, and is valid.
+#![tactic(auto)]
+
+mod certificate;
+mod order;
+
+pub use certificate::{escape_certificate, mate_certificate};
