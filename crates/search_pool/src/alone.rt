@@ -105,8 +105,20 @@ pub fn search_alone_until<G: Gate, T: Stop>(
     Ok(SearchEnd::Unknown(cause, Crew::new(vec![in alloc; worker]?)))
 }
 
-/// The same with a gate that holds nobody up, and a stop that never signals: it answers what the world of one worker does under its own
-/// steps. Errors: want of memory alone.
+/// The same with a stop that never signals: it answers what the world of one worker does under its own steps. Errors: want of memory alone.
+pub fn search_alone_gated<G: Gate>(
+    alloc: Global,
+    problem: &Problem,
+    settings: &Settings,
+    gate: &G,
+) -> Result<SearchEnd, AllocError>
+    ensures alone { IfOk result (IsAlone problem.now.position (settings_in settings.now)) }
+    ensures solution { IfOk result (IsSolution problem.now.position) }
+{
+    search_alone_until(alloc, problem, settings, gate, &mut QuietStop::new())
+}
+
+/// The same with a gate that holds nobody up. Errors: want of memory alone.
 pub fn search_alone(
     alloc: Global,
     problem: &Problem,
@@ -115,5 +127,5 @@ pub fn search_alone(
     ensures alone { IfOk result (IsAlone problem.now.position (settings_in settings.now)) }
     ensures solution { IfOk result (IsSolution problem.now.position) }
 {
-    search_alone_until(alloc, problem, settings, &OpenGate, &mut QuietStop::new())
+    search_alone_gated(alloc, problem, settings, &OpenGate)
 }

@@ -1,3 +1,4 @@
 pub mod Running
 pub mod Complete
 pub mod Promises
+pub mod Verdict

@@ -15,7 +15,8 @@ use Rattle.tsume_words.specs.declared.form.ProblemForm.{ProblemForm}
 use Rattle.tsume_words.specs.Given.{SettingsView, Wish}
 use Rattle.tsume_words.specs.Given.Wish.{to_solve, to_check}
 use Rattle.tsume_words.specs.Meaning.{command_of}
-use Rattle.tsume_app.specs.declared.answer.Cause.{Cause}
+use Rattle.unit_desk.specs.declared.cause.Cause.{Cause}
+use Rattle.visit_log.specs.Run.{Standing}
 use Rattle.tsume_app.specs.declared.answer.Solution.TheVariants.{Mate, NoMate, Unknown}
 use Rattle.tsume_app.specs.declared.answer.Judgement.TheVariants.{Accepted, Refused}
 use Rattle.tsume_app.specs.declared.answer.Answer.TheVariants.{Solved, Judged, Help}
@@ -36,9 +37,9 @@ mate_of settings form source sink input c moves ended told =
     record {
       problem = d.true_of.problem;
       stands_for = subst (λ (i : List ℕ). StandsFor form i (Ok d.true_of.problem)) (took_it source.told source.told_after d.input input told d.read.took) d.true_of.stands_for;
-      mate = d.true_of.true_of.mate;
-      valid = d.true_of.true_of.found.valid;
-      line = d.true_of.true_of.line;
+      mate = d.true_of.true_of.verdict.shown.1.mate;
+      valid = d.true_of.true_of.verdict.shown.1.valid;
+      line = d.true_of.true_of.verdict.shown.1.line;
     }
 
 pub no_mate_of : (settings : SettingsView) (form : ProblemForm) (source sink : Shown) (input : List ℕ) (c : Escaping)
@@ -48,14 +49,14 @@ no_mate_of settings form source sink input c ended told =
     record {
       problem = d.true_of.problem;
       stands_for = subst (λ (i : List ℕ). StandsFor form i (Ok d.true_of.problem)) (took_it source.told source.told_after d.input input told d.read.took) d.true_of.stands_for;
-      no_mate = d.true_of.true_of.no_mate;
-      valid = d.true_of.true_of.found.valid;
+      no_mate = d.true_of.true_of.verdict.shown.1.no_mate;
+      valid = d.true_of.true_of.verdict.shown.1.valid;
     }
 
-pub unknown_of : (settings : SettingsView) (form : ProblemForm) (source sink : Shown) (input : List ℕ) (cause : Cause)
-    → IsEnded (to_solve settings form) source sink (Answered (Solved (Unknown cause))) → source.told ≡ Some input
-    → StandsForUnknown form settings.expansions input cause
-unknown_of settings form source sink input cause ended told =
+pub unknown_of : (settings : SettingsView) (form : ProblemForm) (source sink : Shown) (input : List ℕ) (cause : Cause) (crew : List Standing)
+    → IsEnded (to_solve settings form) source sink (Answered (Solved (Unknown cause crew))) → source.told ≡ Some input
+    → StandsForUnknown form settings input cause crew
+unknown_of settings form source sink input cause crew ended told =
     let d = ended.decided in
     record {
       problem = d.true_of.problem;
@@ -74,11 +75,11 @@ own_mate_of words source sink ended c moves does refuses is = go (command_of wor
       let d = subst (IsEnded (to_check workers problem) source sink) is (does (to_check workers problem) e) in absurd d.decided.true_of
   go (Some (to_solve settings form)) e =
       let d = subst (IsEnded (to_solve settings form) source sink) is (does (to_solve settings form) e) in
-      let shown = d.decided.true_of.true_of in
-      let own = sym shown.found.valid.problem in
+      let shown = d.decided.true_of.true_of.verdict.shown.1 in
+      let own = sym shown.valid.problem in
       record {
         mate = subst (λ (p : Board). IsMate p.side p) own shown.mate;
-        valid = subst (ValidMate c) own shown.found.valid;
+        valid = subst (ValidMate c) own shown.valid;
         line = subst (λ (p : Board). IsMainLine c p.side p moves) own shown.line;
       }
 
@@ -93,11 +94,11 @@ own_no_mate_of words source sink ended c does refuses is = go (command_of words)
       let d = subst (IsEnded (to_check workers problem) source sink) is (does (to_check workers problem) e) in absurd d.decided.true_of
   go (Some (to_solve settings form)) e =
       let d = subst (IsEnded (to_solve settings form) source sink) is (does (to_solve settings form) e) in
-      let shown = d.decided.true_of.true_of in
-      let own = sym shown.found.valid.problem in
+      let shown = d.decided.true_of.true_of.verdict.shown.1 in
+      let own = sym shown.valid.problem in
       record {
         no_mate = subst (λ (p : Board). ¬ IsMate p.side p) own shown.no_mate;
-        valid = subst (ValidEscape c) own shown.found.valid;
+        valid = subst (ValidEscape c) own shown.valid;
       }
 
 accepted_is_valid : (workers : ℕ) (problem : Option Word) (source sink : Shown) (input : List ℕ) (claim : Claim) (entries : ℕ)

@@ -15,15 +15,19 @@ use Rattle.cert_text.specs.Kinds.{claim_of, positions_in}
 use Rattle.cert_text.specs.Text.{claim_word, certificate_text}
 use Rattle.cert_check.specs.declared.verdict.Why.{Why}
 use Rattle.cert_check.specs.declared.verdict.Why.TheVariants.{RootMissing, NotACheck, EvasionOutside, RankNotLower, CheckUnanswered}
-use Rattle.cert_check.specs.Valid.{IsValid, Shows}
+use Rattle.cert_check.specs.Valid.{IsValid, ValidMate, ValidEscape, Shows}
 use Rattle.cert_check.specs.declared.verdict.Verdict.{Verdict}
 use Rattle.cert_check.specs.declared.verdict.Verdict.TheVariants.{Accepted as CheckAccepted}
 use Rattle.cert_check.specs.Reasons.{IsFirstAgainst, IsVerdict}
-use Rattle.plain_search.specs.Within.{IsUndecided}
-use Rattle.plain_search.specs.Outcome.{IsMateFound, IsEscapeFound}
+use Rattle.notes.specs.Derivation.{Derivation, conclusion_of}
+use Rattle.cert_extract.specs.Extracted.{claim_by, ComesFrom}
+use Rattle.unit_desk.specs.Sizes.{SettingsView}
+use Rattle.visit_log.specs.Run.{Standing}
+use Rattle.search_pool.specs.End.{IsAlone}
+use Rattle.search_pool.specs.declared.end.SearchEnd.TheVariants.{Solved as SearchSolved, Unknown as SearchUnknown}
 use Rattle.play_line.specs.Line.{IsMainLine}
-use Rattle.tsume_app.specs.declared.answer.Cause.{Cause}
-use Rattle.tsume_app.specs.declared.answer.Cause.TheVariants.{Expansions}
+use Rattle.unit_desk.specs.declared.cause.Cause.{Cause}
+use Rattle.unit_desk.specs.declared.cause.Cause.TheVariants.{Expansions, Room, Height, Stopped}
 use Rattle.tsume_app.specs.declared.answer.Solution.{Solution}
 use Rattle.tsume_app.specs.declared.answer.Solution.TheVariants.{Mate, NoMate, Unknown}
 use Rattle.tsume_app.specs.declared.answer.Judgement.{Judgement}
@@ -39,16 +43,19 @@ why_text (EvasionOutside evasion) = codes "outside " ++ move_text evasion
 why_text (RankNotLower evasion) = codes "rank " ++ move_text evasion
 why_text (CheckUnanswered check) = codes "unanswered " ++ move_text check
 
--- What was used up.
+-- What was used up, or that it was stopped.
 abbrev pub cause_text : Cause → List ℕ
-cause_text (Expansions expansions) = codes "expansions " ++ decimal expansions
+cause_text (Expansions units) = codes "expansions " ++ decimal units
+cause_text (Room notes) = codes "room " ++ decimal notes
+cause_text (Height height) = codes "height " ++ decimal height
+cause_text (Stopped worker) = codes "stopped"
 
 -- The text of an answer to `solve`. For a mate and for none the line of the USI protocol, for a mate with its moves, and the
 -- certificate; for neither the line of the USI protocol, and what was used up.
 abbrev pub solution_text : Solution → List ℕ
 solution_text (Mate c moves) = line (mate_text moves) ++ certificate_text (certificates.Mate c)
 solution_text (NoMate c) = line nomate_text ++ certificate_text (certificates.Escape c)
-solution_text (Unknown cause) = line timeout_text ++ line (codes "unknown " ++ cause_text cause)
+solution_text (Unknown cause crew) = line timeout_text ++ line (codes "unknown " ++ cause_text cause)
 
 -- The text of an answer to `check`. For an accepted certificate what it claims and the number of its entries, for a refused one the
 -- entry and the reason.
@@ -66,31 +73,48 @@ answer_text (Help text) = string_bytes text
 abbrev pub IsAcceptedFor : Board → Certificate → Type 0
 IsAcceptedFor p certificate = (verdict : Verdict) → IsVerdict certificate p verdict → verdict ≡ CheckAccepted
 
--- A mate is shown: the position is one, a search with so many expansions at most found the certificate, which is valid for it and
--- accepted, and the moves are its main line.
-pub record IsMateShown (p : Board) (expansions : ℕ) (c : Mating) (moves : List Move) : Type 0 where
+-- A mate is shown: the position is one, the certificate is valid for it and accepted, and the moves are its main line.
+pub record IsMateShown (p : Board) (c : Mating) (moves : List Move) : Type 0 where
   pub mate : IsMate p.side p
-  pub found : IsMateFound p expansions c
+  pub valid : ValidMate c p
   pub accepted : IsAcceptedFor p (certificates.Mate c)
   pub line : IsMainLine c p.side p moves
 
--- That there is no mate is shown: the position is none, and a search with so many expansions at most found the certificate, which is
--- valid for it and accepted.
-pub record IsNoMateShown (p : Board) (expansions : ℕ) (c : Escaping) : Type 0 where
+-- That there is no mate is shown: the position is none, and the certificate is valid for it and accepted.
+pub record IsNoMateShown (p : Board) (c : Escaping) : Type 0 where
   pub no_mate : ¬ IsMate p.side p
-  pub found : IsEscapeFound p expansions c
+  pub valid : ValidEscape c p
   pub accepted : IsAcceptedFor p (certificates.Escape c)
 
--- A search gave up for its cause: the number told is that of the expansions it may use, and what so many list tells neither a mate
--- nor that there is none.
-abbrev pub IsGivenUp : Board → ℕ → Cause → Type 0
-IsGivenUp p expansions (Expansions used) = (used ≡ expansions) × IsUndecided p expansions
+-- A solution shows, with this certificate, what it says.
+abbrev pub IsShown : Board → Certificate → Solution → Type 0
+IsShown p certificate (Mate c moves) = (certificate ≡ certificates.Mate c) × IsMateShown p c moves
+IsShown p certificate (NoMate c) = (certificate ≡ certificates.Escape c) × IsNoMateShown p c
+IsShown p certificate (Unknown cause crew) = ⊥
 
--- A solution is true of a problem that was searched with at most this many expansions.
-abbrev pub IsTrueOf : Board → ℕ → Solution → Type 0
-IsTrueOf p expansions (Mate c moves) = IsMateShown p expansions c moves
-IsTrueOf p expansions (NoMate c) = IsNoMateShown p expansions c
-IsTrueOf p expansions (Unknown cause) = IsGivenUp p expansions cause
+-- A solution is the verdict of a note: it shows with a certificate what it says; the certificate claims what the note concludes, and what it
+-- lists comes from the note's tree.
+pub record IsVerdictOf (p : Board) (note : Derivation) (solution : Solution) : Type 0 where
+  pub certificate : Certificate
+  pub claim : claim_of certificate ≡ claim_by (conclusion_of note)
+  pub from : ComesFrom note certificate
+  pub shown : IsShown p certificate solution
+
+-- A verdict is that of a note with which a search alone is solved.
+pub record IsVerdictFound (p : Board) (s : SettingsView) (solution : Solution) : Type 0 where
+  pub note : Derivation
+  pub alone : IsAlone p s (SearchSolved note)
+  pub verdict : IsVerdictOf p note solution
+
+-- A search gave up for its cause: so a search alone ends, with these workers.
+abbrev pub IsGivenUp : Board → SettingsView → Cause → List Standing → Type 0
+IsGivenUp p s cause crew = IsAlone p s (SearchUnknown cause crew)
+
+-- A solution is true of a problem that was searched with these settings.
+abbrev pub IsTrueOf : Board → SettingsView → Solution → Type 0
+IsTrueOf p s (Mate c moves) = IsVerdictFound p s (Mate c moves)
+IsTrueOf p s (NoMate c) = IsVerdictFound p s (NoMate c)
+IsTrueOf p s (Unknown cause crew) = IsGivenUp p s cause crew
 
 -- A certificate was accepted for a problem: it is valid for it, and shows what it claims.
 pub record IsAcceptance (p : Board) (c : Certificate) (claim : Claim) (entries : ℕ) : Type 0 where

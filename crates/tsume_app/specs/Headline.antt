@@ -15,14 +15,15 @@ use Rattle.tsume_words.specs.declared.form.ProblemForm.{ProblemForm}
 use Rattle.tsume_words.specs.Given.{SettingsView}
 use Rattle.tsume_words.specs.Given.Wish.{to_solve, to_check}
 use Rattle.tsume_words.specs.Meaning.{command_of}
-use Rattle.tsume_app.specs.declared.answer.Cause.{Cause}
+use Rattle.unit_desk.specs.declared.cause.Cause.{Cause}
+use Rattle.visit_log.specs.Run.{Standing}
 use Rattle.tsume_app.specs.declared.answer.Judgement.TheVariants.{Accepted}
 use Rattle.tsume_app.specs.declared.answer.Answer.TheVariants.{Judged}
 use Rattle.tsume_app.specs.declared.fault.Fault.TheVariants.{NotUtf8, Words, Asked, TooLong, Problem, Cert, Read, NoMemory}
 use Rattle.tsume_app.specs.declared.ended.Ended.{Ended}
 use Rattle.tsume_app.specs.declared.ended.Ended.TheVariants.{Answered, CutShort, Failed}
 use Rattle.tsume_app.specs.Answer.{IsGivenUp}
-use Rattle.tsume_app.specs.Input.{StandsFor, IsJudgedFor}
+use Rattle.tsume_app.specs.Input.{search_numbers, StandsFor, IsJudgedFor}
 
 -- The words ask to solve a problem of this form.
 abbrev pub AsksToSolve : ProblemForm → List Word → Type 0
@@ -47,11 +48,11 @@ pub record StandsForNoMate (form : ProblemForm) (input : List ℕ) (c : Escaping
   pub no_mate : ¬ IsMate problem.side problem
   pub valid : ValidEscape c problem
 
--- The bytes stand for a problem that was given up for its cause: so many expansions tell neither a mate nor that there is none.
-pub record StandsForUnknown (form : ProblemForm) (expansions : ℕ) (input : List ℕ) (cause : Cause) : Type 0 where
+-- The bytes stand for a problem that was given up: a search with these settings, alone, ends for the cause, which its worker met.
+pub record StandsForUnknown (form : ProblemForm) (settings : SettingsView) (input : List ℕ) (cause : Cause) (crew : List Standing) : Type 0 where
   pub problem : Board
   pub stands_for : StandsFor form input (Ok problem)
-  pub given_up : IsGivenUp problem expansions cause
+  pub given_up : IsGivenUp problem (search_numbers settings) cause crew
 
 -- The problem that the certificate itself names is a mate, for which it is valid, and the moves are its main line.
 pub record NamesMate (c : Mating) (moves : List Move) : Type 0 where

@@ -13,7 +13,8 @@ use Rattle.kif_text.specs.Reading.{IsReadingOutcome as IsDiagramOutcome}
 use Rattle.tsume_words.specs.declared.form.Format.{Format}
 use Rattle.tsume_words.specs.declared.form.Format.TheVariants.{Sfen, Kif}
 use Rattle.tsume_words.specs.declared.form.ProblemForm.{ProblemForm}
-use Rattle.tsume_words.specs.Given.{Wish}
+use Rattle.tsume_words.specs.Given.{Wish, SettingsView}
+use Rattle.unit_desk.specs.Sizes.{SettingsView as SearchSettings}
 use Rattle.tsume_words.specs.Given.Wish.{to_solve, to_check}
 use Rattle.tsume_app.specs.declared.fault.ProblemFault.{ProblemFault}
 use Rattle.tsume_app.specs.declared.fault.ProblemFault.TheVariants.{Text, Diagram, DefenderInCheck}
@@ -23,6 +24,10 @@ use Rattle.tsume_app.specs.declared.input.TheConstants.{MOST_PROBLEM_BYTES, MOST
 abbrev pub limit_of : Wish → ℕ
 limit_of (to_solve settings form) = MOST_PROBLEM_BYTES
 limit_of (to_check workers problem) = MOST_CERTIFICATE_BYTES
+
+-- The settings of a search, as the words give them.
+abbrev pub search_numbers : SettingsView → SearchSettings
+search_numbers s = record { workers = s.workers; expansions = s.expansions; room = s.room; rows = s.rows; shards = s.shards }
 
 -- The position that is searched: the one that was read, with the rest of the pieces in the defender's hand where that is
 -- asked for.

@@ -25,7 +25,7 @@ use Rattle.tsume_app.specs.Outside.{Shown, NeverFailed, IsUntouched}
 abbrev pub HasLine : Solution → Type 0
 HasLine (Mate c moves) = AllHaveText moves
 HasLine (NoMate c) = Unit {0}
-HasLine (Unknown cause) = Unit {0}
+HasLine (Unknown cause crew) = Unit {0}
 
 -- Every move of an answer's line has a text.
 abbrev pub HasTexts : Answer → Type 0

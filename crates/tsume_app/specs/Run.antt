@@ -5,7 +5,7 @@ use Rattle.tsume_io.specs.Faults.{Rose}
 use Rattle.tsume_io.specs.Source.{TookAll, TookAtMost, TookOneMoreThan, HasMoreThan}
 use Rattle.tsume_io.specs.Sink.{GrewBy, GrewByPrefix}
 use Rattle.tsume_words.specs.declared.form.ProblemForm.{ProblemForm}
-use Rattle.tsume_words.specs.Given.{Wish, MayAskForHelp}
+use Rattle.tsume_words.specs.Given.{Wish, SettingsView, MayAskForHelp}
 use Rattle.tsume_words.specs.Given.Wish.{to_solve, to_check}
 use Rattle.tsume_words.specs.Meaning.{IsRefusalOf}
 use Rattle.clap.specs.Words.{Text as Word}
@@ -22,14 +22,14 @@ use Rattle.tsume_app.specs.declared.fault.Fault.TheVariants.{NotUtf8, Words, Ask
 use Rattle.tsume_app.specs.declared.ended.Ended.{Ended}
 use Rattle.tsume_app.specs.declared.ended.Ended.TheVariants.{Answered, CutShort, Failed}
 use Rattle.tsume_app.specs.Answer.{answer_text, IsTrueOf, IsTrueOfCertificate}
-use Rattle.tsume_app.specs.Input.{limit_of, given_form, StandsFor, IsAskedFault, IsJudgedFor}
+use Rattle.tsume_app.specs.Input.{limit_of, search_numbers, given_form, StandsFor, IsAskedFault, IsJudgedFor}
 use Rattle.tsume_app.specs.Outside.{Shown, NeverFailed, IsUntouched}
 
 -- The bytes of an input are a problem of which the solution is true.
-pub record IsSolution (form : ProblemForm) (expansions : ℕ) (input : List ℕ) (solution : Solution) : Type 0 where
+pub record IsSolution (form : ProblemForm) (settings : SettingsView) (input : List ℕ) (solution : Solution) : Type 0 where
   pub problem : Board
   pub stands_for : StandsFor form input (Ok problem)
-  pub true_of : IsTrueOf problem expansions solution
+  pub true_of : IsTrueOf problem (search_numbers settings) solution
 
 -- The bytes of an input are the text of one certificate, of which the judgement is true, for the problem whose text the words give, or
 -- for its own.
@@ -43,7 +43,7 @@ pub record IsJudged (problem : Option Word) (input : List ℕ) (judgement : Judg
 
 -- An answer is true of the bytes of an input: a solution of the problem that they are, or a judgement on the certificate.
 abbrev pub IsTrueOfInput : Wish → List ℕ → Answer → Type 0
-IsTrueOfInput (to_solve settings form) input (Solved solution) = IsSolution form settings.expansions input solution
+IsTrueOfInput (to_solve settings form) input (Solved solution) = IsSolution form settings input solution
 IsTrueOfInput (to_solve settings form) input (Judged judgement) = ⊥
 IsTrueOfInput (to_solve settings form) input (Help text) = ⊥
 IsTrueOfInput (to_check workers problem) input (Solved solution) = ⊥

@@ -15,7 +15,7 @@ use Rattle.tsume_app.specs.declared.ended.Ended.TheVariants.{Answered, CutShort,
 abbrev pub solution_status : Solution → ℕ
 solution_status (Mate certificate moves) = 0
 solution_status (NoMate certificate) = 0
-solution_status (Unknown cause) = 1
+solution_status (Unknown cause crew) = 1
 
 -- The status for a certificate: 0 where it is accepted, 7 where it is refused.
 abbrev pub judgement_status : Judgement → ℕ

@@ -2,7 +2,9 @@
 use board_core::Move;
 use cert_check::Why;
 use cert_text::{Claim, EscapeCertificate, MateCertificate};
+use search_pool::Crew;
 use std::marker::Model;
+use unit_desk::Cause;
 
 /// The moves of a mate: the attacker's and the defender's in turn, from the attacker's first. Contracts see the list.
 #[derive(Drop)]
@@ -37,13 +39,6 @@ impl MainLine {
     }
 }
 
-/// Why a search gave up: which of its limits was used up.
-#[derive(Clone, Copy, PartialEq, Eq, Debug)]
-pub enum Cause {
-    /// The expansions: so many positions had their moves listed, as many as the setting allows.
-    Expansions(u64),
-}
-
 /// What was found out about a problem.
 #[derive(Drop)]
 pub enum Solution {
@@ -51,8 +46,8 @@ pub enum Solution {
     Mate(MateCertificate, MainLine),
     /// It is no mate: the certificate.
     NoMate(EscapeCertificate),
-    /// Neither was found before a limit was used up.
-    Unknown(Cause),
+    /// Neither was found before a limit was used up: which, and the search's workers as they ended.
+    Unknown(Cause, Crew),
 }
 
 /// What was found out about a certificate.

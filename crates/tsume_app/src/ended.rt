@@ -25,7 +25,7 @@ fn solution_status(solution: &Solution) -> u8
 {
     match solution {
         Solution::Mate(..) | Solution::NoMate(_) => 0,
-        Solution::Unknown(_) => 1,
+        Solution::Unknown(..) => 1,
     }
 }
 

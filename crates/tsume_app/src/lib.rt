@@ -16,7 +16,7 @@ mod solution;
 mod telling;
 mod text;
 
-pub use answer::{Answer, Cause, Judgement, MainLine, Solution};
+pub use answer::{Answer, Judgement, MainLine, Solution};
 pub use ended::Ended;
 pub use exit::Exit;
 pub use fault::{Fault, ProblemFault};

@@ -10,7 +10,8 @@ ghost use Rattle.tsume_words.specs.Meaning.{FailsFirst, command_of, texts_of, wi
 ghost use Rattle.tsume_words.specs.declared.faults.WordFault.{WordFault};
 ghost use Rattle.tsume_words.specs.declared.form.ProblemForm.{ProblemForm};
 ghost use Rattle.clap.specs.Words.{Text as Word};
-ghost use Rattle.tsume_app.specs.declared.answer.Cause.{Cause};
+ghost use Rattle.unit_desk.specs.declared.cause.Cause.{Cause};
+ghost use Rattle.visit_log.specs.Run.{Standing};
 ghost use Rattle.tsume_app.specs.declared.fault.ProblemFault.{ProblemFault};
 ghost use Rattle.tsume_app.specs.Headline.{AsksToSolve, AsksToCheck, StandsForMate, StandsForNoMate, StandsForUnknown, NamesMate, NamesNoMate, IsValidText, IsAccepted, IsBrokenOff};
 ghost use Rattle.tsume_app.specs.Inside.{HasTexts, HasWritten, IsAskedProblem, IsReadCounted, OneOutcome};
@@ -232,10 +233,10 @@ pub fn run<S: Source, K: Sink, G: Gate>(
         → AsksToSolve form (texts_of words.items) → S.left source.old ≡ Some input
         → result ≡ Ended.Answered (Answer.Solved (Solution.NoMate c)) → StandsForNoMate form input c }
 
-    // Where it gave up, the stated expansions tell neither.
-    ensures gave_up { (settings : SettingsView) (form : ProblemForm) (input : List ℕ) (cause : Cause)
+    // Where it gave up, one of the stated limits was used up: the expansions, the room for notes, or their height; the worker that met it is told.
+    ensures gave_up { (settings : SettingsView) (form : ProblemForm) (input : List ℕ) (cause : Cause) (crew : List Standing)
         → command_of (texts_of words.items) ≡ Some (to_solve settings form) → S.left source.old ≡ Some input
-        → result ≡ Ended.Answered (Answer.Solved (Solution.Unknown cause)) → StandsForUnknown form settings.expansions input cause }
+        → result ≡ Ended.Answered (Answer.Solved (Solution.Unknown cause crew)) → StandsForUnknown form settings input cause crew }
 
     // Whatever the source tells of its bytes, as a file tells nothing: what ended with a mate names one.
     ensures own_mate { (c : Mating) (moves : List Move) → result ≡ Ended.Answered (Answer.Solved (Solution.Mate c moves)) → NamesMate c moves }

@@ -1,24 +1,29 @@
 // What `solve` finds.
 ghost use Rattle.std.specs.Prelude.{◌≡◌, Ok, Err, IfOk, IfErr, MatchResult};
 ghost use Rattle.board_core.specs.Board.{HasDefender};
-ghost use Rattle.plain_search.specs.Outcome.{IsMateFound, IsEscapeFound};
+ghost use Rattle.cert_check.specs.Valid.{ValidMate, ValidEscape};
+ghost use Rattle.unit_desk.specs.Settings.{settings_in as numbers_in};
+ghost use Rattle.visit_log.specs.Frame.{task_for};
+ghost use Rattle.visit_log.specs.Sound.{IsAnswer};
 ghost use Rattle.tsume_words.specs.Given.Wish.{to_solve};
 ghost use Rattle.tsume_words.specs.Meaning.{settings_in};
-ghost use Rattle.tsume_app.specs.Answer.{IsTrueOf};
+ghost use Rattle.tsume_app.specs.Answer.{IsTrueOf, IsShown, IsVerdictOf};
 ghost use Rattle.tsume_app.specs.Inside.{HasLine, HasTexts};
-ghost use Rattle.tsume_app.specs.Input.{IsPositionRead, StandsFor, searched_board};
+ghost use Rattle.tsume_app.specs.Input.{IsPositionRead, StandsFor, searched_board, search_numbers};
 ghost use Rattle.tsume_app.specs.Outside.{Shown};
 ghost use Rattle.tsume_app.specs.Run.{IsReadWhole, IsTrueOfInput, HasCause};
 
-use crate::answer::{Answer, Cause, MainLine, Solution};
+use crate::answer::{Answer, MainLine, Solution};
 use crate::fault::{Fault, ProblemFault};
 use board_core::Position;
 use cert_check::valid_is_accepted;
-use cert_text::{EscapeCertificate, MateCertificate};
+use cert_extract::extract;
+use cert_text::{Certificate, EscapeCertificate, MateCertificate};
 use kif_text::read_kif;
-use plain_search::{Outcome, search};
+use notes::Note;
 use play_line::main_line;
-use search_gate::{Expansions, Gate};
+use search_gate::Gate;
+use search_pool::{SearchEnd, search_alone_gated};
 use sfen_text::read_sfen;
 use shogi_rules::{Problem, accept_problem};
 use std::alloc::{AllocError, Global};
@@ -58,14 +63,26 @@ pub(crate) fn read_problem(input: &[u8], form: ProblemForm) -> Result<Problem, P
     }
 }
 
+// The settings of the search: those that the words give.
+fn search_settings(settings: &Settings) -> unit_desk::Settings
+    ensures { numbers_in result ≡ search_numbers (settings_in settings.now) }
+{
+    unit_desk::Settings {
+        workers: settings.workers,
+        expansions: settings.expansions.count,
+        room: settings.room,
+        rows: settings.rows,
+        shards: settings.shards,
+    }
+}
+
 fn mate(
     alloc: Global,
     problem: &Problem,
-    expansions: u64,
     certificate: MateCertificate,
 ) -> Result<Solution, AllocError>
-    requires { IsMateFound problem.now.position expansions certificate }
-    ensures true_of { IfOk result (IsTrueOf problem.now.position expansions) }
+    requires { ValidMate certificate problem.now.position }
+    ensures shown { IfOk result (IsShown problem.now.position (Certificate.Mate certificate)) }
     ensures line { IfOk result HasLine }
 {
     valid_is_accepted();
@@ -75,9 +92,9 @@ fn mate(
     Ok(Solution::Mate(certificate, MainLine::new(moves)))
 }
 
-fn no_mate(problem: &Problem, expansions: u64, certificate: EscapeCertificate) -> Solution
-    requires { IsEscapeFound problem.now.position expansions certificate }
-    ensures true_of { IsTrueOf problem.now.position expansions result }
+fn no_mate(problem: &Problem, certificate: EscapeCertificate) -> Solution
+    requires { ValidEscape certificate problem.now.position }
+    ensures shown { IsShown problem.now.position (Certificate.Escape certificate) result }
     ensures line { HasLine result }
 {
     valid_is_accepted();
@@ -86,20 +103,30 @@ fn no_mate(problem: &Problem, expansions: u64, certificate: EscapeCertificate) -
     Solution::NoMate(certificate)
 }
 
+// The verdict of a note that answers the problem, with the certificate that is extracted from it.
+fn verdict(alloc: Global, problem: &Problem, note: &Note) -> Result<Solution, AllocError>
+    requires { IsAnswer (task_for problem.now.position 1) note.now }
+    ensures verdict { IfOk result (IsVerdictOf problem.now.position note.now) }
+    ensures line { IfOk result HasLine }
+{
+    match extract(alloc, problem, note)? {
+        Certificate::Mate(certificate) => mate(alloc, problem, certificate),
+        Certificate::Escape(certificate) => Ok(no_mate(problem, certificate)),
+    }
+}
+
 fn solution_of<G: Gate>(
     alloc: Global,
     problem: &Problem,
-    expansions: Expansions,
+    settings: &Settings,
     gate: &G,
 ) -> Result<Solution, AllocError>
-    ensures true_of { IfOk result (IsTrueOf problem.now.position expansions.count) }
+    ensures true_of { IfOk result (IsTrueOf problem.now.position (search_numbers (settings_in settings.now))) }
     ensures line { IfOk result HasLine }
 {
-    let count = expansions.count;
-    match search(alloc, problem, expansions, gate)? {
-        Outcome::Mate(certificate) => mate(alloc, problem, count, certificate),
-        Outcome::NoMate(certificate) => Ok(no_mate(problem, count, certificate)),
-        Outcome::Spent => Ok(Solution::Unknown(Cause::Expansions(count))),
+    match search_alone_gated(alloc, problem, &search_settings(settings), gate)? {
+        SearchEnd::Solved(note) => verdict(alloc, problem, &note),
+        SearchEnd::Unknown(cause, crew) => Ok(Solution::Unknown(cause, crew)),
     }
 }
 
@@ -119,6 +146,6 @@ pub(crate) fn solve_input<G: Gate>(
         → IfErr result (λ fault. HasCause (to_solve (settings_in settings.now) form) source fault input.now) }
 {
     let problem = read_problem(input, form)?;
-    let solution = solution_of(alloc, &problem, settings.expansions, gate)?;
+    let solution = solution_of(alloc, &problem, settings, gate)?;
     Ok(Answer::Solved(solution))
 }

@@ -2,19 +2,20 @@
 ghost use Rattle.std.specs.Prelude.{◌≡◌, ◌++◌, ◌∷◌, OnOk, codes};
 ghost use Rattle.std.specs.Fmt.{decimal};
 ghost use Rattle.usi_text.specs.MoveText.{move_text};
-ghost use Rattle.usi_text.specs.Lines.{AllHaveText};
+ghost use Rattle.usi_text.specs.Lines.{AllHaveText, timeout_text};
 ghost use Rattle.cert_text.specs.Entries.{line};
 ghost use Rattle.cert_text.specs.Text.{claim_word};
-ghost use Rattle.tsume_app.specs.Answer.{answer_text, solution_text, judgement_text, why_text};
+ghost use Rattle.tsume_app.specs.Answer.{answer_text, solution_text, judgement_text, why_text, cause_text};
 ghost use Rattle.tsume_app.specs.Inside.{HasLine, HasTexts};
 
-use crate::answer::{Answer, Cause, Judgement, Solution};
+use crate::answer::{Answer, Judgement, Solution};
 use board_core::Move;
 use cert_check::Why;
 use cert_text::{
     Claim, EscapeCertificate, MateCertificate, append_escape_cert, append_mate_cert, append_number,
 };
 use std::alloc::AllocError;
+use unit_desk::Cause;
 use usi_text::{append_mate_line, append_nomate_line, append_timeout_line, write_move};
 
 fn append_move(out: &mut Vec<u8>, word: &[u8], named: Move) -> Result<(), AllocError>
@@ -92,17 +93,34 @@ fn append_no_mate(out: &mut Vec<u8>, certificate: &EscapeCertificate) -> Result<
     append_escape_cert(out, certificate)
 }
 
+fn append_counted(out: &mut Vec<u8>, word: &[u8], number: u64) -> Result<(), AllocError>
+    ensures { OnOk result (out.new.items ≡ out.old.items ++ (word.now ++ decimal number)) }
+{
+    out.extend_from_slice(word)?;
+    append_number(out, number)?;
+    Ok(())
+}
+
+fn append_cause(out: &mut Vec<u8>, cause: Cause) -> Result<(), AllocError>
+    ensures { OnOk result (out.new.items ≡ out.old.items ++ cause_text cause) }
+{
+    match cause {
+        Cause::Expansions(units) => append_counted(out, b"expansions ", units),
+        Cause::Room(notes) => append_counted(out, b"room ", u64::from(notes)),
+        Cause::Height(height) => append_counted(out, b"height ", u64::from(height)),
+        Cause::Stopped(_) => {
+            out.extend_from_slice(b"stopped")?;
+            Ok(())
+        }
+    }
+}
+
 fn append_unknown(out: &mut Vec<u8>, cause: Cause) -> Result<(), AllocError>
-    ensures { OnOk result (out.new.items ≡ out.old.items ++ solution_text (Solution.Unknown cause)) }
+    ensures { OnOk result (out.new.items ≡ out.old.items ++ (line timeout_text ++ line (codes "unknown " ++ cause_text cause))) }
 {
     append_timeout_line(out)?;
     out.extend_from_slice(b"\nunknown ")?;
-    match cause {
-        Cause::Expansions(expansions) => {
-            out.extend_from_slice(b"expansions ")?;
-            append_number(out, expansions)?;
-        }
-    }
+    append_cause(out, cause)?;
     out.push(b'\n')?;
     Ok(())
 }
@@ -114,7 +132,7 @@ fn append_solution(out: &mut Vec<u8>, solution: &Solution) -> Result<(), AllocEr
     match solution {
         Solution::Mate(certificate, moves) => append_mate(out, certificate, moves.moves()),
         Solution::NoMate(certificate) => append_no_mate(out, certificate),
-        Solution::Unknown(cause) => append_unknown(out, *cause),
+        Solution::Unknown(cause, _) => append_unknown(out, *cause),
     }
 }
 

@@ -28,9 +28,9 @@ expansions_option = number_option (codes "expansions") 1 MOST_EXPANSIONS (codes 
 abbrev pub room_option : Rule
 room_option = number_option (codes "room") 1 MOST_ROOM (codes "1048576")
 
--- The rows are 16 to 1,048,576, and 16,384 where nothing is said.
+-- The rows are 16 to 1,048,576, and 65,536 where nothing is said.
 abbrev pub rows_option : Rule
-rows_option = number_option (codes "rows") LEAST_ROWS MOST_ROWS (codes "16384")
+rows_option = number_option (codes "rows") LEAST_ROWS MOST_ROWS (codes "65536")
 
 -- The shards are 1 to 64, and 16 where nothing is said.
 abbrev pub shards_option : Rule

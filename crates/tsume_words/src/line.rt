@@ -53,13 +53,12 @@ fn expansions_option<'a>(alloc: Global) -> Arg<'a>
         1,
         MOST_EXPANSIONS,
         "1000000",
-        "Positions, of both sides, whose moves may be listed\n\
-         before it gives up, 1 to 1000000000; a million cost\n\
-         10 to 20 seconds and up to 4 GB",
+        "Visits of positions, of both sides, before it gives up,\n\
+         1 to 1000000000; a position is visited as often as the\n\
+         search comes back to it",
     )
 }
 
-// An option that has no effect yet: checked, and not shown.
 fn room_option<'a>(alloc: Global) -> Arg<'a>
     ensures rule { rule_of result ≡ room_option }
     ensures local { result.global ≡ false }
@@ -70,12 +69,12 @@ fn room_option<'a>(alloc: Global) -> Arg<'a>
         1,
         MOST_ROOM,
         "1048576",
-        "Facts that a certificate may be made of (1 to 1400000)",
+        "Solved positions that it may note down before it gives\n\
+         up, 1 to 1400000, and so the most entries of a\n\
+         certificate; each takes some 400 bytes",
     )
-    .hide(true)
 }
 
-// An option that has no effect yet: checked, and not shown.
 fn rows_option<'a>(alloc: Global) -> Arg<'a>
     ensures rule { rule_of result ≡ rows_option }
     ensures local { result.global ≡ false }
@@ -85,10 +84,11 @@ fn rows_option<'a>(alloc: Global) -> Arg<'a>
         "rows",
         LEAST_ROWS,
         MOST_ROWS,
-        "16384",
-        "Rows of the transposition table, a power of two (16 to 1048576)",
+        "65536",
+        "Rows of the table in which it keeps what it knows, a\n\
+         power of two, 16 to 1048576. A row takes 1 KB, all at\n\
+         once. More help a search of more than a million visits",
     )
-    .hide(true)
 }
 
 // An option that has no effect yet: checked, and not shown.

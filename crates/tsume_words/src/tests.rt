@@ -6,33 +6,33 @@ use std::test::Fail;
 // A line, and what it asks for: the numbers in the order of the settings, whether `--rest` stands, and `kif` where `--kif` does; or the
 // workers; and the file.
 static ASKED: [(&str, &str); 28] = [
-    ("solve", "solve 1 1000000 1048576 16384 16 false"),
-    ("solve --rest", "solve 1 1000000 1048576 16384 16 true"),
-    ("solve --kif", "solve 1 1000000 1048576 16384 16 false kif"),
+    ("solve", "solve 1 1000000 1048576 65536 16 false"),
+    ("solve --rest", "solve 1 1000000 1048576 65536 16 true"),
+    ("solve --kif", "solve 1 1000000 1048576 65536 16 false kif"),
     (
         "solve --rest --kif a.kif",
-        "solve 1 1000000 1048576 16384 16 true kif of a.kif",
+        "solve 1 1000000 1048576 65536 16 true kif of a.kif",
     ),
     (
         "solve --workers 64",
-        "solve 64 1000000 1048576 16384 16 false",
+        "solve 64 1000000 1048576 65536 16 false",
     ),
     (
         "solve --workers=7",
-        "solve 7 1000000 1048576 16384 16 false",
+        "solve 7 1000000 1048576 65536 16 false",
     ),
     (
         "solve --workers +5",
-        "solve 5 1000000 1048576 16384 16 false",
+        "solve 5 1000000 1048576 65536 16 false",
     ),
     (
         "solve --workers 05",
-        "solve 5 1000000 1048576 16384 16 false",
+        "solve 5 1000000 1048576 65536 16 false",
     ),
-    ("solve --expansions 1", "solve 1 1 1048576 16384 16 false"),
+    ("solve --expansions 1", "solve 1 1 1048576 65536 16 false"),
     (
         "solve --expansions 1000000000",
-        "solve 1 1000000000 1048576 16384 16 false",
+        "solve 1 1000000000 1048576 65536 16 false",
     ),
     ("solve --room 1", "solve 1 1000000 1 16384 16 false"),
     (
@@ -62,7 +62,7 @@ static ASKED: [(&str, &str); 28] = [
     ("check -- --help", "check 1 of --help"),
     (
         "solve --rest a/b.sfen",
-        "solve 1 1000000 1048576 16384 16 true of a/b.sfen",
+        "solve 1 1000000 1048576 65536 16 true of a/b.sfen",
     ),
     ("solve --rows 24", "rows is no power of two"),
     ("solve --rows 1000 --shards 3", "rows is no power of two"),

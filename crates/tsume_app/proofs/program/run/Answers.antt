@@ -23,10 +23,10 @@ returns-clause-no_mate g c = λ form input certificate asks told is.
     (subst (λ (e : Ended). IsEnded (to_solve asks.0 form) source sink e) is (c.words_ended.ensures.ended (to_solve asks.0 form) asks.1)) told
 
 pub returns-clause-gave_up : goal.returns-clause-gave_up
-returns-clause-gave_up g c = λ settings form input cause asks told is.
+returns-clause-gave_up g c = λ settings form input cause crew asks told is.
     let source = shown g.S.Source.left g.S.Source.faults c.args.source.now c.words_ended.new.source in
     let sink = shown g.K.Sink.kept g.K.Sink.faults c.args.sink.now c.words_ended.new.sink in
-    unknown_of settings form source sink input cause
+    unknown_of settings form source sink input cause crew
     (subst (λ (e : Ended). IsEnded (to_solve settings form) source sink e) is (c.words_ended.ensures.ended (to_solve settings form) asks)) told
 
 pub returns-clause-own_mate : goal.returns-clause-own_mate

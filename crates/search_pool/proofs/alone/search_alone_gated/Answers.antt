@@ -1,10 +1,10 @@
 use Rattle.std.proofs.Common.{refl}
 use Rattle.unit_desk.specs.Settings.{settings_in}
 use Rattle.search_pool.proofs.Ends.{alone_quietly}
-use Rattle.search_pool.proofs.alone.search_alone.Goals as goal
+use Rattle.search_pool.proofs.alone.search_alone_gated.Goals as goal
 
 pub returns-clause-alone : goal.returns-clause-alone
-returns-clause-alone c =
+returns-clause-alone g c =
     alone_quietly c.search_alone_until.result c.args.problem.now.position (settings_in c.args.settings.now)
     (record { raised = 0; armed = c.new.result.armed; arms = c.new.result.arms })
     (record { raised = 0; armed = c.search_alone_until.new.stop.armed; arms = c.search_alone_until.new.stop.arms }) refl refl c.search_alone_until.ensures.alone
