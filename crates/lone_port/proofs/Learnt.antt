@@ -1,0 +1,26 @@
+-- A port suits a worker as it did before, once a position was entered and left.
+use Rattle.std.proofs.Common.{◌≡◌, ◌∙◌, inl, inr, Some, arith, sym}
+use Rattle.board_core.specs.declared.keys.Key.{Key}
+use Rattle.notes.specs.declared.words.Kept.{Kept}
+use Rattle.notes.specs.declared.words.Update.{Update}
+use Rattle.pn_numbers.specs.declared.numbers.Numbers.{Numbers}
+use Rattle.visit_log.specs.declared.words.Request.TheVariants.{Enter, Leave}
+use Rattle.visit_log.specs.declared.words.Answer.TheVariants.{Enter as Entered, Leave as LeftIt}
+use Rattle.visit_log.specs.Run.{Standing}
+use Rattle.worker_core.specs.Port.{Book, IsBooked, Suits}
+
+pub learnt_suits : (worker : Standing) (a b c : Book) (key : Key) (numbers : Numbers) (kept : Kept) (update : Update)
+    → IsBooked (Enter key numbers, Some (Entered kept)) a b → IsBooked (Leave kept key update, Some LeftIt) b c → Suits worker a → Suits worker c
+learnt_suits worker a b c key numbers kept update first second suits =
+    let going : c.going ≡ a.going = second.going ∙ first.going in
+    let units : c.units ≡ a.units = (let one = first.units in let two = second.units in omega (arith, one, two)) in
+    let size : c.size ≡ a.size = (let one = first.size in let two = second.size in omega (arith, one, two)) in
+    record {
+      problem = suits.problem ∙ sym (second.problem ∙ first.problem);
+      going = elim suits.going [ inl goes ↦ inl (going ∙ goes) | inr winding ↦ inr winding ];
+      held = λ k slot. let one = first.held k slot in let two = second.held k slot in let h = suits.held k slot in omega (arith, one, two, h);
+      some = (let some = suits.some in omega (arith, size, some));
+      units = (let own = suits.units in omega (arith, units, own));
+      size = (let own = suits.size in omega (arith, size, units, own));
+      most = (let most = suits.most in omega (arith, units, most));
+    }

@@ -1,0 +1,42 @@
+-- A port suits a worker that was starved as it did before.
+use Rattle.std.proofs.Common.{◌≡◌, false, ◌∙◌, List, [], ◌∷◌, inr, arith, ap, refl}
+use Rattle.visit_log.specs.declared.words.WorkEnd.{WorkEnd}
+use Rattle.visit_log.specs.declared.words.WorkEnd.TheVariants.{NoMemory}
+use Rattle.visit_log.specs.declared.parts.Stage.{Stage}
+use Rattle.visit_log.specs.declared.parts.Stage.TheVariants.{Polling, Drawing, Entering, Looking, Claiming, Leaving, Posting, Winding}
+use Rattle.visit_log.specs.Frame.{Visiting}
+use Rattle.visit_log.specs.Machine.{State, starve, starve_at, starve_winding}
+use Rattle.visit_log.specs.Run.{Standing}
+use Rattle.visit_log.specs.Laws.{IsLeftAlone}
+use Rattle.worker_core.specs.Port.{Book, entering, Suits}
+
+still_winds : (s : State) (end : WorkEnd) (frames : List Visiting) → (last : WorkEnd) × ((starve_winding s end frames).stage ≡ Winding last)
+still_winds s end [] = (end, refl)
+still_winds s end (f ∷ fs) = (NoMemory, refl)
+
+-- a starved worker winds up
+starved_winds : (s : State) (stage : Stage) → (last : WorkEnd) × ((starve_at s stage).stage ≡ Winding last)
+starved_winds s (Winding end) = still_winds s end s.frames
+starved_winds s (Polling entry) = (NoMemory, refl)
+starved_winds s (Drawing entry) = (NoMemory, refl)
+starved_winds s Entering = (NoMemory, refl)
+starved_winds s (Looking place) = (NoMemory, refl)
+starved_winds s Claiming = (NoMemory, refl)
+starved_winds s (Leaving left) = (NoMemory, refl)
+starved_winds s (Posting posted) = (NoMemory, refl)
+
+pub starved_suits : (v w : Standing) (book : Book) → Suits v book → w ≡ record { task = v.task; state = starve v.state; waiting = false } → IsLeftAlone v.state w.state
+    → Suits w book
+starved_suits v w book suits is alone =
+    let winds = starved_winds v.state v.state.stage in
+    let stage : w.state.stage ≡ Winding winds.0 = ap (λ (z : Standing). z.state.stage) is ∙ winds.1 in
+    let none : entering w.state.stage ≡ 0 = ap entering stage in
+    record {
+      problem = ap (λ (z : Standing). z.task.problem) is ∙ suits.problem;
+      going = inr (winds.0, stage);
+      held = λ key slot. let own = alone.slots key slot in let h = suits.held key slot in omega (arith, own, h);
+      some = (let own = alone.size in let some = suits.some in omega (arith, own, some));
+      units = (let visits = alone.visits in let units = suits.units in omega (arith, visits, units));
+      size = (let size = suits.size in omega (arith, none, size));
+      most = suits.most;
+    }
