@@ -6,6 +6,8 @@
 
 mod alone;
 mod end;
+#[cfg(test)]
+mod tests;
 
 pub use alone::{search_alone, search_alone_gated, search_alone_until};
 pub use end::{Crew, SearchEnd};
