@@ -20,9 +20,9 @@ use Rattle.sfen_text.specs.declared.fault.TextFault.{TextFault}
 use Rattle.kif_text.specs.declared.fault.KifFault.{KifFault}
 use Rattle.tsume_app.specs.declared.ended.Ended.{Ended}
 use Rattle.tsume_app.specs.declared.ended.Ended.TheVariants.{Answered, CutShort, Failed}
-use Rattle.tsume_app.specs.declared.fault.ProblemFault.{ProblemFault}
-use Rattle.tsume_app.specs.declared.fault.ProblemFault.TheVariants as problems
-use Rattle.tsume_app.specs.declared.fault.Fault.TheVariants.{NotUtf8, Words, Asked, TooLong, Problem, Cert, Read, NoMemory}
+use Rattle.app_texts.specs.declared.fault.ProblemFault.{ProblemFault}
+use Rattle.app_texts.specs.declared.fault.ProblemFault.TheVariants as problems
+use Rattle.app_texts.specs.declared.fault.Fault.TheVariants.{NotUtf8, Words, Asked, TooLong, Problem, Cert, Read, NoMemory}
 use Rattle.std.specs.Prelude.{MatchResult}
 use Rattle.shogi_rules.specs.declared.problem.Problem.{Problem as GivenProblem}
 use Rattle.tsume_app.specs.Inside.{IsAskedProblem, OneOutcome}

@@ -17,14 +17,14 @@ use Rattle.tsume_words.specs.Given.Wish.{to_solve, to_check}
 use Rattle.tsume_words.specs.Meaning.{command_of}
 use Rattle.unit_desk.specs.declared.cause.Cause.{Cause}
 use Rattle.visit_log.specs.Run.{Standing}
-use Rattle.tsume_app.specs.declared.answer.Solution.TheVariants.{Mate, NoMate, Unknown}
-use Rattle.tsume_app.specs.declared.answer.Judgement.TheVariants.{Accepted, Refused}
-use Rattle.tsume_app.specs.declared.answer.Answer.TheVariants.{Solved, Judged, Help}
+use Rattle.app_texts.specs.declared.answer.Solution.TheVariants.{Mate, NoMate, Unknown}
+use Rattle.app_texts.specs.declared.answer.Judgement.TheVariants.{Accepted, Refused}
+use Rattle.app_texts.specs.declared.answer.Answer.TheVariants.{Solved, Judged, Help}
 use Rattle.tsume_app.specs.declared.ended.Ended.{Ended}
 use Rattle.tsume_app.specs.declared.ended.Ended.TheVariants.{Answered, CutShort, Failed}
-use Rattle.tsume_app.specs.declared.fault.Fault.TheVariants.{NotUtf8, Words, Asked, TooLong, Problem, Cert, Read, NoMemory}
+use Rattle.app_texts.specs.declared.fault.Fault.TheVariants.{NotUtf8, Words, Asked, TooLong, Problem, Cert, Read, NoMemory}
 use Rattle.tsume_app.specs.Headline.{StandsForMate, StandsForNoMate, StandsForUnknown, NamesMate, NamesNoMate, IsValidText, IsAccepted, IsBrokenOff}
-use Rattle.tsume_app.specs.Input.{StandsFor, IsJudgedFor}
+use Rattle.tsume_app.specs.Input.{StandsFor}
 use Rattle.tsume_app.specs.Outside.{Shown}
 use Rattle.tsume_app.specs.Run.{IsEnded, IsEndedUnasked}
 use Rattle.tsume_app.specs.Inside.{OneOutcome}

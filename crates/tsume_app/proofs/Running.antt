@@ -6,12 +6,12 @@ use Rattle.tsume_io.specs.Source.{Took, TookAll, TookAtMost}
 use Rattle.clap.specs.Words.{Text as Word}
 use Rattle.tsume_io.specs.Faults.{Rose}
 use Rattle.tsume_words.specs.Given.{Wish, MayAskForHelp}
-use Rattle.tsume_app.specs.declared.answer.Answer.{Answer}
-use Rattle.tsume_app.specs.declared.answer.Answer.TheVariants.{Solved, Judged, Help}
+use Rattle.app_texts.specs.declared.answer.Answer.{Answer}
+use Rattle.app_texts.specs.declared.answer.Answer.TheVariants.{Solved, Judged, Help}
 use Rattle.tsume_app.specs.declared.ended.Ended.{Ended}
 use Rattle.tsume_app.specs.declared.ended.Ended.TheVariants.{Answered, CutShort, Failed}
-use Rattle.tsume_app.specs.declared.fault.Fault.{Fault}
-use Rattle.tsume_app.specs.declared.fault.Fault.TheVariants.{NoMemory}
+use Rattle.app_texts.specs.declared.fault.Fault.{Fault}
+use Rattle.app_texts.specs.declared.fault.Fault.TheVariants.{NoMemory}
 use Rattle.tsume_app.specs.Input.{searched_board}
 use Rattle.tsume_app.specs.Inside.{HasWritten}
 use Rattle.tsume_app.specs.Outside.{Shown, IsUntouched}

@@ -6,8 +6,8 @@ use Rattle.cert_text.specs.declared.certificate.Certificate.{Certificate}
 use Rattle.cert_text.specs.Kinds.{claim_of}
 use Rattle.notes.specs.Derivation.{Derivation, conclusion_of}
 use Rattle.cert_extract.specs.Extracted.{claim_by, ComesFrom}
-use Rattle.tsume_app.specs.declared.answer.Solution.{Solution}
-use Rattle.tsume_app.specs.declared.answer.Solution.TheVariants.{Mate, NoMate, Unknown}
+use Rattle.app_texts.specs.declared.answer.Solution.{Solution}
+use Rattle.app_texts.specs.declared.answer.Solution.TheVariants.{Mate, NoMate, Unknown}
 use Rattle.unit_desk.specs.Sizes.{SettingsView}
 use Rattle.search_pool.specs.End.{IsAlone}
 use Rattle.search_pool.specs.declared.end.SearchEnd.TheVariants.{Solved}

@@ -1,20 +1,14 @@
--- What an answer prints, and what it means.
-use Rattle.std.specs.Prelude.{◌≡◌, ℕ, List, ◌∷◌, ◌++◌, codes, length, string_bytes}
-use Rattle.std.specs.Fmt.{decimal}
+-- When an answer is true.
+use Rattle.std.specs.Prelude.{◌≡◌, ℕ, List, length}
 use Rattle.board_core.specs.declared.moves.Move.{Move}
 use Rattle.board_core.specs.Board.{Board}
-use Rattle.usi_text.specs.MoveText.{move_text}
-use Rattle.usi_text.specs.Lines.{mate_text, nomate_text, timeout_text}
 use Rattle.mate_def.specs.Mate.{IsMate}
 use Rattle.cert_text.specs.declared.certificate.Certificate.{Certificate}
 use Rattle.cert_text.specs.declared.certificate.Certificate.TheVariants as certificates
 use Rattle.cert_text.specs.Certificate.{Mating, Escaping}
 use Rattle.cert_text.specs.declared.head.Claim.{Claim}
-use Rattle.cert_text.specs.Entries.{line}
 use Rattle.cert_text.specs.Kinds.{claim_of, positions_in}
-use Rattle.cert_text.specs.Text.{claim_word, certificate_text}
 use Rattle.cert_check.specs.declared.verdict.Why.{Why}
-use Rattle.cert_check.specs.declared.verdict.Why.TheVariants.{RootMissing, NotACheck, EvasionOutside, RankNotLower, CheckUnanswered}
 use Rattle.cert_check.specs.Valid.{IsValid, ValidMate, ValidEscape, Shows}
 use Rattle.cert_check.specs.declared.verdict.Verdict.{Verdict}
 use Rattle.cert_check.specs.declared.verdict.Verdict.TheVariants.{Accepted as CheckAccepted}
@@ -27,47 +21,10 @@ use Rattle.search_pool.specs.End.{IsAlone}
 use Rattle.search_pool.specs.declared.end.SearchEnd.TheVariants.{Solved as SearchSolved, Unknown as SearchUnknown}
 use Rattle.play_line.specs.Line.{IsMainLine}
 use Rattle.unit_desk.specs.declared.cause.Cause.{Cause}
-use Rattle.unit_desk.specs.declared.cause.Cause.TheVariants.{Expansions, Room, Height, Stopped}
-use Rattle.tsume_app.specs.declared.answer.Solution.{Solution}
-use Rattle.tsume_app.specs.declared.answer.Solution.TheVariants.{Mate, NoMate, Unknown}
-use Rattle.tsume_app.specs.declared.answer.Judgement.{Judgement}
-use Rattle.tsume_app.specs.declared.answer.Judgement.TheVariants.{Accepted, Refused}
-use Rattle.tsume_app.specs.declared.answer.Answer.{Answer}
-use Rattle.tsume_app.specs.declared.answer.Answer.TheVariants.{Solved, Judged, Help}
-
--- A reason against a certificate: a word, and the move that it names.
-abbrev pub why_text : Why → List ℕ
-why_text RootMissing = codes "root"
-why_text (NotACheck move) = codes "move " ++ move_text move
-why_text (EvasionOutside evasion) = codes "outside " ++ move_text evasion
-why_text (RankNotLower evasion) = codes "rank " ++ move_text evasion
-why_text (CheckUnanswered check) = codes "unanswered " ++ move_text check
-
--- What was used up, or that it was stopped.
-abbrev pub cause_text : Cause → List ℕ
-cause_text (Expansions units) = codes "expansions " ++ decimal units
-cause_text (Room notes) = codes "room " ++ decimal notes
-cause_text (Height height) = codes "height " ++ decimal height
-cause_text (Stopped worker) = codes "stopped"
-
--- The text of an answer to `solve`. For a mate and for none the line of the USI protocol, for a mate with its moves, and the
--- certificate; for neither the line of the USI protocol, and what was used up.
-abbrev pub solution_text : Solution → List ℕ
-solution_text (Mate c moves) = line (mate_text moves) ++ certificate_text (certificates.Mate c)
-solution_text (NoMate c) = line nomate_text ++ certificate_text (certificates.Escape c)
-solution_text (Unknown cause crew) = line timeout_text ++ line (codes "unknown " ++ cause_text cause)
-
--- The text of an answer to `check`. For an accepted certificate what it claims and the number of its entries, for a refused one the
--- entry and the reason.
-abbrev pub judgement_text : Judgement → List ℕ
-judgement_text (Accepted claim entries) = line (codes "accepted " ++ claim_word claim ++ 32 ∷ decimal entries)
-judgement_text (Refused entry why) = line (codes "refused " ++ decimal entry ++ 32 ∷ why_text why)
-
--- The text of an answer.
-abbrev pub answer_text : Answer → List ℕ
-answer_text (Solved solution) = solution_text solution
-answer_text (Judged judgement) = judgement_text judgement
-answer_text (Help text) = string_bytes text
+use Rattle.app_texts.specs.declared.answer.Solution.{Solution}
+use Rattle.app_texts.specs.declared.answer.Solution.TheVariants.{Mate, NoMate, Unknown}
+use Rattle.app_texts.specs.declared.answer.Judgement.{Judgement}
+use Rattle.app_texts.specs.declared.answer.Judgement.TheVariants.{Accepted, Refused}
 
 -- The checker accepts the certificate for the position: every verdict that it may come to is that one.
 abbrev pub IsAcceptedFor : Board → Certificate → Type 0

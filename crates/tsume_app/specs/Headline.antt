@@ -17,9 +17,9 @@ use Rattle.tsume_words.specs.Given.Wish.{to_solve, to_check}
 use Rattle.tsume_words.specs.Meaning.{command_of}
 use Rattle.unit_desk.specs.declared.cause.Cause.{Cause}
 use Rattle.visit_log.specs.Run.{Standing}
-use Rattle.tsume_app.specs.declared.answer.Judgement.TheVariants.{Accepted}
-use Rattle.tsume_app.specs.declared.answer.Answer.TheVariants.{Judged}
-use Rattle.tsume_app.specs.declared.fault.Fault.TheVariants.{NotUtf8, Words, Asked, TooLong, Problem, Cert, Read, NoMemory}
+use Rattle.app_texts.specs.declared.answer.Judgement.TheVariants.{Accepted}
+use Rattle.app_texts.specs.declared.answer.Answer.TheVariants.{Judged}
+use Rattle.app_texts.specs.declared.fault.Fault.TheVariants.{NotUtf8, Words, Asked, TooLong, Problem, Cert, Read, NoMemory}
 use Rattle.tsume_app.specs.declared.ended.Ended.{Ended}
 use Rattle.tsume_app.specs.declared.ended.Ended.TheVariants.{Answered, CutShort, Failed}
 use Rattle.tsume_app.specs.Answer.{IsGivenUp}

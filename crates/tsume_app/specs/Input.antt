@@ -16,8 +16,8 @@ use Rattle.tsume_words.specs.declared.form.ProblemForm.{ProblemForm}
 use Rattle.tsume_words.specs.Given.{Wish, SettingsView}
 use Rattle.unit_desk.specs.Sizes.{SettingsView as SearchSettings}
 use Rattle.tsume_words.specs.Given.Wish.{to_solve, to_check}
-use Rattle.tsume_app.specs.declared.fault.ProblemFault.{ProblemFault}
-use Rattle.tsume_app.specs.declared.fault.ProblemFault.TheVariants.{Text, Diagram, DefenderInCheck}
+use Rattle.app_texts.specs.declared.fault.ProblemFault.{ProblemFault}
+use Rattle.app_texts.specs.declared.fault.ProblemFault.TheVariants.{Text, Diagram, DefenderInCheck}
 use Rattle.tsume_app.specs.declared.input.TheConstants.{MOST_PROBLEM_BYTES, MOST_CERTIFICATE_BYTES}
 
 -- The most bytes that the input of a command may have.

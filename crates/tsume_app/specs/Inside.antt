@@ -1,37 +1,21 @@
 -- What the private functions of this crate say of one another; no public clause cites these.
 use Rattle.std.specs.Prelude.{◌≡◌, ℕ, List, [], Option, Some, None, Result, Ok}
-use Rattle.usi_text.specs.Lines.{AllHaveText}
 use Rattle.tsume_io.specs.Faults.{Rose}
 use Rattle.tsume_io.specs.Sink.{GrewBy, GrewByPrefix}
-use Rattle.tsume_app.specs.declared.answer.Solution.{Solution}
-use Rattle.tsume_app.specs.declared.answer.Solution.TheVariants.{Mate, NoMate, Unknown}
-use Rattle.tsume_app.specs.declared.answer.Answer.{Answer}
-use Rattle.tsume_app.specs.declared.answer.Answer.TheVariants.{Solved, Judged, Help}
-use Rattle.tsume_app.specs.declared.fault.Fault.{Fault}
-use Rattle.tsume_app.specs.declared.fault.Fault.TheVariants.{NotUtf8, Words, Asked, TooLong, Problem, Cert, Read, NoMemory}
+use Rattle.app_texts.specs.declared.answer.Answer.{Answer}
+use Rattle.app_texts.specs.declared.fault.Fault.{Fault}
+use Rattle.app_texts.specs.declared.fault.Fault.TheVariants.{NotUtf8, Words, Asked, TooLong, Problem, Cert, Read, NoMemory}
 use Rattle.tsume_app.specs.declared.ended.Ended.{Ended}
 use Rattle.tsume_app.specs.declared.ended.Ended.TheVariants.{Answered, CutShort, Failed}
 use Rattle.shogi_rules.specs.declared.problem.Problem.{Problem as GivenProblem}
 use Rattle.tsume_words.specs.Given.{Wish}
 use Rattle.tsume_words.specs.Given.Wish.{to_solve, to_check}
-use Rattle.tsume_app.specs.Answer.{answer_text}
+use Rattle.app_texts.specs.Texts.{answer_text}
 use Rattle.board_core.specs.Board.{Board}
 use Rattle.tsume_words.specs.declared.form.Format.{Format}
-use Rattle.tsume_app.specs.declared.fault.ProblemFault.{ProblemFault}
+use Rattle.app_texts.specs.declared.fault.ProblemFault.{ProblemFault}
 use Rattle.tsume_app.specs.Input.{given_form, IsPositionRead, StandsFor}
 use Rattle.tsume_app.specs.Outside.{Shown, NeverFailed, IsUntouched}
-
--- Every move of a solution's line has a text.
-abbrev pub HasLine : Solution → Type 0
-HasLine (Mate c moves) = AllHaveText moves
-HasLine (NoMate c) = Unit {0}
-HasLine (Unknown cause crew) = Unit {0}
-
--- Every move of an answer's line has a text.
-abbrev pub HasTexts : Answer → Type 0
-HasTexts (Solved solution) = HasLine solution
-HasTexts (Judged judgement) = Unit {0}
-HasTexts (Help text) = Unit {0}
 
 -- A source's count of faults is as it was, unless reading failed.
 abbrev pub IsReadCounted : Shown → Fault → Type 0

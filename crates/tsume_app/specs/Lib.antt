@@ -1,7 +1,7 @@
 -- This project's; the USI protocol for the answer.
 pub mod Answer
 pub mod Exit
-pub mod FaultText
+pub mod EndedText
 pub mod Headline
 pub mod Input
 pub mod Inside

@@ -12,16 +12,17 @@ use Rattle.clap.specs.Words.{Text as Word}
 use Rattle.cert_text.specs.declared.certificate.Certificate.{Certificate}
 use Rattle.cert_text.specs.declared.fault.CertFault.{CertFault}
 use Rattle.cert_text.specs.Reading.{HasFirstFault, IsReadable, IsTextOf, IsCertificateOutcome}
-use Rattle.tsume_app.specs.declared.answer.Solution.{Solution}
-use Rattle.tsume_app.specs.declared.answer.Judgement.{Judgement}
-use Rattle.tsume_app.specs.declared.answer.Answer.{Answer}
-use Rattle.tsume_app.specs.declared.answer.Answer.TheVariants.{Solved, Judged, Help}
-use Rattle.tsume_app.specs.declared.fault.ProblemFault.{ProblemFault}
-use Rattle.tsume_app.specs.declared.fault.Fault.{Fault}
-use Rattle.tsume_app.specs.declared.fault.Fault.TheVariants.{NotUtf8, Words, Asked, TooLong, Problem, Cert, Read, NoMemory}
+use Rattle.app_texts.specs.declared.answer.Solution.{Solution}
+use Rattle.app_texts.specs.declared.answer.Judgement.{Judgement}
+use Rattle.app_texts.specs.declared.answer.Answer.{Answer}
+use Rattle.app_texts.specs.declared.answer.Answer.TheVariants.{Solved, Judged, Help}
+use Rattle.app_texts.specs.declared.fault.ProblemFault.{ProblemFault}
+use Rattle.app_texts.specs.declared.fault.Fault.{Fault}
+use Rattle.app_texts.specs.declared.fault.Fault.TheVariants.{NotUtf8, Words, Asked, TooLong, Problem, Cert, Read, NoMemory}
 use Rattle.tsume_app.specs.declared.ended.Ended.{Ended}
 use Rattle.tsume_app.specs.declared.ended.Ended.TheVariants.{Answered, CutShort, Failed}
-use Rattle.tsume_app.specs.Answer.{answer_text, IsTrueOf, IsTrueOfCertificate}
+use Rattle.app_texts.specs.Texts.{answer_text}
+use Rattle.tsume_app.specs.Answer.{IsTrueOf, IsTrueOfCertificate}
 use Rattle.tsume_app.specs.Input.{limit_of, search_numbers, given_form, StandsFor, IsAskedFault, IsJudgedFor}
 use Rattle.tsume_app.specs.Outside.{Shown, NeverFailed, IsUntouched}
 

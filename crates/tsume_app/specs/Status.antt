@@ -1,13 +1,13 @@
 -- The exit status of a run, and whether it was answered.
 use Rattle.std.specs.Prelude.{ℕ, Bool, true, false}
-use Rattle.tsume_app.specs.declared.answer.Solution.{Solution}
-use Rattle.tsume_app.specs.declared.answer.Solution.TheVariants.{Mate, NoMate, Unknown}
-use Rattle.tsume_app.specs.declared.answer.Judgement.{Judgement}
-use Rattle.tsume_app.specs.declared.answer.Judgement.TheVariants.{Accepted, Refused}
-use Rattle.tsume_app.specs.declared.answer.Answer.{Answer}
-use Rattle.tsume_app.specs.declared.answer.Answer.TheVariants.{Solved, Judged, Help}
-use Rattle.tsume_app.specs.declared.fault.Fault.{Fault}
-use Rattle.tsume_app.specs.declared.fault.Fault.TheVariants.{NotUtf8, Words, Asked, TooLong, Problem, Cert, Read, NoMemory}
+use Rattle.app_texts.specs.declared.answer.Solution.{Solution}
+use Rattle.app_texts.specs.declared.answer.Solution.TheVariants.{Mate, NoMate, Unknown}
+use Rattle.app_texts.specs.declared.answer.Judgement.{Judgement}
+use Rattle.app_texts.specs.declared.answer.Judgement.TheVariants.{Accepted, Refused}
+use Rattle.app_texts.specs.declared.answer.Answer.{Answer}
+use Rattle.app_texts.specs.declared.answer.Answer.TheVariants.{Solved, Judged, Help}
+use Rattle.app_texts.specs.declared.fault.Fault.{Fault}
+use Rattle.app_texts.specs.declared.fault.Fault.TheVariants.{NotUtf8, Words, Asked, TooLong, Problem, Cert, Read, NoMemory}
 use Rattle.tsume_app.specs.declared.ended.Ended.{Ended}
 use Rattle.tsume_app.specs.declared.ended.Ended.TheVariants.{Answered, CutShort, Failed}
 

@@ -9,7 +9,7 @@ use Rattle.tsume_app.specs.declared.ended.Ended.{Ended}
 use Rattle.tsume_app.specs.declared.ended.Ended.TheVariants.{Answered, CutShort, Failed}
 use Rattle.tsume_app.specs.declared.telling.Told.{Told}
 use Rattle.tsume_app.specs.declared.telling.Told.TheVariants.{Whole, InPart, Nothing}
-use Rattle.tsume_app.specs.FaultText.{ended_text}
+use Rattle.tsume_app.specs.EndedText.{ended_text}
 use Rattle.tsume_app.specs.Outside.{Shown, NeverFailed, IsUntouched}
 use Rattle.tsume_app.specs.Run.{IsEnded, IsEndedUnasked}
 use Rattle.tsume_app.specs.Status.{status_of, is_answered}

@@ -2,9 +2,8 @@
 ghost use Rattle.std.specs.Prelude.{◌≡◌, Some};
 ghost use Rattle.tsume_app.specs.Status.{solution_status, judgement_status, answer_status, fault_status, status_of, is_answered};
 
-use crate::answer::{Answer, Judgement, Solution};
-use crate::fault::Fault;
 use crate::input::Input;
+use app_texts::{Answer, Fault, Judgement, Solution};
 use std::fmt::{self, Write};
 
 /// How a run ended. It prints as what the user is told of it beside the answer: nothing where it was answered, `write fault` where
@@ -84,7 +83,7 @@ impl Ended {
 }
 
 impl fmt::Display for Ended {
-    ghost use Rattle.tsume_app.specs.FaultText.{ended_text};
+    ghost use Rattle.tsume_app.specs.EndedText.{ended_text};
 
     ghost output = { λ ended. Some (ended_text ended) };
 

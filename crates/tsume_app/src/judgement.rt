@@ -4,12 +4,12 @@ ghost use Rattle.clap.specs.Words.{Text as Word};
 ghost use Rattle.tsume_words.specs.Given.Wish.{to_check};
 ghost use Rattle.tsume_app.specs.Answer.{IsTrueOfCertificate};
 ghost use Rattle.tsume_app.specs.Input.{IsJudgedFor};
-ghost use Rattle.tsume_app.specs.Inside.{HasTexts, IsAskedProblem};
+ghost use Rattle.app_texts.specs.Texts.{HasTexts};
+ghost use Rattle.tsume_app.specs.Inside.{IsAskedProblem};
 ghost use Rattle.tsume_app.specs.Outside.{Shown};
 ghost use Rattle.tsume_app.specs.Run.{IsReadWhole, IsTrueOfInput, HasCause};
 
-use crate::answer::{Answer, Judgement};
-use crate::fault::Fault;
+use app_texts::{Answer, Fault, Judgement};
 use cert_check::{Verdict, check};
 use cert_text::{CertEnd, Certificate, cert_laws, read_cert};
 use shogi_rules::Problem;

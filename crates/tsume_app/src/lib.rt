@@ -4,22 +4,17 @@
 //! certificate that the checker accepts; and every answer that is no verdict comes only for its stated cause.
 #![tactic(auto)]
 
-mod answer;
 mod ended;
 mod exit;
-mod fault;
 mod input;
 mod judgement;
 mod note;
 mod program;
 mod solution;
 mod telling;
-mod text;
 
-pub use answer::{Answer, Judgement, MainLine, Solution};
 pub use ended::Ended;
 pub use exit::Exit;
-pub use fault::{Fault, ProblemFault};
 pub use input::{Input, MOST_CERTIFICATE_BYTES, MOST_PROBLEM_BYTES};
 pub use program::{named_file, run};
 pub use telling::{Told, run_and_tell, start, tell};

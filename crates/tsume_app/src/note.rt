@@ -1,6 +1,6 @@
 // What stands behind the line for the user.
 use crate::ended::Ended;
-use crate::fault::{Fault, ProblemFault};
+use app_texts::{Fault, ProblemFault};
 use fault_notes::{Trouble, explain};
 use std::alloc::{AllocError, Global};
 

@@ -12,20 +12,19 @@ ghost use Rattle.tsume_words.specs.declared.form.ProblemForm.{ProblemForm};
 ghost use Rattle.clap.specs.Words.{Text as Word};
 ghost use Rattle.unit_desk.specs.declared.cause.Cause.{Cause};
 ghost use Rattle.visit_log.specs.Run.{Standing};
-ghost use Rattle.tsume_app.specs.declared.fault.ProblemFault.{ProblemFault};
+ghost use Rattle.app_texts.specs.declared.fault.ProblemFault.{ProblemFault};
 ghost use Rattle.tsume_app.specs.Headline.{AsksToSolve, AsksToCheck, StandsForMate, StandsForNoMate, StandsForUnknown, NamesMate, NamesNoMate, IsValidText, IsAccepted, IsBrokenOff};
-ghost use Rattle.tsume_app.specs.Inside.{HasTexts, HasWritten, IsAskedProblem, IsReadCounted, OneOutcome};
+ghost use Rattle.app_texts.specs.Texts.{HasTexts};
+ghost use Rattle.tsume_app.specs.Inside.{HasWritten, IsAskedProblem, IsReadCounted, OneOutcome};
 ghost use Rattle.tsume_app.specs.Input.{limit_of, IsAskedFault};
 ghost use Rattle.tsume_app.specs.Outside.{Shown, shown, NeverFailed};
 ghost use Rattle.tsume_app.specs.Run.{IsReadWhole, IsTrueOfInput, HasCause, IsEnded, IsCounted, IsEndedUnasked, GivesHelp, IsWellPosed, IsAnswered, WantsMemory};
 
-use crate::answer::{Answer, Judgement, Solution};
 use crate::ended::Ended;
-use crate::fault::{Fault, ProblemFault};
 use crate::input::{Input, MOST_CERTIFICATE_BYTES, MOST_PROBLEM_BYTES};
 use crate::judgement::judge_input;
 use crate::solution::{read_problem, solve_input};
-use crate::text::append_answer;
+use app_texts::{Answer, Fault, Judgement, ProblemFault, Solution, answer_text};
 use kif_text::kif_laws;
 use search_gate::Gate;
 use sfen_text::sfen_laws;
@@ -116,10 +115,9 @@ fn write_answer<K: Sink>(alloc: Global, sink: &mut K, answer: Answer) -> Ended
     requires { HasTexts answer }
     ensures { HasWritten (shown K.kept K.faults sink.old sink.new) answer result }
 {
-    let mut text = Vec::new(alloc);
-    if append_answer(&mut text, &answer).is_err() {
+    let Ok(text) = answer_text(alloc, &answer) else {
         return Ended::Failed(Fault::NoMemory, Input::none(alloc));
-    }
+    };
     if write_all(sink, &text).is_err() {
         return Ended::CutShort(answer);
     }

@@ -8,13 +8,12 @@ ghost use Rattle.visit_log.specs.Sound.{IsAnswer};
 ghost use Rattle.tsume_words.specs.Given.Wish.{to_solve};
 ghost use Rattle.tsume_words.specs.Meaning.{settings_in};
 ghost use Rattle.tsume_app.specs.Answer.{IsTrueOf, IsShown, IsVerdictOf};
-ghost use Rattle.tsume_app.specs.Inside.{HasLine, HasTexts};
+ghost use Rattle.app_texts.specs.Texts.{HasLine, HasTexts};
 ghost use Rattle.tsume_app.specs.Input.{IsPositionRead, StandsFor, searched_board, search_numbers};
 ghost use Rattle.tsume_app.specs.Outside.{Shown};
 ghost use Rattle.tsume_app.specs.Run.{IsReadWhole, IsTrueOfInput, HasCause};
 
-use crate::answer::{Answer, MainLine, Solution};
-use crate::fault::{Fault, ProblemFault};
+use app_texts::{Answer, Fault, MainLine, ProblemFault, Solution};
 use board_core::Position;
 use cert_check::valid_is_accepted;
 use cert_extract::extract;

@@ -6,10 +6,10 @@ ghost use Rattle.tsume_app.specs.Told.{told_text, BeginsAsTold, IsTold, IsToldRu
 
 use crate::ended::Ended;
 use crate::exit::Exit;
-use crate::fault::Fault;
 use crate::input::Input;
 use crate::note::note_of;
 use crate::program::{named_file, run};
+use app_texts::Fault;
 use search_gate::{Gate, OpenGate};
 use std::alloc::{AllocError, Global};
 use std::env::{self, Env};

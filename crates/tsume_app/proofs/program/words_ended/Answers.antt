@@ -4,7 +4,7 @@ use Rattle.tsume_words.specs.declared.command.Asked.{Asked}
 use Rattle.tsume_words.specs.declared.faults.WordFault.{WordFault}
 use Rattle.tsume_words.specs.declared.faults.WordsEnd.{WordsEnd}
 use Rattle.tsume_words.specs.declared.faults.WordsEnd.TheVariants as ends
-use Rattle.tsume_app.specs.declared.answer.Answer.TheVariants as answers
+use Rattle.app_texts.specs.declared.answer.Answer.TheVariants as answers
 use Rattle.tsume_app.specs.Outside.{shown}
 use Rattle.tsume_app.proofs.Running.{help_of}
 use Rattle.tsume_app.proofs.program.words_ended.Goals as goal

@@ -1,20 +1,20 @@
-// The text of an answer. Each part is appended to the one text that is written.
-ghost use Rattle.std.specs.Prelude.{◌≡◌, ◌++◌, ◌∷◌, OnOk, codes};
+// The text of an answer. Each part is appended to the one text.
+ghost use Rattle.std.specs.Prelude.{◌≡◌, ◌++◌, ◌∷◌, OnOk, IfOk, codes};
 ghost use Rattle.std.specs.Fmt.{decimal};
 ghost use Rattle.usi_text.specs.MoveText.{move_text};
 ghost use Rattle.usi_text.specs.Lines.{AllHaveText, timeout_text};
 ghost use Rattle.cert_text.specs.Entries.{line};
 ghost use Rattle.cert_text.specs.Text.{claim_word};
-ghost use Rattle.tsume_app.specs.Answer.{answer_text, solution_text, judgement_text, why_text, cause_text};
-ghost use Rattle.tsume_app.specs.Inside.{HasLine, HasTexts};
+ghost use Rattle.app_texts.specs.Texts.{answer_text, solution_text, judgement_text, why_text, cause_text};
+ghost use Rattle.app_texts.specs.Texts.{HasLine, HasTexts};
 
-use crate::answer::{Answer, Judgement, Solution};
+use crate::{Answer, Judgement, Solution};
 use board_core::Move;
 use cert_check::Why;
 use cert_text::{
     Claim, EscapeCertificate, MateCertificate, append_escape_cert, append_mate_cert, append_number,
 };
-use std::alloc::AllocError;
+use std::alloc::{AllocError, Global};
 use unit_desk::Cause;
 use usi_text::{append_mate_line, append_nomate_line, append_timeout_line, write_move};
 
@@ -136,9 +136,7 @@ fn append_solution(out: &mut Vec<u8>, solution: &Solution) -> Result<(), AllocEr
     }
 }
 
-/// Writes the whole text of an answer, whose moves have texts, behind what stands there already. Where memory is wanted, a part of
-/// it may stand there. Errors: want of memory alone.
-pub(crate) fn append_answer(out: &mut Vec<u8>, answer: &Answer) -> Result<(), AllocError>
+fn append_answer(out: &mut Vec<u8>, answer: &Answer) -> Result<(), AllocError>
     requires { HasTexts answer.now }
     ensures { OnOk result (out.new.items ≡ out.old.items ++ answer_text answer.now) }
 {
@@ -150,4 +148,14 @@ pub(crate) fn append_answer(out: &mut Vec<u8>, answer: &Answer) -> Result<(), Al
             Ok(())
         }
     }
+}
+
+/// The whole text of an answer, whose moves have texts. Errors: want of memory alone. (USI protocol: `checkmate`.)
+pub fn answer_text(alloc: Global, answer: &Answer) -> Result<Vec<u8>, AllocError>
+    requires { HasTexts answer.now }
+    ensures { IfOk result (λ text. text.items ≡ answer_text answer.now) }
+{
+    let mut text = Vec::new(alloc);
+    append_answer(&mut text, answer)?;
+    Ok(text)
 }

@@ -1,15 +1,13 @@
--- What the user is told of a run beside its answer.
-use Rattle.std.specs.Prelude.{ℕ, List, [], codes}
+-- Why a run failed, in words.
+use Rattle.std.specs.Prelude.{ℕ, List, codes}
 use Rattle.sfen_text.specs.FaultText.{fault_text}
 use Rattle.kif_text.specs.FaultText.{fault_text as diagram_fault_text}
 use Rattle.cert_text.specs.FaultText.{certificate_fault_text}
 use Rattle.tsume_words.specs.FaultText.{word_fault_text}
-use Rattle.tsume_app.specs.declared.fault.ProblemFault.{ProblemFault}
-use Rattle.tsume_app.specs.declared.fault.ProblemFault.TheVariants.{Text, Diagram, DefenderInCheck}
-use Rattle.tsume_app.specs.declared.fault.Fault.{Fault}
-use Rattle.tsume_app.specs.declared.fault.Fault.TheVariants.{NotUtf8, Words, Asked, TooLong, Problem, Cert, Read, NoMemory}
-use Rattle.tsume_app.specs.declared.ended.Ended.{Ended}
-use Rattle.tsume_app.specs.declared.ended.Ended.TheVariants.{Answered, CutShort, Failed}
+use Rattle.app_texts.specs.declared.fault.ProblemFault.{ProblemFault}
+use Rattle.app_texts.specs.declared.fault.ProblemFault.TheVariants.{Text, Diagram, DefenderInCheck}
+use Rattle.app_texts.specs.declared.fault.Fault.{Fault}
+use Rattle.app_texts.specs.declared.fault.Fault.TheVariants.{NotUtf8, Words, Asked, TooLong, Problem, Cert, Read, NoMemory}
 
 -- Why an input is no problem, in words: the fault of its text with its place, or that the defender is in check.
 abbrev pub problem_fault_text : ProblemFault → List ℕ
@@ -27,9 +25,3 @@ failure_text (Problem fault) = problem_fault_text fault
 failure_text (Cert fault) = certificate_fault_text fault
 failure_text Read = codes "read fault"
 failure_text NoMemory = codes "out of memory"
-
--- What the user is told of a run beside its answer: nothing where it was answered, that the sink failed, or why the run failed.
-abbrev pub ended_text : Ended → List ℕ
-ended_text (Answered answer) = []
-ended_text (CutShort answer) = codes "write fault"
-ended_text (Failed fault input) = failure_text fault

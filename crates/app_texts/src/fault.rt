@@ -20,7 +20,7 @@ pub enum ProblemFault {
 }
 
 impl From<TextFault> for ProblemFault {
-    ghost use Rattle.tsume_app.specs.declared.fault.ProblemFault.TheVariants.{Text};
+    ghost use Rattle.app_texts.specs.declared.fault.ProblemFault.TheVariants.{Text};
 
     ghost from_gives = { λ text fault. fault ≡ Text text };
 
@@ -30,7 +30,7 @@ impl From<TextFault> for ProblemFault {
 }
 
 impl From<KifFault> for ProblemFault {
-    ghost use Rattle.tsume_app.specs.declared.fault.ProblemFault.TheVariants.{Diagram};
+    ghost use Rattle.app_texts.specs.declared.fault.ProblemFault.TheVariants.{Diagram};
 
     ghost from_gives = { λ diagram fault. fault ≡ Diagram diagram };
 
@@ -40,7 +40,7 @@ impl From<KifFault> for ProblemFault {
 }
 
 impl fmt::Display for ProblemFault {
-    ghost use Rattle.tsume_app.specs.FaultText.{problem_fault_text};
+    ghost use Rattle.app_texts.specs.FaultText.{problem_fault_text};
 
     ghost output = { λ fault. Some (problem_fault_text fault) };
 
@@ -56,14 +56,14 @@ impl fmt::Display for ProblemFault {
 /// Why a run ends without an answer. It prints as the text for the user, with no line feed at the end.
 #[derive(Debug, Drop)]
 pub enum Fault {
-    /// A word of the command line is no UTF-8. [`run`](crate::run) takes text alone: whoever makes the words tells this.
+    /// A word of the command line is no UTF-8. The program's run takes text alone: whoever makes the words tells this.
     NotUtf8,
     /// The words of the command line are refused; nothing was read.
     Words(WordFault),
     /// The text that the words give for a certificate's problem is none: its first fault; nothing was read.
     Asked(ProblemFault),
-    /// The input has more bytes than a problem may have ([`MOST_PROBLEM_BYTES`](crate::MOST_PROBLEM_BYTES)), or a certificate
-    /// ([`MOST_CERTIFICATE_BYTES`](crate::MOST_CERTIFICATE_BYTES)).
+    /// The input has more bytes than a problem may have (65,536), or a certificate
+    /// (268,435,456).
     TooLong,
     /// The input is no problem: its first fault.
     Problem(ProblemFault),
@@ -76,7 +76,7 @@ pub enum Fault {
 }
 
 impl From<ProblemFault> for Fault {
-    ghost use Rattle.tsume_app.specs.declared.fault.Fault.TheVariants.{Problem};
+    ghost use Rattle.app_texts.specs.declared.fault.Fault.TheVariants.{Problem};
 
     ghost from_gives = { λ problem fault. fault ≡ Problem problem };
 
@@ -86,7 +86,7 @@ impl From<ProblemFault> for Fault {
 }
 
 impl From<AllocError> for Fault {
-    ghost use Rattle.tsume_app.specs.declared.fault.Fault.TheVariants.{NoMemory};
+    ghost use Rattle.app_texts.specs.declared.fault.Fault.TheVariants.{NoMemory};
 
     ghost from_gives = { λ _ fault. fault ≡ NoMemory };
 
@@ -96,7 +96,7 @@ impl From<AllocError> for Fault {
 }
 
 impl fmt::Display for Fault {
-    ghost use Rattle.tsume_app.specs.FaultText.{failure_text};
+    ghost use Rattle.app_texts.specs.FaultText.{failure_text};
 
     ghost output = { λ fault. Some (failure_text fault) };
 
