@@ -15,13 +15,15 @@ use Rattle.problem_gen.specs.declared.drawn.Drawn.{Drawn}
 
 -- 1. WHAT IS DRAWN, in thirteen draws.
 
--- White's king stands on any file, on one of the three upper rows: the first two draws.
+-- White's king stands on any file: the first draw.
 abbrev pub king_file : ℕ → ℕ
 king_file number = 1 + draw number 1 9
 
+-- And on one of the three upper rows: the second draw.
 abbrev pub king_row : ℕ → ℕ
 king_row number = 1 + draw number 2 3
 
+-- So this is its square.
 abbrev pub king_square : ℕ → ℕ
 king_square number = square_on (king_file number) (king_row number)
 
@@ -35,10 +37,11 @@ black_piece number before = record {
   row = king_row number + 1 + draw number (before + 3) 3;
 }
 
--- What Black holds: a gold, a knight or a rook, by the ninth draw, and a bishop, a silver or a gold, by the tenth.
+-- What Black holds: a gold, a knight or a rook, by the ninth draw.
 abbrev pub first_in_hand : ℕ → Kind
 first_in_hand number = pick Gold Knight Rook (draw number 9 3)
 
+-- And a bishop, a silver or a gold, by the tenth.
 abbrev pub second_in_hand : ℕ → Kind
 second_in_hand number = pick Bishop Silver Gold (draw number 10 3)
 
