@@ -1,3 +1,4 @@
 -- What a stop counts.
 pub mod Stop
 pub mod Mem
+pub mod Deadline

@@ -2,10 +2,12 @@
 //! and on no file or stream.
 #![tactic(auto)]
 
+mod clock;
 mod expansions;
 mod gate;
 mod stop;
 
+pub use clock::{Clock, DeadlineStop};
 pub use expansions::{Expansions, MOST_EXPANSIONS};
 pub use gate::{Gate, OpenGate};
 pub use stop::{MemStop, QuietStop, Stop};

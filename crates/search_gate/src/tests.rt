@@ -1,4 +1,6 @@
-use crate::{Expansions, Gate, MOST_EXPANSIONS, MemStop, OpenGate, QuietStop, Stop};
+use crate::{
+    Clock, DeadlineStop, Expansions, Gate, MOST_EXPANSIONS, MemStop, OpenGate, QuietStop, Stop,
+};
 use std::test::Fail;
 
 #[test]
@@ -26,5 +28,59 @@ fn a_stop_signals_at_the_listed_polls(rt: HostRuntime) -> Result<(), Fail> {
     let mut quiet = QuietStop::new();
     quiet.arm(Some(1));
     assert!(rt; !quiet.poll());
+    Ok(())
+}
+
+// A clock that shows one time after another, and then the last.
+#[derive(Debug, Drop)]
+struct ListedClock {
+    times: Vec<u64>,
+    next: usize,
+    shown: u64,
+}
+
+impl Clock for ListedClock {
+    ghost answered = { λ clock. clock.shown };
+
+    fn now(&mut self) -> u64 {
+        if let Some(time) = self.times.get(self.next) {
+            self.shown = *time;
+            self.next = self.next.saturating_add(1);
+        }
+        self.shown
+    }
+}
+
+fn stop_at(times: Vec<u64>) -> DeadlineStop<ListedClock> {
+    DeadlineStop::new(ListedClock {
+        times,
+        next: 0,
+        shown: 0,
+    })
+}
+
+#[test]
+fn a_deadline_stops_from_its_end_on(rt: HostRuntime) -> Result<(), Fail> {
+    let mut stop = stop_at(vec![in rt.alloc();
+        1_000,
+        1_000,
+        1_499,
+        1_500,
+        1_400,
+        1_501,
+        u64::MAX,
+    ]?);
+    assert!(rt; !stop.poll(), "it isn't armed yet");
+    stop.arm(Some(500));
+    for expected in [false, false, true, false, true] {
+        assert_eq!(rt; stop.poll(), expected);
+    }
+    stop.arm(None);
+    assert!(rt; !stop.poll(), "it is armed for no time");
+    stop.arm(Some(2));
+    assert!(rt;
+        stop.poll(),
+        "the end is the greatest number, which is shown"
+    );
     Ok(())
 }

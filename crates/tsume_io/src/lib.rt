@@ -3,9 +3,10 @@
 //! where the count stands at its last value).
 //!
 //! `read_all` and `write_all` are the two calls that the layers above make. `StdSource` and `StdSink`
-//! adapt std's readers and writers; `Opened` and `Noted` are readers for a file that may not open; `MemSource`, `MemSink` and `NeverFails` stand in memory.
+//! adapt std's readers and writers, and `StdClock` its clock; `Opened` and `Noted` are readers for a file that may not open; `MemSource`, `MemSink` and `NeverFails` stand in memory.
 #![tactic(auto)]
 
+mod clock;
 mod copy;
 mod fault;
 mod memory;
@@ -16,6 +17,7 @@ mod sink;
 mod source;
 mod standard;
 
+pub use clock::StdClock;
 pub use fault::Failed;
 pub use memory::{MemSink, MemSource};
 pub use never_fails::NeverFails;

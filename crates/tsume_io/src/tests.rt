@@ -2,9 +2,12 @@
 ghost use Rattle.std.specs.Prelude.{◌≤◌, IfOk, IsErrOf};
 
 use super::*;
+use search_gate::Clock;
 use std::alloc::Global;
+use std::cell::Cell;
 use std::io;
 use std::test::Fail;
+use std::time::{self, Duration};
 
 const LETTERS: [u8; 28] = *b"the quick brown fox jumps on";
 
@@ -231,4 +234,40 @@ fn no_size_of_a_buffer_is_a_fault(rt: HostRuntime) {
         let mut sink = StdSink::new(&mut space[..size]);
         assert_eq!(rt; sink.write(&bytes[..size]), Ok(size));
     }
+}
+
+// A system that tells the time once in two calls.
+#[derive(Drop)]
+struct Forgetful {
+    calls: Cell<u64>,
+}
+
+impl time::Clock for Forgetful {
+    fn monotonic(&self) -> io::Result<Duration> {
+        let call = self.calls.get();
+        self.calls.set(call.saturating_add(1));
+        if call % 2 == 0 {
+            Ok(Duration::from_micros(call.saturating_mul(1_500)))
+        } else {
+            Err(io::ErrorKind::Unsupported.into())
+        }
+    }
+
+    fn since_1970(&self) -> io::Result<Duration> {
+        Ok(Duration::ZERO)
+    }
+}
+
+#[test]
+fn a_clock_that_is_not_told_the_time_shows_its_last(rt: HostRuntime) {
+    let mut clock = StdClock::new(Forgetful {
+        calls: Cell::new(0),
+    });
+    for expected in [0, 0, 3, 3, 6] {
+        assert_eq!(rt; clock.now(), expected);
+    }
+    let mut clock = StdClock::new(&rt);
+    let first = clock.now();
+    assert!(rt; first > 0);
+    assert!(rt; clock.now() >= first);
 }

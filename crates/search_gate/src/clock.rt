@@ -1,0 +1,84 @@
+// A clock, and the stop that goes by it.
+ghost use Rattle.std.specs.Prelude.{◌≡◌, ◌↔◌, IsTrue, None, false};
+ghost use Rattle.search_gate.specs.Stop.{HasSignalled, armed_with};
+ghost use Rattle.search_gate.specs.Deadline.{HasPassed, end_after, clock_of, deadline_signal, end_of};
+
+use crate::Stop;
+
+/// A clock. It tells of itself what it last answered.
+pub trait Clock: Send {
+    ghost use Rattle.std.specs.Prelude.{◌≡◌, ℕ};
+
+    /// What it last answered.
+    ghost answered: { Self → ℕ };
+
+    /// What it shows now, in milliseconds since a start of its own.
+    fn now(&mut self) -> u64
+        ensures { result ≡ answered self.new };
+}
+
+/// A stop with a deadline: it signals from the time on for which it was last armed, if it was armed for one. It reads its clock when it is armed
+/// for a time, and at each poll from then on.
+#[derive(Debug, Drop)]
+pub struct DeadlineStop<C> {
+    clock: C,
+    end: Option<u64>,
+    raised: u64,
+    armed: Option<u64>,
+    arms: u64,
+}
+
+impl<C: Clock + Drop> DeadlineStop<C> {
+    /// It goes by this clock, and wasn't armed yet.
+    pub fn new(clock: C) -> DeadlineStop<C>
+        ensures clock { clock_of result ≡ clock }
+        ensures end { end_of result ≡ None }
+        ensures signal { deadline_signal result ≡ record { raised = 0; armed = None; arms = 0 } }
+    {
+        DeadlineStop {
+            clock,
+            end: None,
+            raised: 0,
+            armed: None,
+            arms: 0,
+        }
+    }
+}
+
+impl<C: Clock + Drop> Stop for DeadlineStop<C> {
+    ghost use Rattle.search_gate.specs.Deadline.{deadline_signal};
+
+    ghost signal = { λ stop. deadline_signal stop };
+
+    fn arm(&mut self, after_ms: Option<u64>)
+        // As each stop.
+        ensures armed { deadline_signal self.new ≡ armed_with (deadline_signal self.old) after_ms }
+        // As this one alone: its end is so many milliseconds from what the clock answers, at most the greatest number; or none.
+        ensures end { end_of self.new ≡ end_after after_ms (C.answered (clock_of self.new)) }
+    {
+        self.end = match after_ms {
+            Some(milliseconds) => Some(self.clock.now().saturating_add(milliseconds)),
+            None => None,
+        };
+        self.armed = after_ms;
+        self.arms = self.arms.saturating_add(1);
+    }
+
+    fn poll(&mut self) -> bool
+        // As each stop.
+        ensures stopped { IsTrue result → HasSignalled (deadline_signal self.old) (deadline_signal self.new) }
+        ensures quiet { result ≡ false → deadline_signal self.new ≡ deadline_signal self.old }
+        // As this one alone: it signals exactly where an end is set and what the clock answers is at least that.
+        ensures passed { IsTrue result ↔ HasPassed (end_of self.old) (C.answered (clock_of self.new)) }
+        ensures end { end_of self.new ≡ end_of self.old }
+    {
+        let Some(end) = self.end else {
+            return false;
+        };
+        if self.clock.now() >= end {
+            self.raised = self.raised.saturating_add(1);
+            return true;
+        }
+        false
+    }
+}

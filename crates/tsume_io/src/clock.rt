@@ -1,0 +1,36 @@
+// The system's clock: the edge that is trusted, since nothing is told of what a system shows.
+ghost use Rattle.std.specs.Prelude.{◌≡◌};
+ghost use Rattle.tsume_io.specs.Standard.{last_shown};
+
+use search_gate::Clock;
+use std::time;
+
+/// The clock of std that never goes back, in whole milliseconds, at most 2^64 - 1. Where the system doesn't tell the time, it answers what it
+/// last answered; at first 0.
+#[derive(Drop)]
+pub struct StdClock<R> {
+    system: R,
+    shown: u64,
+}
+
+impl<R: time::Clock + Drop> StdClock<R> {
+    /// The clock of this system, which wasn't asked yet.
+    pub fn new(system: R) -> StdClock<R>
+        ensures { last_shown result ≡ 0 }
+    {
+        StdClock { system, shown: 0 }
+    }
+}
+
+impl<R: time::Clock + Send + Drop> Clock for StdClock<R> {
+    ghost use Rattle.tsume_io.specs.Standard.{last_shown};
+
+    ghost answered = { λ clock. last_shown clock };
+
+    fn now(&mut self) -> u64 {
+        if let Ok(time) = self.system.monotonic() {
+            self.shown = u64::try_from(time.as_millis()).unwrap_or(u64::MAX);
+        }
+        self.shown
+    }
+}
