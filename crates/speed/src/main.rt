@@ -2,7 +2,8 @@
 //!
 //! WHAT is `read`, which reads the standard input whole; `lists`, which makes the lists of checks and evasions, and their counts, at
 //! the problems of the standard input, a line each, and at the positions behind their checks and the evasions to these; `start`, which
-//! asks at the same positions for the numbers with which the search begins behind each check, and behind each evasion; `looks` or
+//! asks at the same positions for the numbers with which the search begins behind each check, and behind each evasion; `search`, which
+//! solves these problems, at most ROUNDS milliseconds each; `looks` or
 //! `enters`, which ask tables that are full; the word of a part, as [`part::ROWS`] lists them; or `all`, every part. A part does its
 //! work ROUNDS times, 1 where no number is given, and a line says how many calls that were and a
 //! check sum of what they answered, the same on every machine. With `times` the line also says how long each took, in
@@ -16,6 +17,7 @@ mod part;
 mod positions;
 mod reading;
 mod rules;
+mod searches;
 mod starts;
 mod tables;
 mod trees;
@@ -41,6 +43,9 @@ fn main(rt: HostRuntime) -> io::Result<()> {
     if asked.what.as_str() == "start" {
         return starts::starts(&rt, &asked);
     }
+    if asked.what.as_str() == "search" {
+        return searches::searches(&rt, &asked);
+    }
     if asked.what.as_str() == "looks" {
         return tables::looks(&rt, &asked);
     }
@@ -62,7 +67,7 @@ fn main(rt: HostRuntime) -> io::Result<()> {
 
 fn usage(rt: &HostRuntime) -> io::Result<()> {
     eprintln!(rt;
-        "usage: speed WHAT [ROUNDS] [times], where WHAT is all, read, lists, start, looks, enters, or one of"
+        "usage: speed WHAT [ROUNDS] [times], where WHAT is all, read, lists, start, search, looks, enters, or one of"
     )?;
     for (word, title, _) in ROWS {
         eprintln!(rt; "  {word}: {title}")?;

@@ -61,8 +61,8 @@ fn grown(alloc: Global, problem: Problem) -> Result<Tree, AllocError> {
     })
 }
 
-// The problem of a line: an SFEN, with notes behind a tab; none where the line has none.
-fn problem_of(line: &[u8]) -> Option<Problem> {
+/// The problem of a line: an SFEN, with notes behind a tab; none where the line has none.
+pub fn problem_of(line: &[u8]) -> Option<Problem> {
     let text = line.split(|byte| *byte == b'\t').next()?;
     let position = read_sfen(text).ok()?;
     accept_problem(position).ok()
