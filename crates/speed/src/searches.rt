@@ -13,6 +13,7 @@ use tsume_io::StdClock;
 use unit_desk::Settings;
 
 // A gate that counts the units that pass it.
+#[derive(Drop)]
 struct Counter {
     units: AtomicU64,
 }
