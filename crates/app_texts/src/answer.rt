@@ -46,21 +46,21 @@ pub enum Solution {
     Mate(MateCertificate, MainLine),
     /// It is no mate: the certificate.
     NoMate(EscapeCertificate),
-    /// Neither was found before a limit was used up: which, and the search's workers as they ended.
+    /// Neither was found before a limit was used up, or the search was stopped: which, and the search's workers as they ended.
     Unknown(Cause, Crew),
 }
 
 /// What was found out about a certificate.
 #[derive(Drop)]
 pub enum Judgement {
-    /// It is valid for its own problem.
+    /// It is valid for the problem that was asked about, or for its own.
     Accepted {
         /// What it claims of its problem, and so what holds of it.
         claim: Claim,
         /// The number of its entries.
         entries: u64,
     },
-    /// It isn't valid for its own problem.
+    /// It isn't.
     Refused {
         /// The first entry that something speaks against, counted from 1; 0 for the certificate as a whole.
         entry: u64,

@@ -1,6 +1,6 @@
 // Whether a search is to stop.
 ghost use Rattle.std.specs.Prelude.{◌≡◌, ◌↔◌, IsTrue, Contains, None, false};
-ghost use Rattle.search_gate.specs.Stop.{one_more, HasSignalled};
+ghost use Rattle.search_gate.specs.Stop.{one_more, armed_with, HasSignalled};
 
 /// What tells a worker that it is to stop, a deadline for one. A worker polls it before each unit of work, and nobody else does.
 ///
@@ -96,7 +96,13 @@ impl Stop for MemStop {
 
     ghost signal = { signal_of };
 
-    fn arm(&mut self, after_ms: Option<u64>) {
+    fn arm(&mut self, after_ms: Option<u64>)
+        // As each stop.
+        ensures armed { signal_of self.new ≡ armed_with (signal_of self.old) after_ms }
+        // As this one alone.
+        ensures kept { self.new.at ≡ self.old.at }
+        ensures polls { self.new.polls ≡ self.old.polls }
+    {
         self.armed = after_ms;
         self.arms = self.arms.saturating_add(1);
     }
@@ -108,6 +114,7 @@ impl Stop for MemStop {
         // As this one alone.
         ensures counted { self.new.polls ≡ one_more self.old.polls }
         ensures listed { IsTrue result ↔ Contains self.old.at.items (one_more self.old.polls) }
+        ensures kept { self.new.at ≡ self.old.at }
     {
         self.polls = self.polls.saturating_add(1);
         let stops = self.at.contains(&self.polls);

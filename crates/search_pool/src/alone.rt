@@ -1,7 +1,8 @@
 // A search with one worker.
-ghost use Rattle.std.specs.Prelude.{◌≡◌, IsTrue, IfOk, IfSome, Some, None, true, false, MatchOption};
+ghost use Rattle.std.specs.Prelude.{◌≡◌, IsTrue, IfOk, IfSome, IfNone, ◌⊎◌, Some, None, true, false, MatchOption};
 ghost use Rattle.unit_desk.specs.Settings.{settings_in};
 ghost use Rattle.visit_log.specs.Machine.{asks, end_of};
+ghost use Rattle.visit_log.specs.declared.words.WorkEnd.TheVariants.{Posted, NoMemory};
 ghost use Rattle.worker_core.specs.Machine.{is_poll};
 ghost use Rattle.search_gate.specs.Stop.{HasSignalled};
 ghost use Rattle.search_pool.specs.End.{IsAlone, IsAloneUntil, IsSolution, IsStoppedBy};
@@ -58,7 +59,8 @@ fn work_alone<G: Gate, T: Stop>(
 
 // Why a search gave up whose worker ended so; none where that was for want of memory. (Where the worker ended since a note is posted there is one.)
 fn cause_of(settings: &Settings, end: WorkEnd) -> Option<Cause>
-    ensures { IfSome result (IsCauseOf (settings_in settings.now) end) }
+    ensures cause { IfSome result (IsCauseOf (settings_in settings.now) end) }
+    ensures none { IfNone result ((end ≡ Posted) ⊎ (end ≡ NoMemory)) }
 {
     match end {
         WorkEnd::Spent => Some(Cause::Expansions(settings.expansions)),

@@ -1,15 +1,11 @@
 // Whole runs over a source and a sink in memory.
-use crate::answer::{Answer, Solution};
-use crate::text::append_answer;
 use crate::{Ended, named_file, run, run_and_tell};
 use search_gate::{Gate, OpenGate};
-use search_pool::Crew;
 use std::alloc::{AllocError, Global};
 use std::process::Abort;
 use std::sync::atomic::{AtomicU64, Ordering};
 use std::test::Fail;
 use tsume_io::{MemSink, MemSource};
-use unit_desk::Cause;
 
 // What a run did: its status, whether it has an answer, what the user is told beside it, how many bytes of its input it kept where
 // it failed, and what the sink kept.
@@ -428,24 +424,6 @@ fn no_certificate_has_more_entries_than_the_room(rt: HostRuntime) -> Result<(), 
             least <= too_small && too_small < 64,
             "{problem} {too_small}"
         );
-    }
-    Ok(())
-}
-
-#[test]
-fn a_cause_that_no_run_here_meets_has_its_text(rt: HostRuntime) -> Result<(), Fail> {
-    let table = [
-        (
-            Cause::Height(4096),
-            "checkmate timeout\nunknown height 4096\n",
-        ),
-        (Cause::Stopped(1), "checkmate timeout\nunknown stopped\n"),
-    ];
-    for (cause, text) in table {
-        let mut out = Vec::new(rt.alloc());
-        let crew = Crew::new(Vec::new(rt.alloc()));
-        append_answer(&mut out, &Answer::Solved(Solution::Unknown(cause, crew)))?;
-        assert!(rt; out.as_slice() == text.as_bytes(), "{text}");
     }
     Ok(())
 }

@@ -18,11 +18,11 @@ pub returns-clause-alone : goal.returns-clause-alone
 returns-clause-alone g c =
     ends_unknown c.args.problem.now.position (settings_in c.args.settings.now) (g.T.Stop.signal c.args.stop.now) (g.T.Stop.signal c.work_alone-end.new.stop)
     c.work_alone-end.new.port c.work_alone-end.new.worker c.work_alone-end.result c.in-Some-cause_of.cause c.new.result c.work_alone-end.ensures.way c.work_alone-end.ensures.ended
-    c.visit_laws.ensures.causes c.laws-2.ensures.whole c.in-Some-cause_of.ensures
+    c.visit_laws.ensures.causes c.laws-2.ensures.whole c.in-Some-cause_of.ensures.cause
     (sym c.into_note.ensures ∙ c.in_default.is) (c.new.ensures ∙ c.in_ok-vec.ensures.items)
 
 pub returns-clause-stopped : goal.returns-clause-stopped
 returns-clause-stopped g c =
     ends_stopped c.args.problem.now.position (settings_in c.args.settings.now) (g.T.Stop.signal c.args.stop.now) (g.T.Stop.signal c.work_alone-end.new.stop)
     c.work_alone-end.new.port c.work_alone-end.new.worker c.work_alone-end.result c.in-Some-cause_of.cause c.new.result c.work_alone-end.ensures.way c.work_alone-end.ensures.ended
-    c.visit_laws.ensures.causes c.laws-2.ensures.whole c.in-Some-cause_of.ensures
+    c.visit_laws.ensures.causes c.laws-2.ensures.whole c.in-Some-cause_of.ensures.cause
