@@ -1,11 +1,15 @@
 // Whole runs over a source and a sink in memory.
+use crate::answer::{Answer, Solution};
+use crate::text::append_answer;
 use crate::{Ended, named_file, run, run_and_tell};
 use search_gate::{Gate, OpenGate};
+use search_pool::Crew;
 use std::alloc::{AllocError, Global};
 use std::process::Abort;
 use std::sync::atomic::{AtomicU64, Ordering};
 use std::test::Fail;
 use tsume_io::{MemSink, MemSource};
+use unit_desk::Cause;
 
 // What a run did: its status, whether it has an answer, what the user is told beside it, how many bytes of its input it kept where
 // it failed, and what the sink kept.
@@ -88,6 +92,16 @@ const TWO_ROOKS: &str = "9/4k4/8R/9/9/9/9/9/9 b R 1\n";
 const TWO_ROOKS_TEXT: &str =
     "checkmate R*2b 5b4a 1c1a\ncertificate 1 mate 4\nproblem 9/4k4/8R/9/9/9/9/9/9 b R\n1 1c1a 3k5/7R1/8R/9/9/9/9/9/9 b -\n1 1c1a 4k4/7R1/8R/9/9/9/9/9/9 b -\n1 1c1a 5k3/7R1/8R/9/9/9/9/9/9 b -\n2 R*2b 9/4k4/8R/9/9/9/9/9/9 b R\nend\n";
 
+const LEFT_ROOKS_TEXT: &str =
+    "certificate 1 mate 4\nproblem 9/4k4/8R/9/9/9/9/9/9 b R\n1 1c1a 3k5/R8/8R/9/9/9/9/9/9 b -\n1 1c1a 4k4/R8/8R/9/9/9/9/9/9 b -\n1 1c1a 5k3/R8/8R/9/9/9/9/9/9 b -\n2 R*9b 9/4k4/8R/9/9/9/9/9/9 b R\nend\n";
+
+// A rook chases a king round two positions: the third entry and, with the king on 5a, the first.
+const CHASE: &str =
+    "certificate 1 escape 6\nproblem 5k3/9/9/9/9/9/9/9/4R4 b -\n4k4/9/9/9/9/9/9/9/5R3 b -\n4k4/9/9/9/9/9/9/9/9 b r\n5k3/9/9/9/9/9/9/9/4R4 b -\n5k3/9/9/9/9/9/9/9/9 b r\n9/4k4/9/9/9/9/9/9/9 b r\n9/5k3/9/9/9/9/9/9/9 b r\nend\n";
+
+const OPEN_CHASE: &str =
+    "certificate 1 escape 5\nproblem 5k3/9/9/9/9/9/9/9/4R4 b -\n4k4/9/9/9/9/9/9/9/9 b r\n5k3/9/9/9/9/9/9/9/4R4 b -\n5k3/9/9/9/9/9/9/9/9 b r\n9/4k4/9/9/9/9/9/9/9 b r\n9/5k3/9/9/9/9/9/9/9 b r\nend\n";
+
 const NO_CHECK_TEXT: &str =
     "checkmate nomate\ncertificate 1 escape 1\nproblem 4k4/9/9/9/9/9/9/9/9 b -\n4k4/9/9/9/9/9/9/9/9 b -\nend\n";
 
@@ -120,6 +134,12 @@ fn a_problem_is_answered_as_it_should(rt: HostRuntime) -> Result<(), Fail> {
             1,
             "checkmate timeout\nunknown expansions 1\n",
         ),
+        (
+            "solve --room 1",
+            TWO_ROOKS,
+            1,
+            "checkmate timeout\nunknown room 1\n",
+        ),
         // The attacker is in check himself, and no check parries.
         (
             "solve",
@@ -144,6 +164,9 @@ fn a_certificate_is_judged_as_it_should(rt: HostRuntime) -> Result<(), Fail> {
         ("check", GOLD_TEXT, 0, "accepted mate 1\n"),
         ("check --workers 2", ESCAPE, 0, "accepted escape 3\n"),
         ("check", OPEN_ESCAPE, 7, "refused 2 unanswered P*5c\n"),
+        ("check", LEFT_ROOKS_TEXT, 0, "accepted mate 4\n"),
+        ("check", CHASE, 0, "accepted escape 6\n"),
+        ("check", OPEN_CHASE, 7, "refused 2 unanswered 5i4i\n"),
     ];
     for (words, input, status, kept) in table {
         let seen = seen_of(rt.alloc(), words, input, (7, 0), (11, 0))?;
@@ -363,6 +386,9 @@ fn a_printed_verdict_is_accepted(rt: HostRuntime) -> Result<(), Fail> {
         (TWO_ROOKS, "accepted mate 4\n"),
         // A second pawn on the file is no drop; the pawn's own moves are answered.
         ("4k4/9/4P4/9/9/9/9/9/9 b P 1\n", "accepted escape "),
+        // A lone rook checks without end, and chases the king round.
+        ("4k4/9/9/9/9/9/9/9/R8 b - 1\n", "accepted escape "),
+        ("5k3/9/9/9/9/9/9/9/4R4 b -\n", "accepted escape "),
     ];
     for (problem, verdict) in table {
         let solved = seen_of(rt.alloc(), "solve", problem, (7, 0), (11, 0))?;
@@ -374,6 +400,52 @@ fn a_printed_verdict_is_accepted(rt: HostRuntime) -> Result<(), Fail> {
             checked.kept.as_slice().starts_with(verdict.as_bytes()),
             "{problem}"
         );
+    }
+    Ok(())
+}
+
+#[test]
+fn no_certificate_has_more_entries_than_the_room(rt: HostRuntime) -> Result<(), Fail> {
+    // A problem, and a room that is too small for it: none for a mate of one move; a mate of three moves lists four positions.
+    let table = [(GOLD, 0), (TWO_ROOKS, 3)];
+    for (problem, least) in table {
+        let mut too_small = 0;
+        for room in 1..65usize {
+            let words = format!(in rt.alloc(); "solve --rows 16 --room {room}")?;
+            let seen = seen_of(rt.alloc(), words.as_str(), problem, (64, 0), (4096, 0))?;
+            if seen.status == 0 {
+                // Four lines more than entries.
+                let lines = seen.kept.iter().filter(|byte| **byte == b'\n').count();
+                assert!(rt; lines <= room + 4, "{problem} {room}");
+            } else {
+                too_small = room;
+                let told = format!(in rt.alloc(); "checkmate timeout\nunknown room {room}\n")?;
+                assert_eq!(rt; seen.status, 1, "{problem} {room}");
+                assert!(rt; seen.kept.as_slice() == told.as_bytes(), "{problem} {room}");
+            }
+        }
+        assert!(rt;
+            least <= too_small && too_small < 64,
+            "{problem} {too_small}"
+        );
+    }
+    Ok(())
+}
+
+#[test]
+fn a_cause_that_no_run_here_meets_has_its_text(rt: HostRuntime) -> Result<(), Fail> {
+    let table = [
+        (
+            Cause::Height(4096),
+            "checkmate timeout\nunknown height 4096\n",
+        ),
+        (Cause::Stopped(1), "checkmate timeout\nunknown stopped\n"),
+    ];
+    for (cause, text) in table {
+        let mut out = Vec::new(rt.alloc());
+        let crew = Crew::new(Vec::new(rt.alloc()));
+        append_answer(&mut out, &Answer::Solved(Solution::Unknown(cause, crew)))?;
+        assert!(rt; out.as_slice() == text.as_bytes(), "{text}");
     }
     Ok(())
 }
@@ -447,10 +519,12 @@ impl Gate for Counting {
 }
 
 #[test]
-fn the_gate_is_passed_for_each_position(rt: HostRuntime) -> Result<(), Fail> {
+fn the_gate_is_passed_for_each_unit(rt: HostRuntime) -> Result<(), Fail> {
     let mut words = Vec::new(rt.alloc());
     words.push(String::from_str(rt.alloc(), "solve")?)?;
-    let bytes = Vec::from_slice(rt.alloc(), GOLD.as_bytes())?;
+    // Another program solves it with 85 units, and not with 84.
+    let problem = "9/9/3p5/2K6/k8/1L7/1+r3+R3/9/9 b 2GLsn 1\n";
+    let bytes = Vec::from_slice(rt.alloc(), problem.as_bytes())?;
     let mut from = MemSource::make(bytes, 7, Vec::new(rt.alloc()));
     let mut to = MemSink::make(rt.alloc(), 4096, 11, Vec::new(rt.alloc()))?;
     let gate = Counting {
@@ -459,8 +533,7 @@ fn the_gate_is_passed_for_each_position(rt: HostRuntime) -> Result<(), Fail> {
     };
     let ended = run(rt.alloc(), words, &mut from, &mut to, &gate);
     assert_eq!(rt; ended.status(), 0);
-    // The problem, and what its seven checks lead to.
-    assert_eq!(rt; gate.passed.load(Ordering::SeqCst), 8);
+    assert_eq!(rt; gate.passed.load(Ordering::SeqCst), 85);
     assert_eq!(rt; gate.wrong.load(Ordering::SeqCst), 0);
     Ok(())
 }

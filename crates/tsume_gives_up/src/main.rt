@@ -1,4 +1,4 @@
-//! The program `tsume` once more, for a stored run that ends with status 1: the expansions are used up.
+//! The program `tsume` once more, for a stored run that ends with status 1: the room for notes is used up.
 #![tactic(auto)]
 
 use tsume_app::{Exit, start};
