@@ -27,6 +27,7 @@ use Rattle.std.specs.Prelude.{MatchResult}
 use Rattle.shogi_rules.specs.declared.problem.Problem.{Problem as GivenProblem}
 use Rattle.tsume_app.specs.Inside.{IsAskedProblem, OneOutcome}
 use Rattle.tsume_app.specs.Input.{IsPositionRead, StandsFor, given_form, searched_board, IsAskedFault, IsJudgedFor}
+use Rattle.tsume_app.specs.Stops.{Signals}
 use Rattle.tsume_app.specs.Outside.{Shown}
 use Rattle.tsume_app.specs.Run.{IsEnded, IsWellPosed, IsAnswered, WantsMemory}
 
@@ -99,7 +100,7 @@ asked_has_no_fault one workers (Some text) c p f s t = problem_has_no_fault one 
 -- where the words give a problem with a fault, that is what is found
 pub stopped_is : OneOutcome → (wish : Wish) (r : Result (Option GivenProblem) ProblemFault) → MatchResult r (IsAskedProblem wish) (IsAskedFault wish)
     → (fault : ProblemFault) → IsAskedFault wish fault → r ≡ Err fault
-stopped_is one (to_solve settings form) r found fault s = absurd s
+stopped_is one (to_solve settings form watch) r found fault s = absurd s
 stopped_is one (to_check workers None) r found fault s = absurd s
 stopped_is one (to_check workers (Some text)) (Ok None) found fault s = absurd found
 stopped_is one (to_check workers (Some text)) (Ok (Some p)) found fault s = absurd (problem_has_no_fault one given_form text p.position fault found s)
@@ -111,28 +112,28 @@ took_it None left_after input told is took = absurd (cc)
 took_it (Some before) None input told is took = absurd took
 took_it (Some before) (Some after) input told is took = let same : before ≡ told = cc in took.0 ∙ same
 
-pub complete_of : OneOutcome → (wish : Wish) (source sink : Shown) (ended : Ended) → IsEnded wish source sink ended → IsWellPosed wish source.told
+pub complete_of : OneOutcome → (wish : Wish) (stops : Signals) (source sink : Shown) (ended : Ended) → IsEnded wish stops source sink ended → IsWellPosed wish source.told
     → ¬ Rose source.faults source.faults_after → ¬ Rose sink.faults sink.faults_after → IsAnswered ended ⊎ WantsMemory ended
-complete_of one wish source sink (Answered a) ended posed sound kept = inl (a, refl)
-complete_of one wish source sink (CutShort a) ended posed sound kept = absurd (kept ended.rose)
-complete_of one wish source sink (Failed NotUtf8 i) ended posed sound kept = absurd ended.0
-complete_of one wish source sink (Failed (Words w) i) ended posed sound kept = absurd ended.0
-complete_of one (to_solve settings form) source sink (Failed (Asked f) i) ended posed sound kept = absurd ended.0.0
-complete_of one (to_check workers None) source sink (Failed (Asked f) i) ended posed sound kept = absurd ended.0.0
-complete_of one (to_check workers (Some text)) source sink (Failed (Asked f) i) ended posed sound kept =
+complete_of one wish stops source sink (Answered a) ended posed sound kept = inl (a, refl)
+complete_of one wish stops source sink (CutShort a) ended posed sound kept = absurd (kept ended.rose)
+complete_of one wish stops source sink (Failed NotUtf8 i) ended posed sound kept = absurd ended.0
+complete_of one wish stops source sink (Failed (Words w) i) ended posed sound kept = absurd ended.0
+complete_of one (to_solve settings form watch) stops source sink (Failed (Asked f) i) ended posed sound kept = absurd ended.0.0
+complete_of one (to_check workers None) stops source sink (Failed (Asked f) i) ended posed sound kept = absurd ended.0.0
+complete_of one (to_check workers (Some text)) stops source sink (Failed (Asked f) i) ended posed sound kept =
     absurd (problem_has_no_fault one given_form text posed.1.0 f posed.1.1 ended.0.0)
-complete_of one wish source sink (Failed NoMemory i) ended posed sound kept = inr (i, refl)
-complete_of one wish source sink (Failed Read i) ended posed sound kept = absurd (sound ended.0.0)
-complete_of one (to_solve settings form) source sink (Failed TooLong i) ended posed sound kept =
+complete_of one wish stops source sink (Failed NoMemory i) ended posed sound kept = inr (i, refl)
+complete_of one wish stops source sink (Failed Read i) ended posed sound kept = absurd (sound ended.0.0)
+complete_of one (to_solve settings form watch) stops source sink (Failed TooLong i) ended posed sound kept =
     let more = rw posed.told at ended.0.0 in let short = posed.short in absurd (omega arith)
-complete_of one (to_check workers problem) source sink (Failed TooLong i) ended posed sound kept =
+complete_of one (to_check workers problem) stops source sink (Failed TooLong i) ended posed sound kept =
     let more = rw posed.0.told at ended.0.0 in let short = posed.0.short in absurd (omega arith)
-complete_of one (to_solve settings form) source sink (Failed (Problem f) i) ended posed sound kept =
+complete_of one (to_solve settings form watch) stops source sink (Failed (Problem f) i) ended posed sound kept =
     let same = took_it source.told source.told_after i posed.input posed.told ended.0.0.took in
     absurd (problem_has_no_fault one form posed.input posed.problem f posed.stands_for (subst (λ (x : List ℕ). StandsFor form x (Err f)) same ended.0.1))
-complete_of one (to_check workers problem) source sink (Failed (Problem f) i) ended posed sound kept = absurd (ended.0.1)
-complete_of one (to_solve settings form) source sink (Failed (Cert f) i) ended posed sound kept = absurd (ended.0.1)
-complete_of one (to_check workers problem) source sink (Failed (Cert f) i) ended posed sound kept =
+complete_of one (to_check workers problem) stops source sink (Failed (Problem f) i) ended posed sound kept = absurd (ended.0.1)
+complete_of one (to_solve settings form watch) stops source sink (Failed (Cert f) i) ended posed sound kept = absurd (ended.0.1)
+complete_of one (to_check workers problem) stops source sink (Failed (Cert f) i) ended posed sound kept =
     let given = posed.0 in
     let same = took_it source.told source.told_after i given.input given.told ended.0.0.took in
     absurd (ended.0.1.1 given.certificate given.readable (subst (λ (x : List ℕ). IsTextOf given.certificate x) (sym same) given.text))

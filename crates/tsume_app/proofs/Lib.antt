@@ -1,4 +1,5 @@
 pub mod Running
 pub mod Complete
 pub mod Promises
+pub mod Armed
 pub mod Verdict

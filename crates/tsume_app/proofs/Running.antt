@@ -14,6 +14,7 @@ use Rattle.app_texts.specs.declared.fault.Fault.{Fault}
 use Rattle.app_texts.specs.declared.fault.Fault.TheVariants.{NoMemory}
 use Rattle.tsume_app.specs.Input.{searched_board}
 use Rattle.tsume_app.specs.Inside.{HasWritten}
+use Rattle.tsume_app.specs.Stops.{Signals}
 use Rattle.tsume_app.specs.Outside.{Shown, IsUntouched}
 use Rattle.tsume_app.specs.Run.{IsReadWhole, IsDecided, HasCause, IsEnded, IsEndedUnasked, GivesHelp, WantsMemory}
 
@@ -45,13 +46,13 @@ read_then_wanted_more wish source input read =
     ((input, read.short, all_took source.told source.told_after input read.took), inl refl)
 
 -- what was decided, and then written, is how the command ended
-pub ended_of : (wish : Wish) (source sink : Shown) (answer : Answer) (ended : Ended) → IsDecided wish source answer → HasWritten sink answer ended
-    → IsEnded wish source sink ended
-ended_of wish source sink answer (Answered told) d w =
-    record { decided = subst (λ (a : Answer). IsDecided wish source a) (sym w.0) d; grew = rw w.0 w.1 }
-ended_of wish source sink answer (CutShort told) d w =
-    record { decided = subst (λ (a : Answer). IsDecided wish source a) (sym w.0) d; grew = rw w.0 w.1; rose = w.2 }
-ended_of wish source sink answer (Failed fault input) d w = (
+pub ended_of : (wish : Wish) (stops : Signals) (source sink : Shown) (answer : Answer) (ended : Ended) → IsDecided wish stops source answer → HasWritten sink answer ended
+    → IsEnded wish stops source sink ended
+ended_of wish stops source sink answer (Answered told) d w =
+    record { decided = subst (λ (a : Answer). IsDecided wish stops source a) (sym w.0) d; grew = rw w.0 w.1 }
+ended_of wish stops source sink answer (CutShort told) d w =
+    record { decided = subst (λ (a : Answer). IsDecided wish stops source a) (sym w.0) d; grew = rw w.0 w.1; rose = w.2 }
+ended_of wish stops source sink answer (Failed fault input) d w = (
   subst (λ (f : Fault). HasCause wish source f input) (sym w.0)
       (subst (λ (i : List ℕ). HasCause wish source NoMemory i) (sym w.1) (read_then_wanted_more wish source d.input d.read)),
   w.2,

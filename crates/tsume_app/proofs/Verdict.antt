@@ -9,8 +9,9 @@ use Rattle.cert_extract.specs.Extracted.{claim_by, ComesFrom}
 use Rattle.app_texts.specs.declared.answer.Solution.{Solution}
 use Rattle.app_texts.specs.declared.answer.Solution.TheVariants.{Mate, NoMate, Unknown}
 use Rattle.unit_desk.specs.Sizes.{SettingsView}
-use Rattle.search_pool.specs.End.{IsAlone}
+use Rattle.search_pool.specs.End.{IsAloneUntil}
 use Rattle.search_pool.specs.declared.end.SearchEnd.TheVariants.{Solved}
+use Rattle.tsume_app.specs.Stops.{Signals, first_of}
 use Rattle.tsume_app.specs.Answer.{IsShown, IsVerdictOf, IsTrueOf}
 
 -- What shows with the certificate of a note what it says is the note's verdict.
@@ -20,9 +21,9 @@ verdict_of (Ok solution) p note certificate claim from shown = record { certific
 verdict_of (Err error) p note certificate claim from shown = tt
 
 -- The verdict of a note with which a search alone is solved is true.
-pub found_of : {E : Type 0} (result : Result Solution E) (p : Board) (s : SettingsView) (note : Derivation) → IsAlone p s (Solved note)
-    → IfOk result (IsVerdictOf p note) → IfOk result (IsTrueOf p s)
-found_of (Ok (Mate c moves)) p s note alone verdict = record { note = note; alone = alone; verdict = verdict }
-found_of (Ok (NoMate c)) p s note alone verdict = record { note = note; alone = alone; verdict = verdict }
-found_of (Ok (Unknown cause crew)) p s note alone verdict = absurd (verdict.shown)
-found_of (Err error) p s note alone verdict = tt
+pub found_of : {E : Type 0} (result : Result Solution E) (p : Board) (s : SettingsView) (stops : Signals) (note : Derivation) → IsAloneUntil p s (first_of stops.before) (first_of stops.after) (Solved note)
+    → IfOk result (IsVerdictOf p note) → IfOk result (IsTrueOf p s stops)
+found_of (Ok (Mate c moves)) p s stops note alone verdict = record { note = note; alone = alone; verdict = verdict }
+found_of (Ok (NoMate c)) p s stops note alone verdict = record { note = note; alone = alone; verdict = verdict }
+found_of (Ok (Unknown cause crew)) p s stops note alone verdict = absurd (verdict.shown)
+found_of (Err error) p s stops note alone verdict = tt

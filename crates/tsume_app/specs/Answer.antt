@@ -17,10 +17,11 @@ use Rattle.notes.specs.Derivation.{Derivation, conclusion_of}
 use Rattle.cert_extract.specs.Extracted.{claim_by, ComesFrom}
 use Rattle.unit_desk.specs.Sizes.{SettingsView}
 use Rattle.visit_log.specs.Run.{Standing}
-use Rattle.search_pool.specs.End.{IsAlone}
+use Rattle.search_pool.specs.End.{IsAloneUntil, IsStoppedBy}
 use Rattle.search_pool.specs.declared.end.SearchEnd.TheVariants.{Solved as SearchSolved, Unknown as SearchUnknown}
 use Rattle.play_line.specs.Line.{IsMainLine}
 use Rattle.unit_desk.specs.declared.cause.Cause.{Cause}
+use Rattle.tsume_app.specs.Stops.{Signals, first_of}
 use Rattle.app_texts.specs.declared.answer.Solution.{Solution}
 use Rattle.app_texts.specs.declared.answer.Solution.TheVariants.{Mate, NoMate, Unknown}
 use Rattle.app_texts.specs.declared.answer.Judgement.{Judgement}
@@ -57,21 +58,23 @@ pub record IsVerdictOf (p : Board) (note : Derivation) (solution : Solution) : T
   pub from : ComesFrom note certificate
   pub shown : IsShown p certificate solution
 
--- A verdict is that of a note with which a search alone is solved.
-pub record IsVerdictFound (p : Board) (s : SettingsView) (solution : Solution) : Type 0 where
+-- A verdict is that of a note with which a search alone is solved, whose worker the first stop may have told to stop.
+pub record IsVerdictFound (p : Board) (s : SettingsView) (stops : Signals) (solution : Solution) : Type 0 where
   pub note : Derivation
-  pub alone : IsAlone p s (SearchSolved note)
+  pub alone : IsAloneUntil p s (first_of stops.before) (first_of stops.after) (SearchSolved note)
   pub verdict : IsVerdictOf p note solution
 
--- A search gave up for its cause: so a search alone ends, with these workers.
-abbrev pub IsGivenUp : Board → SettingsView → Cause → List Standing → Type 0
-IsGivenUp p s cause crew = IsAlone p s (SearchUnknown cause crew)
+-- A search gave up for its cause: so a search alone ends, with these workers, whose worker the first stop may have told to stop; and that it was
+-- stopped is the cause only where the count of that stop rose.
+pub record IsGivenUp (p : Board) (s : SettingsView) (stops : Signals) (cause : Cause) (crew : List Standing) : Type 0 where
+  pub alone : IsAloneUntil p s (first_of stops.before) (first_of stops.after) (SearchUnknown cause crew)
+  pub stopped : IsStoppedBy (first_of stops.before) (first_of stops.after) (SearchUnknown cause crew)
 
--- A solution is true of a problem that was searched with these settings.
-abbrev pub IsTrueOf : Board → SettingsView → Solution → Type 0
-IsTrueOf p s (Mate c moves) = IsVerdictFound p s (Mate c moves)
-IsTrueOf p s (NoMate c) = IsVerdictFound p s (NoMate c)
-IsTrueOf p s (Unknown cause crew) = IsGivenUp p s cause crew
+-- A solution is true of a problem that was searched with these settings and stops.
+abbrev pub IsTrueOf : Board → SettingsView → Signals → Solution → Type 0
+IsTrueOf p s stops (Mate c moves) = IsVerdictFound p s stops (Mate c moves)
+IsTrueOf p s stops (NoMate c) = IsVerdictFound p s stops (NoMate c)
+IsTrueOf p s stops (Unknown cause crew) = IsGivenUp p s stops cause crew
 
 -- A certificate was accepted for a problem: it is valid for it, and shows what it claims.
 pub record IsAcceptance (p : Board) (c : Certificate) (claim : Claim) (entries : ℕ) : Type 0 where

@@ -12,7 +12,7 @@ use Rattle.cert_text.specs.Kinds.{claim_of, positions_in}
 use Rattle.cert_check.specs.Valid.{IsValid, Shows, ValidMate, ValidEscape}
 use Rattle.play_line.specs.Line.{IsMainLine}
 use Rattle.tsume_words.specs.declared.form.ProblemForm.{ProblemForm}
-use Rattle.tsume_words.specs.Given.{SettingsView}
+use Rattle.tsume_words.specs.Given.{SettingsView, WatchView}
 use Rattle.tsume_words.specs.Given.Wish.{to_solve, to_check}
 use Rattle.tsume_words.specs.Meaning.{command_of}
 use Rattle.unit_desk.specs.declared.cause.Cause.{Cause}
@@ -23,11 +23,12 @@ use Rattle.app_texts.specs.declared.fault.Fault.TheVariants.{NotUtf8, Words, Ask
 use Rattle.tsume_app.specs.declared.ended.Ended.{Ended}
 use Rattle.tsume_app.specs.declared.ended.Ended.TheVariants.{Answered, CutShort, Failed}
 use Rattle.tsume_app.specs.Answer.{IsGivenUp}
+use Rattle.tsume_app.specs.Stops.{Signals}
 use Rattle.tsume_app.specs.Input.{search_numbers, StandsFor, IsJudgedFor}
 
 -- The words ask to solve a problem of this form.
 abbrev pub AsksToSolve : ProblemForm → List Word → Type 0
-AsksToSolve form words = (settings : SettingsView) × (command_of words ≡ Some (to_solve settings form))
+AsksToSolve form words = (settings : SettingsView) × (watch : WatchView) × (command_of words ≡ Some (to_solve settings form watch))
 
 -- The words ask to check, for the problem of this text, or, where there is none, for the certificate's own.
 abbrev pub AsksToCheck : Option Word → List Word → Type 0
@@ -48,11 +49,12 @@ pub record StandsForNoMate (form : ProblemForm) (input : List ℕ) (c : Escaping
   pub no_mate : ¬ IsMate problem.side problem
   pub valid : ValidEscape c problem
 
--- The bytes stand for a problem that was given up: a search with these settings, alone, ends for the cause, which its worker met.
-pub record StandsForUnknown (form : ProblemForm) (settings : SettingsView) (input : List ℕ) (cause : Cause) (crew : List Standing) : Type 0 where
+-- The bytes stand for a problem that was given up: a search with these settings, alone, ends for the cause, which its worker met: a limit was used
+-- up, or a stop was signalled.
+pub record StandsForUnknown (form : ProblemForm) (settings : SettingsView) (stops : Signals) (input : List ℕ) (cause : Cause) (crew : List Standing) : Type 0 where
   pub problem : Board
   pub stands_for : StandsFor form input (Ok problem)
-  pub given_up : IsGivenUp problem (search_numbers settings) cause crew
+  pub given_up : IsGivenUp problem (search_numbers settings) stops cause crew
 
 -- The problem that the certificate itself names is a mate, for which it is valid, and the moves are its main line.
 pub record NamesMate (c : Mating) (moves : List Move) : Type 0 where

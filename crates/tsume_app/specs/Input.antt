@@ -22,7 +22,7 @@ use Rattle.tsume_app.specs.declared.input.TheConstants.{MOST_PROBLEM_BYTES, MOST
 
 -- The most bytes that the input of a command may have.
 abbrev pub limit_of : Wish → ℕ
-limit_of (to_solve settings form) = MOST_PROBLEM_BYTES
+limit_of (to_solve settings form watch) = MOST_PROBLEM_BYTES
 limit_of (to_check workers problem) = MOST_CERTIFICATE_BYTES
 
 -- The settings of a search, as the words give them.
@@ -72,7 +72,7 @@ given_form = record { format = Sfen; rest = false }
 
 -- The words give a problem that the certificate has to be for, and its text is none: this is its first fault.
 abbrev pub IsAskedFault : Wish → ProblemFault → Type 0
-IsAskedFault (to_solve settings form) fault = ⊥
+IsAskedFault (to_solve settings form watch) fault = ⊥
 IsAskedFault (to_check workers None) fault = ⊥
 IsAskedFault (to_check workers (Some text)) fault = StandsFor given_form text (Err fault)
 

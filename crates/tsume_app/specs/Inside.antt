@@ -38,8 +38,8 @@ HasWritten sink answer (Failed fault input) = (fault ≡ NoMemory) × (input ≡
 
 -- The problem that the words give for a certificate, where they give one.
 abbrev pub IsAskedProblem : Wish → Option GivenProblem → Type 0
-IsAskedProblem (to_solve settings form) None = Unit {0}
-IsAskedProblem (to_solve settings form) (Some problem) = ⊥
+IsAskedProblem (to_solve settings form watch) None = Unit {0}
+IsAskedProblem (to_solve settings form watch) (Some problem) = ⊥
 IsAskedProblem (to_check workers None) None = Unit {0}
 IsAskedProblem (to_check workers None) (Some problem) = ⊥
 IsAskedProblem (to_check workers (Some text)) None = ⊥

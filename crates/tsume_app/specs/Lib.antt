@@ -8,4 +8,5 @@ pub mod Inside
 pub mod Outside
 pub mod Run
 pub mod Status
+pub mod Stops
 pub mod Told

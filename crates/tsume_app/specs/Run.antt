@@ -24,13 +24,14 @@ use Rattle.tsume_app.specs.declared.ended.Ended.TheVariants.{Answered, CutShort,
 use Rattle.app_texts.specs.Texts.{answer_text}
 use Rattle.tsume_app.specs.Answer.{IsTrueOf, IsTrueOfCertificate}
 use Rattle.tsume_app.specs.Input.{limit_of, search_numbers, given_form, StandsFor, IsAskedFault, IsJudgedFor}
+use Rattle.tsume_app.specs.Stops.{Signals}
 use Rattle.tsume_app.specs.Outside.{Shown, NeverFailed, IsUntouched}
 
 -- The bytes of an input are a problem of which the solution is true.
-pub record IsSolution (form : ProblemForm) (settings : SettingsView) (input : List ℕ) (solution : Solution) : Type 0 where
+pub record IsSolution (form : ProblemForm) (settings : SettingsView) (stops : Signals) (input : List ℕ) (solution : Solution) : Type 0 where
   pub problem : Board
   pub stands_for : StandsFor form input (Ok problem)
-  pub true_of : IsTrueOf problem (search_numbers settings) solution
+  pub true_of : IsTrueOf problem (search_numbers settings) stops solution
 
 -- The bytes of an input are the text of one certificate, of which the judgement is true, for the problem whose text the words give, or
 -- for its own.
@@ -43,17 +44,17 @@ pub record IsJudged (problem : Option Word) (input : List ℕ) (judgement : Judg
   pub true_of : IsTrueOfCertificate board certificate judgement
 
 -- An answer is true of the bytes of an input: a solution of the problem that they are, or a judgement on the certificate.
-abbrev pub IsTrueOfInput : Wish → List ℕ → Answer → Type 0
-IsTrueOfInput (to_solve settings form) input (Solved solution) = IsSolution form settings input solution
-IsTrueOfInput (to_solve settings form) input (Judged judgement) = ⊥
-IsTrueOfInput (to_solve settings form) input (Help text) = ⊥
-IsTrueOfInput (to_check workers problem) input (Solved solution) = ⊥
-IsTrueOfInput (to_check workers problem) input (Judged judgement) = IsJudged problem input judgement
-IsTrueOfInput (to_check workers problem) input (Help text) = ⊥
+abbrev pub IsTrueOfInput : Wish → Signals → List ℕ → Answer → Type 0
+IsTrueOfInput (to_solve settings form watch) stops input (Solved solution) = IsSolution form settings stops input solution
+IsTrueOfInput (to_solve settings form watch) stops input (Judged judgement) = ⊥
+IsTrueOfInput (to_solve settings form watch) stops input (Help text) = ⊥
+IsTrueOfInput (to_check workers problem) stops input (Solved solution) = ⊥
+IsTrueOfInput (to_check workers problem) stops input (Judged judgement) = IsJudged problem input judgement
+IsTrueOfInput (to_check workers problem) stops input (Help text) = ⊥
 
 -- The bytes of an input are no problem, and this is their first fault; `solve` alone tells it.
 abbrev pub IsProblemFault : Wish → List ℕ → ProblemFault → Type 0
-IsProblemFault (to_solve settings form) input fault = StandsFor form input (Err fault)
+IsProblemFault (to_solve settings form watch) input fault = StandsFor form input (Err fault)
 IsProblemFault (to_check workers problem) input fault = ⊥
 
 -- The bytes of an input are no certificate's text.
@@ -66,7 +67,7 @@ HasOneFault input fault = HasFirstFault input fault × ((other : CertFault) → 
 
 -- The bytes of an input are no certificate's text, and this is their first fault; `check` alone tells it.
 abbrev pub IsCertificateFault : Wish → List ℕ → CertFault → Type 0
-IsCertificateFault (to_solve settings form) input fault = ⊥
+IsCertificateFault (to_solve settings form watch) input fault = ⊥
 IsCertificateFault (to_check workers problem) input fault = HasOneFault input fault × IsNoCertificate input
 
 -- The bytes of an input were all that the source had left, and no more than the command takes.
@@ -75,19 +76,19 @@ pub record IsReadWhole (wish : Wish) (source : Shown) (input : List ℕ) : Type 
   pub short : length input ≤ limit_of wish
 
 -- An answer was decided: it is true of the bytes that the source had left.
-pub record IsDecided (wish : Wish) (source : Shown) (answer : Answer) : Type 0 where
+pub record IsDecided (wish : Wish) (stops : Signals) (source : Shown) (answer : Answer) : Type 0 where
   pub input : List ℕ
   pub read : IsReadWhole wish source input
-  pub true_of : IsTrueOfInput wish input answer
+  pub true_of : IsTrueOfInput wish stops input answer
 
 -- An answer was decided, and its text written whole.
-pub record IsWritten (wish : Wish) (source sink : Shown) (answer : Answer) : Type 0 where
-  pub decided : IsDecided wish source answer
+pub record IsWritten (wish : Wish) (stops : Signals) (source sink : Shown) (answer : Answer) : Type 0 where
+  pub decided : IsDecided wish stops source answer
   pub grew : GrewBy sink.told sink.told_after (answer_text answer)
 
 -- An answer was decided, and a failing sink kept a part of its text.
-pub record IsCutShort (wish : Wish) (source sink : Shown) (answer : Answer) : Type 0 where
-  pub decided : IsDecided wish source answer
+pub record IsCutShort (wish : Wish) (stops : Signals) (source sink : Shown) (answer : Answer) : Type 0 where
+  pub decided : IsDecided wish stops source answer
   pub grew : GrewByPrefix sink.told sink.told_after (answer_text answer)
   pub rose : Rose sink.faults sink.faults_after
 
@@ -112,10 +113,10 @@ HasCause wish source NoMemory input = TookAtMost (limit_of wish) source.told sou
 
 -- How a command ended. Answered: the answer is true of what the source's bytes were, and its text was written. Cut short: a failed
 -- sink has kept a prefix of the text of an answer that stands. Failed: the fault has its cause, and nothing was written.
-abbrev pub IsEnded : Wish → Shown → Shown → Ended → Type 0
-IsEnded wish source sink (Answered answer) = IsWritten wish source sink answer
-IsEnded wish source sink (CutShort answer) = IsCutShort wish source sink answer
-IsEnded wish source sink (Failed fault input) = HasCause wish source fault input × IsUntouched sink
+abbrev pub IsEnded : Wish → Signals → Shown → Shown → Ended → Type 0
+IsEnded wish stops source sink (Answered answer) = IsWritten wish stops source sink answer
+IsEnded wish stops source sink (CutShort answer) = IsCutShort wish stops source sink answer
+IsEnded wish stops source sink (Failed fault input) = HasCause wish source fault input × IsUntouched sink
 
 -- What the counts of faults tell of an ending: unless reading failed the source's is as it was, and unless writing did the sink's.
 abbrev pub IsCounted : Shown → Shown → Ended → Type 0
@@ -184,7 +185,7 @@ IsProblemAsked (Some text) = (problem : Board) × StandsFor given_form text (Ok 
 
 -- The bytes that the source has left are what a command is asked about, and so is the problem that the words give.
 abbrev pub IsWellPosed : Wish → Option (List ℕ) → Type 0
-IsWellPosed (to_solve settings form) left = IsProblemGiven form (limit_of (to_solve settings form)) left
+IsWellPosed (to_solve settings form watch) left = IsProblemGiven form (limit_of (to_solve settings form watch)) left
 IsWellPosed (to_check workers problem) left = IsCertificateGiven (limit_of (to_check workers problem)) left × IsProblemAsked problem
 
 -- The run ended with an answer that was written whole.

@@ -1,18 +1,25 @@
 -- What the user is told beside the answer, on the standard error.
-use Rattle.std.specs.Prelude.{◌≡◌, ℕ, List, [], ◌∷◌, ◌++◌, Some, None, codes, IsTrue}
+use Rattle.std.specs.Prelude.{◌≡◌, ℕ, List, [], ◌∷◌, ◌++◌, Option, Some, None, codes, IsTrue, if◌then◌else◌}
 use Rattle.clap.specs.Words.{Text as Word}
 use Rattle.tsume_io.specs.Faults.{Rose}
 use Rattle.tsume_io.specs.Sink.{GrewBy, GrewByPrefix}
 use Rattle.tsume_words.specs.Given.{Wish}
+use Rattle.tsume_words.specs.Given.Wish.{to_solve, to_check}
 use Rattle.tsume_words.specs.Meaning.{command_of}
 use Rattle.tsume_app.specs.declared.ended.Ended.{Ended}
 use Rattle.tsume_app.specs.declared.ended.Ended.TheVariants.{Answered, CutShort, Failed}
 use Rattle.tsume_app.specs.declared.telling.Told.{Told}
 use Rattle.tsume_app.specs.declared.telling.Told.TheVariants.{Whole, InPart, Nothing}
 use Rattle.tsume_app.specs.EndedText.{ended_text}
+use Rattle.tsume_app.specs.Stops.{Signals, AreUsedTill, deadline_in}
 use Rattle.tsume_app.specs.Outside.{Shown, NeverFailed, IsUntouched}
 use Rattle.tsume_app.specs.Run.{IsEnded, IsEndedUnasked}
 use Rattle.tsume_app.specs.Status.{status_of, is_answered}
+
+-- How many expansions a search has that the user is told of while it runs; none where that wasn't asked for.
+abbrev pub limit_told : Wish → Option ℕ
+limit_told (to_solve settings form watch) = if watch.progress then Some settings.expansions else None
+limit_told (to_check workers problem) = None
 
 -- A line for the user: `tsume: `, a text, and a line feed.
 abbrev pub told_line : List ℕ → List ℕ
@@ -51,10 +58,11 @@ IsTold errors ended InPart = IsToldInPart errors ended
 IsTold errors ended Nothing = IsUntouched errors
 
 -- A run ended as runs do, the user was told of it, and the status is the ending's.
-pub record IsToldRun (words : List Word) (source sink errors : Shown) (status : ℕ) : Type 0 where
+pub record IsToldRun (words : List Word) (stops : Signals) (source sink errors : Shown) (status : ℕ) : Type 0 where
   pub ended : Ended
   pub told : Told
   pub is_status : status ≡ status_of ended
   pub is_told : IsTold errors ended told
-  pub does : (wish : Wish) → command_of words ≡ Some wish → IsEnded wish source sink ended
+  pub does : (wish : Wish) → command_of words ≡ Some wish → IsEnded wish stops source sink ended
+  pub used : AreUsedTill (deadline_in (command_of words)) stops ended
   pub unasked : command_of words ≡ None → IsEndedUnasked words source sink ended

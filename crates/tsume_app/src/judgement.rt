@@ -7,6 +7,7 @@ ghost use Rattle.tsume_app.specs.Input.{IsJudgedFor};
 ghost use Rattle.app_texts.specs.Texts.{HasTexts};
 ghost use Rattle.tsume_app.specs.Inside.{IsAskedProblem};
 ghost use Rattle.tsume_app.specs.Outside.{Shown};
+ghost use Rattle.tsume_app.specs.Stops.{Signals};
 ghost use Rattle.tsume_app.specs.Run.{IsReadWhole, IsTrueOfInput, HasCause};
 
 use app_texts::{Answer, Fault, Judgement};
@@ -49,8 +50,8 @@ pub(crate) fn judge_input(
     asked: &Option<Problem>,
     input: &[u8],
 ) -> Result<Answer, Fault>
-    ensures true_of { (workers : ℕ) (text : Option Word) → IsAskedProblem (to_check workers text) asked.now
-        → IfOk result (IsTrueOfInput (to_check workers text) input.now) }
+    ensures true_of { (workers : ℕ) (text : Option Word) (stops : Signals) → IsAskedProblem (to_check workers text) asked.now
+        → IfOk result (IsTrueOfInput (to_check workers text) stops input.now) }
     ensures texts { IfOk result HasTexts }
     // Wherever these bytes were read whole.
     ensures cause { (workers : ℕ) (text : Option Word) (source : Shown) → IsReadWhole (to_check workers text) source input.now

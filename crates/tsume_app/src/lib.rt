@@ -10,13 +10,15 @@ mod input;
 mod judgement;
 mod note;
 mod program;
+mod progress;
 mod solution;
+mod stops;
 mod telling;
 
 pub use ended::Ended;
 pub use exit::Exit;
 pub use input::{Input, MOST_CERTIFICATE_BYTES, MOST_PROBLEM_BYTES};
-pub use program::{named_file, run};
+pub use program::{named_file, run, told_limit};
 pub use telling::{Told, run_and_tell, start, tell};
 
 #[cfg(test)]

@@ -1,10 +1,10 @@
 // The run of the program.
-ghost use Rattle.std.specs.Prelude.{◌≡◌, ◌⊎◌, ◌↔◌, ℕ, List, [], Option, Some, None, IfOk, IfErr, MatchResult, option_map, string_bytes};
+ghost use Rattle.std.specs.Prelude.{◌≡◌, ◌<◌, ◌⊎◌, ◌↔◌, ℕ, List, [], Option, Some, None, IfOk, IfErr, MatchResult, option_map, string_bytes, length};
 ghost use Rattle.board_core.specs.declared.moves.Move.{Move};
 ghost use Rattle.cert_text.specs.Certificate.{Mating, Escaping};
 ghost use Rattle.tsume_io.specs.Faults.{Rose};
 ghost use Rattle.cert_text.specs.declared.head.Claim.{Claim};
-ghost use Rattle.tsume_words.specs.Given.{Wish, SettingsView, AsksForHelp, file_of};
+ghost use Rattle.tsume_words.specs.Given.{Wish, SettingsView, WatchView, AsksForHelp, file_of};
 ghost use Rattle.tsume_words.specs.Given.Wish.{to_solve};
 ghost use Rattle.tsume_words.specs.Meaning.{FailsFirst, command_of, texts_of, wish_of};
 ghost use Rattle.tsume_words.specs.declared.faults.WordFault.{WordFault};
@@ -18,6 +18,9 @@ ghost use Rattle.app_texts.specs.Texts.{HasTexts};
 ghost use Rattle.tsume_app.specs.Inside.{HasWritten, IsAskedProblem, IsReadCounted, OneOutcome};
 ghost use Rattle.tsume_app.specs.Input.{limit_of, IsAskedFault};
 ghost use Rattle.tsume_app.specs.Outside.{Shown, shown, NeverFailed};
+ghost use Rattle.tsume_app.specs.Stops.{AreUsedBefore, AreUsedFor, AreUsedTill, deadline_in, signals};
+ghost use Rattle.tsume_words.specs.declared.settings.TheConstants.{MOST_WORKERS};
+ghost use Rattle.tsume_app.specs.Told.{limit_told};
 ghost use Rattle.tsume_app.specs.Run.{IsReadWhole, IsTrueOfInput, HasCause, IsEnded, IsCounted, IsEndedUnasked, GivesHelp, IsWellPosed, IsAnswered, WantsMemory};
 
 use crate::ended::Ended;
@@ -26,7 +29,7 @@ use crate::judgement::judge_input;
 use crate::solution::{read_problem, solve_input};
 use app_texts::{Answer, Fault, Judgement, ProblemFault, Solution, answer_text};
 use kif_text::kif_laws;
-use search_gate::Gate;
+use search_gate::{Gate, Stop};
 use sfen_text::sfen_laws;
 use shogi_rules::Problem;
 use std::alloc::{AllocError, Global};
@@ -91,22 +94,30 @@ fn read_input<S: Source>(alloc: Global, command: &Command, source: &mut S) -> Re
     }
 }
 
-fn answer_to<G: Gate>(
+fn answer_to<G: Gate, T: Stop>(
     alloc: Global,
     command: &Command,
     asked: &Option<Problem>,
     input: &[u8],
     gate: &G,
+    stops: &mut [T],
 ) -> Result<Answer, Fault>
-    requires { IsAskedProblem (wish_of command.now) asked.now }
-    ensures true_of { IfOk result (IsTrueOfInput (wish_of command.now) input.now) }
+    requires asked { IsAskedProblem (wish_of command.now) asked.now }
+    requires stops { 0 < length stops.old }
+    ensures true_of { IfOk result (IsTrueOfInput (wish_of command.now) (signals T.signal stops.old stops.new) input.now) }
     ensures texts { IfOk result HasTexts }
+    ensures used { MatchResult result (AreUsedFor (deadline_in (Some (wish_of command.now))) (signals T.signal stops.old stops.new))
+        (AreUsedBefore (deadline_in (Some (wish_of command.now))) (signals T.signal stops.old stops.new)) }
     // Wherever these bytes were read whole.
     ensures cause { (source : Shown) → IsReadWhole (wish_of command.now) source input.now
         → IfErr result (λ fault. HasCause (wish_of command.now) source fault input.now) }
 {
     match command {
-        Command::Solve { settings, form } => solve_input(alloc, input, settings, *form, gate),
+        Command::Solve {
+            settings,
+            form,
+            watch,
+        } => solve_input(alloc, input, settings, *form, watch, gate, stops),
         Command::Check { .. } => judge_input(alloc, asked, input),
     }
 }
@@ -124,14 +135,17 @@ fn write_answer<K: Sink>(alloc: Global, sink: &mut K, answer: Answer) -> Ended
     Ended::Answered(answer)
 }
 
-fn command_ended<S: Source, K: Sink, G: Gate>(
+fn command_ended<S: Source, K: Sink, G: Gate, T: Stop>(
     alloc: Global,
     command: &Command,
     source: &mut S,
     sink: &mut K,
     gate: &G,
+    stops: &mut [T],
 ) -> Ended
-    ensures ended { IsEnded (wish_of command.now) (shown S.left S.faults source.old source.new) (shown K.kept K.faults sink.old sink.new) result }
+    requires { 0 < length stops.old }
+    ensures used { AreUsedTill (deadline_in (Some (wish_of command.now))) (signals T.signal stops.old stops.new) result }
+    ensures ended { IsEnded (wish_of command.now) (signals T.signal stops.old stops.new) (shown S.left S.faults source.old source.new) (shown K.kept K.faults sink.old sink.new) result }
     ensures counted { IsCounted (shown S.left S.faults source.old source.new) (shown K.kept K.faults sink.old sink.new) result }
     ensures asked { (fault : ProblemFault) → IsAskedFault (wish_of command.now) fault → result ≡ Ended.Failed (Fault.Asked fault) [] }
 {
@@ -143,21 +157,24 @@ fn command_ended<S: Source, K: Sink, G: Gate>(
         Ok(input) => input,
         Err(fault) => return Ended::Failed(fault, Input::none(alloc)),
     };
-    match answer_to(alloc, command, &asked, &input, gate) {
+    match answer_to(alloc, command, &asked, &input, gate, stops) {
         Ok(answer) => write_answer(alloc, sink, answer),
         Err(fault) => Ended::Failed(fault, Input::new(input)),
     }
 }
 
-fn words_ended<S: Source, K: Sink, G: Gate>(
+fn words_ended<S: Source, K: Sink, G: Gate, T: Stop>(
     alloc: Global,
     words: Vec<String>,
     source: &mut S,
     sink: &mut K,
     gate: &G,
+    stops: &mut [T],
 ) -> Ended
+    requires { 0 < length stops.old }
+    ensures used { AreUsedTill (deadline_in (command_of (texts_of words.items))) (signals T.signal stops.old stops.new) result }
     ensures ended { (wish : Wish) → command_of (texts_of words.items) ≡ Some wish
-        → IsEnded wish (shown S.left S.faults source.old source.new) (shown K.kept K.faults sink.old sink.new) result }
+        → IsEnded wish (signals T.signal stops.old stops.new) (shown S.left S.faults source.old source.new) (shown K.kept K.faults sink.old sink.new) result }
     ensures counted { IsCounted (shown S.left S.faults source.old source.new) (shown K.kept K.faults sink.old sink.new) result }
     ensures words { command_of (texts_of words.items) ≡ None
         → IsEndedUnasked (texts_of words.items) (shown S.left S.faults source.old source.new) (shown K.kept K.faults sink.old sink.new) result }
@@ -168,7 +185,7 @@ fn words_ended<S: Source, K: Sink, G: Gate>(
         → (result ≡ Ended.Failed (Fault.Asked fault) []) ⊎ (result ≡ Ended.Failed Fault.NoMemory []) }
 {
     match read_words(alloc, &words) {
-        Ok(asked) => command_ended(alloc, &asked.command, source, sink, gate),
+        Ok(asked) => command_ended(alloc, &asked.command, source, sink, gate, stops),
         Err(WordsEnd::Help(text)) => write_answer(alloc, sink, Answer::Help(text)),
         Err(WordsEnd::Fault(fault)) => Ended::Failed(Fault::Words(fault), Input::none(alloc)),
         Err(WordsEnd::NoMemory) => Ended::Failed(Fault::NoMemory, Input::none(alloc)),
@@ -198,13 +215,46 @@ pub fn named_file(alloc: Global, words: &[String]) -> Result<Option<String>, All
     }
 }
 
+// How many expansions a search has that the user is told of while it runs.
+fn limit_told(command: &Command) -> Option<u64>
+    ensures { result ≡ limit_told (wish_of command.now) }
+{
+    match command {
+        Command::Solve {
+            settings,
+            watch,
+            ..
+        } => {
+            if watch.progress {
+                Some(settings.expansions.count)
+            } else {
+                None
+            }
+        }
+        Command::Check { .. } => None,
+    }
+}
+
+/// How many expansions the search has of which the words ask that its progress be told; none where they don't ask for it. Whoever calls [`run`] makes
+/// a gate that tells it. Errors: want of memory alone.
+pub fn told_limit(alloc: Global, words: &[String]) -> Result<Option<u64>, AllocError>
+    ensures told { (wish : Wish) → command_of (texts_of words.now) ≡ Some wish → IfOk result (λ limit. limit ≡ limit_told wish) }
+    ensures unasked { command_of (texts_of words.now) ≡ None → IfOk result (λ limit. limit ≡ None) }
+{
+    match read_words(alloc, words) {
+        Ok(asked) => Ok(limit_told(&asked.command)),
+        Err(WordsEnd::NoMemory) => Err(AllocError),
+        Err(WordsEnd::Help(_) | WordsEnd::Fault(_)) => Ok(None),
+    }
+}
+
 /// Runs the program on the words of the command line, those behind the program's name. What they ask for is what clap says
 /// of them, and three tests after it; words that are refused end the run before anything is read. So does a request for help or for the
 /// version, whose text is written to the sink.
 ///
 /// `solve` reads a problem from the source, an SFEN or, with `--kif`, the board diagram of a KIF file in UTF-8; with `--rest` the defender
 /// is then given all pieces but kings that are neither on the board nor in a hand. It writes to the sink the USI answer that the problem is a mate, with a main line, or that it is
-/// none, and the certificate; or, where the expansions were used up first, that it was given up. `check` reads a certificate,
+/// none, and the certificate; or, where a limit was used up first or a stop was signalled, that it was given up. `check` reads a certificate,
 /// perhaps behind the line of the USI answer, and writes whether it is valid for its own problem, or for the one that `--problem` gives
 /// (SFEN), or the first reason why it isn't; a certificate about another problem doesn't list it. Positions are compared, and not texts.
 /// A `--problem` that is none refuses the words, before anything is read.
@@ -212,14 +262,17 @@ pub fn named_file(alloc: Global, words: &[String]) -> Result<Option<String>, All
 /// Everything else ends with a named fault and its cause: more than [`MOST_PROBLEM_BYTES`] of a problem or
 /// [`MOST_CERTIFICATE_BYTES`] of a certificate; a text that is no problem or no certificate, with its first fault; a source or a
 /// sink whose count of faults rose; want of memory. The whole text is made before the first write. The gate is passed for each
-/// position whose moves are listed, as worker 1. (The tsume rule; USI protocol: `checkmate`.)
-pub fn run<S: Source, K: Sink, G: Gate>(
+/// position whose moves are listed, as worker 1. The stops, one for each worker that there may be, are armed once, with the deadline that the words
+/// give or with none, when `solve` has accepted its problem, and before that they aren't used; then worker 1 polls the first. (The tsume rule; USI protocol: `checkmate`.)
+pub fn run<S: Source, K: Sink, G: Gate, T: Stop>(
     alloc: Global,
     words: Vec<String>,
     source: &mut S,
     sink: &mut K,
     gate: &G,
+    stops: &mut [T],
 ) -> Ended
+    requires { length stops.old ≡ MOST_WORKERS }
     // In plain words. Where `solve` ended with a mate, the bytes that the source had left stand for a problem that is a mate, the
     // certificate is valid for it, and the moves are its main line.
     ensures mate { (form : ProblemForm) (input : List ℕ) (c : Mating) (moves : List Move)
@@ -231,10 +284,11 @@ pub fn run<S: Source, K: Sink, G: Gate>(
         → AsksToSolve form (texts_of words.items) → S.left source.old ≡ Some input
         → result ≡ Ended.Answered (Answer.Solved (Solution.NoMate c)) → StandsForNoMate form input c }
 
-    // Where it gave up, one of the stated limits was used up: the expansions, the room for notes, or their height; the worker that met it is told.
-    ensures gave_up { (settings : SettingsView) (form : ProblemForm) (input : List ℕ) (cause : Cause) (crew : List Standing)
-        → command_of (texts_of words.items) ≡ Some (to_solve settings form) → S.left source.old ≡ Some input
-        → result ≡ Ended.Answered (Answer.Solved (Solution.Unknown cause crew)) → StandsForUnknown form settings input cause crew }
+    // Where it gave up, one of the stated limits was used up: the expansions, the room for notes, or their height; or a stop was signalled. The worker
+    // that met it is told.
+    ensures gave_up { (settings : SettingsView) (form : ProblemForm) (watch : WatchView) (input : List ℕ) (cause : Cause) (crew : List Standing)
+        → command_of (texts_of words.items) ≡ Some (to_solve settings form watch) → S.left source.old ≡ Some input
+        → result ≡ Ended.Answered (Answer.Solved (Solution.Unknown cause crew)) → StandsForUnknown form settings (signals T.signal stops.old stops.new) input cause crew }
 
     // Whatever the source tells of its bytes, as a file tells nothing: what ended with a mate names one.
     ensures own_mate { (c : Mating) (moves : List Move) → result ≡ Ended.Answered (Answer.Solved (Solution.Mate c moves)) → NamesMate c moves }
@@ -249,7 +303,11 @@ pub fn run<S: Source, K: Sink, G: Gate>(
     // In full. What a command did: a printed mate is one, a printed "no mate" means that there is none, each with a certificate that
     // the checker accepts; an accepted certificate is valid; each refusal has its cause.
     ensures ended { (wish : Wish) → command_of (texts_of words.items) ≡ Some wish
-        → IsEnded wish (shown S.left S.faults source.old source.new) (shown K.kept K.faults sink.old sink.new) result }
+        → IsEnded wish (signals T.signal stops.old stops.new) (shown S.left S.faults source.old source.new) (shown K.kept K.faults sink.old sink.new) result }
+
+    // Each stop is armed once, for the deadline that the words give or for none, where `solve` accepted its problem, and then only the first is polled; else
+    // no stop is used.
+    ensures used { AreUsedTill (deadline_in (command_of (texts_of words.items))) (signals T.signal stops.old stops.new) result }
 
     // The source's count of faults rises only where the run ends for it, and the sink's likewise.
     ensures counted { IsCounted (shown S.left S.faults source.old source.new) (shown K.kept K.faults sink.old sink.new) result }
@@ -276,5 +334,5 @@ pub fn run<S: Source, K: Sink, G: Gate>(
         → IsAnswered result ⊎ WantsMemory result }
 {
     text_laws();
-    words_ended(alloc, words, source, sink, gate)
+    words_ended(alloc, words, source, sink, gate, stops)
 }

@@ -1,18 +1,20 @@
 // What `solve` finds.
-ghost use Rattle.std.specs.Prelude.{◌≡◌, Ok, Err, IfOk, IfErr, MatchResult};
+ghost use Rattle.std.specs.Prelude.{◌≡◌, ◌<◌, length, Ok, Err, IfOk, IfErr, MatchResult};
 ghost use Rattle.board_core.specs.Board.{HasDefender};
 ghost use Rattle.cert_check.specs.Valid.{ValidMate, ValidEscape};
 ghost use Rattle.unit_desk.specs.Settings.{settings_in as numbers_in};
 ghost use Rattle.visit_log.specs.Frame.{task_for};
 ghost use Rattle.visit_log.specs.Sound.{IsAnswer};
 ghost use Rattle.tsume_words.specs.Given.Wish.{to_solve};
-ghost use Rattle.tsume_words.specs.Meaning.{settings_in};
+ghost use Rattle.tsume_words.specs.Meaning.{settings_in, watch_in};
 ghost use Rattle.tsume_app.specs.Answer.{IsTrueOf, IsShown, IsVerdictOf};
 ghost use Rattle.app_texts.specs.Texts.{HasLine, HasTexts};
 ghost use Rattle.tsume_app.specs.Input.{IsPositionRead, StandsFor, searched_board, search_numbers};
 ghost use Rattle.tsume_app.specs.Outside.{Shown};
+ghost use Rattle.tsume_app.specs.Stops.{AreUnused, AreUsed, AreUsedBefore, AreUsedFor, signals};
 ghost use Rattle.tsume_app.specs.Run.{IsReadWhole, IsTrueOfInput, HasCause};
 
+use crate::stops::search_armed;
 use app_texts::{Answer, Fault, MainLine, ProblemFault, Solution};
 use board_core::Position;
 use cert_check::valid_is_accepted;
@@ -21,12 +23,12 @@ use cert_text::{Certificate, EscapeCertificate, MateCertificate};
 use kif_text::read_kif;
 use notes::Note;
 use play_line::main_line;
-use search_gate::Gate;
-use search_pool::{SearchEnd, search_alone_gated};
+use search_gate::{Gate, Stop};
+use search_pool::SearchEnd;
 use sfen_text::read_sfen;
 use shogi_rules::{Problem, accept_problem};
 use std::alloc::{AllocError, Global};
-use tsume_words::{Format, ProblemForm, Settings};
+use tsume_words::{Format, ProblemForm, Settings, Watch};
 
 // The position of a text in this format, or its first fault. The side that isn't to move has a king.
 fn read_position(input: &[u8], format: Format) -> Result<Position, ProblemFault>
@@ -114,16 +116,21 @@ fn verdict(alloc: Global, problem: &Problem, note: &Note) -> Result<Solution, Al
     }
 }
 
-fn solution_of<G: Gate>(
+fn solution_of<G: Gate, T: Stop>(
     alloc: Global,
     problem: &Problem,
     settings: &Settings,
+    deadline: Option<u64>,
     gate: &G,
+    stops: &mut [T],
 ) -> Result<Solution, AllocError>
-    ensures true_of { IfOk result (IsTrueOf problem.now.position (search_numbers (settings_in settings.now))) }
+    requires { 0 < length stops.old }
+    ensures true_of { IfOk result (IsTrueOf problem.now.position (search_numbers (settings_in settings.now)) (signals T.signal stops.old stops.new)) }
     ensures line { IfOk result HasLine }
+    ensures used { AreUsed deadline (signals T.signal stops.old stops.new) }
 {
-    match search_alone_gated(alloc, problem, &search_settings(settings), gate)? {
+    let numbers = search_settings(settings);
+    match search_armed(alloc, problem, &numbers, deadline, gate, stops)? {
         SearchEnd::Solved(note) => verdict(alloc, problem, &note),
         SearchEnd::Unknown(cause, crew) => Ok(Solution::Unknown(cause, crew)),
     }
@@ -131,20 +138,26 @@ fn solution_of<G: Gate>(
 
 /// What is answered to the bytes of a problem's text: a verdict on the problem that they stand for, or that it was given up; or
 /// their first fault.
-pub(crate) fn solve_input<G: Gate>(
+pub(crate) fn solve_input<G: Gate, T: Stop>(
     alloc: Global,
     input: &[u8],
     settings: &Settings,
     form: ProblemForm,
+    watch: &Watch,
     gate: &G,
+    stops: &mut [T],
 ) -> Result<Answer, Fault>
-    ensures true_of { IfOk result (IsTrueOfInput (to_solve (settings_in settings.now) form) input.now) }
+    requires { 0 < length stops.old }
+    ensures true_of { IfOk result (IsTrueOfInput (to_solve (settings_in settings.now) form (watch_in watch.now)) (signals T.signal stops.old stops.new) input.now) }
     ensures texts { IfOk result HasTexts }
+    // The stops are used where the bytes stand for a problem.
+    ensures used { MatchResult result (AreUsedFor watch.now.deadline (signals T.signal stops.old stops.new))
+        (AreUsedBefore watch.now.deadline (signals T.signal stops.old stops.new)) }
     // Wherever these bytes were read whole.
-    ensures cause { (source : Shown) → IsReadWhole (to_solve (settings_in settings.now) form) source input.now
-        → IfErr result (λ fault. HasCause (to_solve (settings_in settings.now) form) source fault input.now) }
+    ensures cause { (source : Shown) → IsReadWhole (to_solve (settings_in settings.now) form (watch_in watch.now)) source input.now
+        → IfErr result (λ fault. HasCause (to_solve (settings_in settings.now) form (watch_in watch.now)) source fault input.now) }
 {
     let problem = read_problem(input, form)?;
-    let solution = solution_of(alloc, &problem, settings, gate)?;
+    let solution = solution_of(alloc, &problem, settings, watch.deadline, gate, stops)?;
     Ok(Answer::Solved(solution))
 }

@@ -1,21 +1,26 @@
 // What the user is told beside the answer, and the program as a whole.
-ghost use Rattle.std.specs.Prelude.{◌≡◌, ◌++◌, OnOk, IfOk};
+ghost use Rattle.std.specs.Prelude.{◌≡◌, length, vec_len, ◌++◌, OnOk, IfOk};
 ghost use Rattle.tsume_words.specs.Meaning.{texts_of};
 ghost use Rattle.tsume_app.specs.Outside.{shown};
+ghost use Rattle.tsume_words.specs.declared.settings.TheConstants.{MOST_WORKERS};
+ghost use Rattle.tsume_app.specs.Stops.{signals};
 ghost use Rattle.tsume_app.specs.Told.{told_text, BeginsAsTold, IsTold, IsToldRun};
 
 use crate::ended::Ended;
 use crate::exit::Exit;
 use crate::input::Input;
 use crate::note::note_of;
-use crate::program::{named_file, run};
+use crate::program::{named_file, run, told_limit};
+use crate::progress::{Clearing, Progress};
 use app_texts::Fault;
-use search_gate::{Gate, OpenGate};
+use search_gate::{DeadlineStop, Gate, Stop};
 use std::alloc::{AllocError, Global};
 use std::env::{self, Env};
 use std::fs::{self, Files};
-use std::io::{self, Print};
-use tsume_io::{Noted, Opened, Sink, Source, StdSink, StdSource, write_all};
+use std::io::{self, Eprint, Print};
+use std::time::Clock;
+use tsume_io::{Noted, Opened, Sink, Source, StdClock, StdSink, StdSource, write_all};
+use tsume_words::MOST_WORKERS;
 
 /// How much of an ending the user was told.
 #[derive(Clone, Copy, PartialEq, Eq, Debug)]
@@ -70,18 +75,20 @@ pub fn tell<K: Sink>(alloc: Global, ended: &Ended, errors: &mut K) -> Told
 }
 
 /// Runs the program as [`run`] does, and tells the user how it ended: see [`tell`]. What comes back is the exit status.
-pub fn run_and_tell<S: Source, K: Sink, E: Sink, G: Gate>(
+pub fn run_and_tell<S: Source, K: Sink, E: Sink, G: Gate, T: Stop>(
     alloc: Global,
     words: Vec<String>,
     source: &mut S,
     sink: &mut K,
     errors: &mut E,
     gate: &G,
+    stops: &mut [T],
 ) -> u8
-    ensures { IsToldRun (texts_of words.items) (shown S.left S.faults source.old source.new) (shown K.kept K.faults sink.old sink.new)
+    requires { length stops.old ≡ MOST_WORKERS }
+    ensures { IsToldRun (texts_of words.items) (signals T.signal stops.old stops.new) (shown S.left S.faults source.old source.new) (shown K.kept K.faults sink.old sink.new)
         (shown E.kept E.faults errors.old errors.new) result }
 {
-    let ended = run(alloc, words, source, sink, gate);
+    let ended = run(alloc, words, source, sink, gate, stops);
     tell(alloc, &ended, errors);
     ended.status()
 }
@@ -142,8 +149,21 @@ fn fail<K: Sink>(alloc: Global, fault: Fault, errors: &mut K) -> u8 {
     ended.status()
 }
 
+// A stop for each worker that there may be, by the system's clock.
+fn stops_by<R: Clock + AllocGlobal + Sync>(
+    rt: &R,
+) -> Result<Vec<DeadlineStop<StdClock<&R>>>, AllocError>
+    ensures { IfOk result (λ stops. vec_len stops ≡ MOST_WORKERS) }
+{
+    let mut stops = Vec::new(rt.alloc());
+    for _worker in 0..MOST_WORKERS {
+        stops.push(DeadlineStop::new(StdClock::new(rt)))?;
+    }
+    Ok(stops)
+}
+
 // The program over the file that the words name, or over the standard input. What comes back is the exit status.
-fn run_on_file<R: io::Input + Print + Files + AllocGlobal, K: Sink>(
+fn run_on_file<R: io::Input + Print + Eprint + Files + Clock + AllocGlobal + Sync, K: Sink>(
     rt: &R,
     words: Vec<String>,
     errors: &mut K,
@@ -152,9 +172,27 @@ fn run_on_file<R: io::Input + Print + Files + AllocGlobal, K: Sink>(
     let Ok(file) = named_file(alloc, &words) else {
         return fail(alloc, Fault::NoMemory, errors);
     };
+    let Ok(mut stops) = stops_by(rt) else {
+        return fail(alloc, Fault::NoMemory, errors);
+    };
+    let Ok(limit) = told_limit(alloc, &words) else {
+        return fail(alloc, Fault::NoMemory, errors);
+    };
+    let progress = Progress::new(rt, limit);
     let mut source = StdSource::new(Noted::new(opened(rt, &file)));
-    let mut sink = StdSink::new(io::writer(rt));
-    let status = run_and_tell(alloc, words, &mut source, &mut sink, errors, &OpenGate);
+    let mut sink = StdSink::new(Clearing::new(&progress, io::writer(rt)));
+    let status = run_and_tell(
+        alloc,
+        words,
+        &mut source,
+        &mut sink,
+        errors,
+        &progress,
+        &mut stops,
+    );
+    if status == 0 {
+        progress.tell_used();
+    }
     if let Some(reason) = source.reader().reason() {
         tell_reason(alloc, &file, reason, errors);
     }
@@ -163,11 +201,12 @@ fn run_on_file<R: io::Input + Print + Files + AllocGlobal, K: Sink>(
 
 /// The program over the words of the command line, the file that they name or the standard input, the standard output, and a writer for
 /// what the user is told: see [`named_file`] and [`run_and_tell`]. Words that are no UTF-8 are refused. Where reading failed, a second line
-/// tells what was read and what the system said. What comes back ends the process with the exit status.
-pub fn start<R: Env + io::Input + Print + Files + AllocGlobal, W: io::Write + Drop>(
-    rt: &R,
-    errors: W,
-) -> Exit {
+/// tells what was read and what the system said. Where the words ask for progress, a line of how many positions were used is written a few times a second,
+/// each over the one before, and cleared when the answer is written; behind a verdict a line tells how many it took. What comes back ends the process with the exit status.
+pub fn start<
+    R: Env + io::Input + Print + Eprint + Files + Clock + AllocGlobal + Sync,
+    W: io::Write + Drop,
+>(rt: &R, errors: W) -> Exit {
     let mut errors = StdSink::new(errors);
     let status = match words(rt) {
         Ok(words) => run_on_file(rt, words, &mut errors),

@@ -1,11 +1,15 @@
 // Whole runs over a source and a sink in memory.
+ghost use Rattle.std.specs.Prelude.{◌≡◌, IfOk, vec_len};
+ghost use Rattle.tsume_words.specs.declared.settings.TheConstants.{MOST_WORKERS};
+
 use crate::{Ended, named_file, run, run_and_tell};
-use search_gate::{Gate, OpenGate};
+use search_gate::{Gate, MemStop, OpenGate};
 use std::alloc::{AllocError, Global};
 use std::process::Abort;
 use std::sync::atomic::{AtomicU64, Ordering};
 use std::test::Fail;
 use tsume_io::{MemSink, MemSource};
+use tsume_words::MOST_WORKERS;
 
 // What a run did: its status, whether it has an answer, what the user is told beside it, how many bytes of its input it kept where
 // it failed, and what the sink kept.
@@ -41,6 +45,18 @@ fn words_of(alloc: Global, line: &str) -> Result<Vec<String>, AllocError> {
     Ok(words)
 }
 
+// A stop for each worker that there may be; the first signals at its poll of this number, 0 for none.
+fn stops_at(alloc: Global, poll: u64) -> Result<Vec<MemStop>, AllocError>
+    ensures { IfOk result (λ stops. vec_len stops ≡ MOST_WORKERS) }
+{
+    let mut stops = Vec::new(alloc);
+    for worker in 0..MOST_WORKERS {
+        let at = if worker == 0 { poll } else { 0 };
+        stops.push(MemStop::new(vec![in alloc; at]?))?;
+    }
+    Ok(stops)
+}
+
 // A run on the words of a line, with a source and a sink of these pieces that fail at the calls of these numbers, 0 for none.
 fn seen_of(
     alloc: Global,
@@ -49,6 +65,18 @@ fn seen_of(
     source: (usize, u64),
     sink: (usize, u64),
 ) -> Result<Seen, Fail> {
+    seen_until(alloc, line, input, source, sink, 0)
+}
+
+// The same, where the first worker is stopped at its poll of this number, 0 for none.
+fn seen_until(
+    alloc: Global,
+    line: &str,
+    input: &str,
+    source: (usize, u64),
+    sink: (usize, u64),
+    poll: u64,
+) -> Result<Seen, Fail> {
     if source.0 == 0 || sink.0 == 0 {
         return Err(Fail::from("no piece"));
     }
@@ -56,7 +84,8 @@ fn seen_of(
     let bytes = Vec::from_slice(alloc, input.as_bytes())?;
     let mut from = MemSource::make(bytes, source.0, Vec::from_slice(alloc, &[source.1])?);
     let mut to = MemSink::make(alloc, 65_536, sink.0, Vec::from_slice(alloc, &[sink.1])?)?;
-    let ended = run(alloc, words, &mut from, &mut to, &OpenGate);
+    let mut stops = stops_at(alloc, poll)?;
+    let ended = run(alloc, words, &mut from, &mut to, &OpenGate, &mut stops);
     Ok(Seen {
         status: ended.status(),
         answered: has_answer(&ended),
@@ -509,7 +538,8 @@ fn the_gate_is_passed_for_each_unit(rt: HostRuntime) -> Result<(), Fail> {
         passed: AtomicU64::new(0),
         wrong: AtomicU64::new(0),
     };
-    let ended = run(rt.alloc(), words, &mut from, &mut to, &gate);
+    let mut stops = stops_at(rt.alloc(), 0)?;
+    let ended = run(rt.alloc(), words, &mut from, &mut to, &gate, &mut stops);
     assert_eq!(rt; ended.status(), 0);
     assert_eq!(rt; gate.passed.load(Ordering::SeqCst), 85);
     assert_eq!(rt; gate.wrong.load(Ordering::SeqCst), 0);
@@ -583,9 +613,36 @@ fn the_user_is_told_how_a_run_ended(rt: HostRuntime) -> Result<(), Fail> {
             &mut to,
             &mut errors,
             &OpenGate,
+            &mut stops_at(rt.alloc(), 0)?,
         );
         assert_eq!(rt; found, status, "{line} {input}");
         assert!(rt; errors.kept() == told.as_bytes(), "{line} {input}");
+    }
+    Ok(())
+}
+
+#[test]
+fn a_search_ends_where_it_is_stopped(rt: HostRuntime) -> Result<(), Fail> {
+    let stopped = "checkmate timeout\nunknown stopped\n";
+    // Words, a problem, the poll at which the worker is stopped, and the status and what is kept.
+    let table = [
+        ("solve", TWO_ROOKS, 1, 1, stopped),
+        ("solve --expansions 1", TWO_ROOKS, 2, 1, stopped),
+        // The stop comes too late: all expansions are used up; the problem is solved.
+        (
+            "solve --expansions 1",
+            TWO_ROOKS,
+            3,
+            1,
+            "checkmate timeout\nunknown expansions 1\n",
+        ),
+        ("solve", "4k4/9/9/9/9/9/9/9/9 b - 1\n", 2, 0, NO_CHECK_TEXT),
+    ];
+    for (words, input, poll, status, kept) in table {
+        let seen = seen_until(rt.alloc(), words, input, (7, 0), (11, 0), poll)?;
+        assert_eq!(rt; seen.status, status, "{words} {poll}");
+        assert!(rt; seen.fault.is_empty(), "{words} {poll}");
+        assert!(rt; seen.kept.as_slice() == kept.as_bytes(), "{words} {poll}");
     }
     Ok(())
 }

@@ -60,9 +60,9 @@ unsound (Clap text) n fails sound = fails
 -- a wish that a test stops asks for nothing
 stopped_none : (f : WordFault) (w : Wish) (v : Wish) → IsStoppedBy f w → sound_wish w ≡ Some v → ⊥
 stopped_none f (to_check n p) v stopped e = stopped
-stopped_none f (to_solve n form) v stopped e = go (are_sound n) refl e
+stopped_none f (to_solve n form watch) v stopped e = go (are_sound n) refl e
   where
-    go : (b : Bool) → are_sound n ≡ b → (if b then Some (to_solve n form) else None) ≡ Some v → ⊥
+    go : (b : Bool) → are_sound n ≡ b → (if b then Some (to_solve n form watch) else None) ≡ Some v → ⊥
     go true is e = unsound f n stopped is
     go false is e = absurd cc
 
@@ -82,7 +82,7 @@ one_first MoreShardsThanRows (NotPowerOfTwo Shards) n a b = absurd (b.1 a.1)
 
 one_stop : (f g : WordFault) (w : Wish) → IsStoppedBy f w → IsStoppedBy g w → g ≡ f
 one_stop f g (to_check n p) a b = absurd a
-one_stop f g (to_solve n form) a b = one_first f g n a b
+one_stop f g (to_solve n form watch) a b = one_first f g n a b
 
 -- all that the reading of the words promises
 pub record Promises (words : List Text) (r : Result Asked WordsEnd) : Type 0 where
@@ -132,7 +132,7 @@ promised_by_outcome words r taken h = go (given_of words) refl h
           where
             by_clap : (o : Option Wish) → IsSomeAnd o (IsStoppedBy (Clap text)) → ⊥
             by_clap None x = x
-            by_clap (Some (to_solve n form)) x = x
+            by_clap (Some (to_solve n form watch)) x = x
             by_clap (Some (to_check n p)) x = x
         refuses (NotPowerOfTwo size) fails = fails
         refuses MoreShardsThanRows fails = fails

@@ -1,6 +1,6 @@
 -- What a walk of clap's that finds no fault leaves: each value passed the parser of its argument, and each argument with
 -- a default has a row.
-use Rattle.std.proofs.Common.{◌≡◌, ◌∙◌, ◌<◌, ◌+◌, ◌&&◌, ◌||◌, not, ℕ, Bool, true, false, zero, suc, List, [], ◌∷◌, ◌++◌, Option, Some, None, refl, sym, ap, subst, arith, length, length-append, min, is_some, drop}
+use Rattle.std.proofs.Common.{◌≡◌, ◌∙◌, ◌<◌, ◌+◌, ◌&&◌, ◌||◌, ◌⊎◌, inl, inr, not, ℕ, Bool, true, false, zero, suc, List, [], ◌∷◌, ◌++◌, Option, Some, None, refl, sym, ap, subst, arith, length, length-append, min, is_some, drop}
 use Rattle.std.proofs.lemmas.Option.{same_Some}
 use Rattle.std.specs.Prelude.{IsSomeAnd, option_and_then, option_map, nat_lt, if◌then◌else◌, find, fold, slice_get, encode_utf8}
 use Rattle.std.specs.Option.{option_map_or}
@@ -487,6 +487,25 @@ one_value c rows a each first kept has =
         → (v : Text) × (slice_get vs 0 ≡ Some v) × (accepts a.ignore_case (parser_of_value a.parser) v ≡ true)
     first_text [] lt e = absurd (omega arith)
     first_text (v ∷ vs) lt e = (v, refl, accepted a.ignore_case (parser_of_value a.parser) v vs e)
+
+-- the same of an argument that may have no row
+no_row : (id : Text) (rows : List Row) → has_row id rows ≡ false → find (λ r. bytes_eq r.id id) rows ≡ None
+no_row id [] e = refl
+no_row id (r ∷ rs) e = go (bytes_eq r.id id) (no_row id rs) e
+  where
+    go : (b : Bool) → (has_row id rs ≡ false → find (λ q. bytes_eq q.id id) rs ≡ None) → (b || has_row id rs) ≡ false
+        → (if b then Some r else find (λ q. bytes_eq q.id id) rs) ≡ None
+    go true more e = absurd cc
+    go false more e = more e
+
+pub value_if_any : (c : List Rule) (rows : List Row) (a : Rule) → Each (RowIsRight c) rows → IsFirst c a → keeps_values a ≡ true
+    → (one_of a.id rows ≡ None) ⊎ ((v : Text) × (one_of a.id rows ≡ Some (read_as (reading_by a) v)) × (accepts a.ignore_case (parser_of_value a.parser) v ≡ true))
+value_if_any c rows a each first kept = go (has_row a.id rows) refl
+  where
+    go : (b : Bool) → has_row a.id rows ≡ b
+        → (one_of a.id rows ≡ None) ⊎ ((v : Text) × (one_of a.id rows ≡ Some (read_as (reading_by a) v)) × (accepts a.ignore_case (parser_of_value a.parser) v ≡ true))
+    go true is = inr (one_value c rows a each first kept is)
+    go false is = inl (ap (option_and_then row_text) (no_row a.id rows is))
 
 -- and the number that it writes lies in the range
 pub one_number : (c : List Rule) (rows : List Row) (a : Rule) (low high : ℕ) → Each (RowIsRight c) rows → IsFirst c a → keeps_values a ≡ true

@@ -1,6 +1,6 @@
 -- What clap gives where it takes the words: one of the two commands, with each number in its range.
-use Rattle.std.proofs.Common.{◌≡◌, ◌∙◌, ◌&&◌, ◌||◌, not, inl, inr, ℕ, Bool, true, false, List, [], ◌∷◌, Option, Some, None, refl, sym, ap, subst, is_some, codes}
-use Rattle.std.specs.Prelude.{slice_get, unwrap_or, IsSomeAnd, find, option_map, if◌then◌else◌}
+use Rattle.std.proofs.Common.{◌≡◌, ◌∙◌, ◌&&◌, ◌||◌, not, inl, inr, ◌⊎◌, ℕ, Bool, true, false, List, [], ◌∷◌, Option, Some, None, refl, sym, ap, subst, is_some, codes}
+use Rattle.std.specs.Prelude.{slice_get, unwrap_or, IsSomeAnd, find, IfSome, option_map, if◌then◌else◌}
 use Rattle.std.specs.Option.{option_map_or}
 use Rattle.std.specs.List.{list_any}
 use Rattle.std.specs.Str.{bytes_eq}
@@ -18,10 +18,11 @@ use Rattle.clap.specs.Simple.{App, Shape, argument_words, built, entered, label_
 use Rattle.clap.specs.Walk.{Row, Rule, Text, answers_to, finished, is_empty, nothing_held, one_of, reading_by, rows_after, settled, walk, walk_from}
 use Rattle.clap.proofs.OnLiterals.{clap_on_literals}
 use Rattle.tsume_words.specs.declared.settings.TheConstants.{MOST_WORKERS, MOST_ROOM, LEAST_ROWS, MOST_ROWS, MOST_SHARDS}
+use Rattle.tsume_words.specs.declared.watch.TheConstants.{MOST_DEADLINE}
 use Rattle.search_gate.specs.declared.expansions.TheConstants.{MOST_EXPANSIONS}
 use Rattle.tsume_words.proofs.NoHelp.{IsNotHelp, walk_not_help}
-use Rattle.tsume_words.proofs.Rows.{Each, each_found, HasRowIfDefault, IsFirst, RowIsRight, keeps_values, level_each, one_value, or_else_nil, rows_made}
-use Rattle.tsume_words.specs.Given.{HasFlag, HasNumber, IsForCommand, IsForSolve, IsTakenByClap, all_words}
+use Rattle.tsume_words.proofs.Rows.{Each, each_found, HasRowIfDefault, IsFirst, RowIsRight, keeps_values, level_each, one_value, value_if_any, or_else_nil, rows_made}
+use Rattle.tsume_words.specs.Given.{HasFlag, HasNumber, HasNumberIfAny, IsForCommand, IsForSolve, IsTakenByClap, all_words}
 use Rattle.tsume_words.specs.Line.{tsume_line}
 
 -- the command line is one of which clap's meaning says all
@@ -72,16 +73,21 @@ wanted s rows true want e = refl
 wanted s rows false want e = absurd (no_want (s.arg_required_else_help && not (list_any (λ r. explicit_source r.source) rows)) s.subcommand_required
     (not (s.subcommand_negates_reqs && false) && list_any (λ a. a.required && not (is_given a.id rows)) s.rules) want e)
 
--- each argument that keeps its values and has a default gives one that its parser accepts
+-- each argument that keeps its values gives one that its parser accepts, if it gives one; and it does where it has a default
 pub record GivesValue (rows : List Row) (a : Rule) : Type 0 where
   pub value : keeps_values a ≡ true → is_empty a.defaults ≡ false
       → (v : Text) × (one_of a.id rows ≡ Some (read_as (reading_by a) v)) × (accepts a.ignore_case (parser_of_value a.parser) v ≡ true)
+  pub any : keeps_values a ≡ true
+      → (one_of a.id rows ≡ None) ⊎ ((v : Text) × (one_of a.id rows ≡ Some (read_as (reading_by a) v)) × (accepts a.ignore_case (parser_of_value a.parser) v ≡ true))
 
 values_given : (c : List Rule) (rows : List Row) (xs : List Rule) → Each (RowIsRight c) rows → Each (IsFirst c) xs → Each (HasRowIfDefault rows) xs
     → Each (GivesValue rows) xs
 values_given c rows [] each firsts made = tt
 values_given c rows (a ∷ rest) each firsts made = (
-  record { value = λ kept some. one_value c rows a each firsts.0 kept (made.0 some) },
+  record {
+    value = λ kept some. one_value c rows a each firsts.0 kept (made.0 some);
+    any = λ kept. value_if_any c rows a each firsts.0 kept;
+  },
   values_given c rows rest each firsts.1 made.1,
 )
 
@@ -96,6 +102,18 @@ number_given a low high rows gives parser kept some =
     let as_parsed : accepts a.ignore_case (vp.Unsigned low high) got.0 ≡ true = ap (λ p. accepts a.ignore_case (parser_of_value p) got.0) (sym parser) ∙ got.2 in
     let is : one_of a.id rows ≡ Some got.0 = got.1 ∙ ap (λ p. Some (read_as (reading_of (parser_of_value p)) got.0)) parser in
     subst (λ (o : Option Text). IsSomeAnd o (IsUnsignedIn low high)) (sym is) (accepts-Accepts a.ignore_case (vp.Unsigned low high) got.0 as_parsed)
+
+number_if_any : (a : Rule) (low high : ℕ) (rows : List Row) → GivesValue rows a → a.parser ≡ Some (vp.Unsigned low high)
+    → keeps_values a ≡ true → HasNumberIfAny a.id low high rows
+number_if_any a low high rows gives parser kept = go (gives.any kept)
+  where
+    go : (one_of a.id rows ≡ None) ⊎ ((v : Text) × (one_of a.id rows ≡ Some (read_as (reading_by a) v)) × (accepts a.ignore_case (parser_of_value a.parser) v ≡ true))
+        → HasNumberIfAny a.id low high rows
+    go (inl none) = subst (λ (o : Option Text). IfSome o (IsUnsignedIn low high)) (sym none) tt
+    go (inr got) =
+        let as_parsed : accepts a.ignore_case (vp.Unsigned low high) got.0 ≡ true = ap (λ p. accepts a.ignore_case (parser_of_value p) got.0) (sym parser) ∙ got.2 in
+        let is : one_of a.id rows ≡ Some got.0 = got.1 ∙ ap (λ p. Some (read_as (reading_of (parser_of_value p)) got.0)) parser in
+        subst (λ (o : Option Text). IfSome o (IsUnsignedIn low high)) (sym is) (accepts-Accepts a.ignore_case (vp.Unsigned low high) got.0 as_parsed)
 
 flag_given : (a : Rule) (rows : List Row) → GivesValue rows a → a.parser ≡ Some vp.Bool
     → keeps_values a ≡ true → is_empty a.defaults ≡ false → HasFlag a.id rows
@@ -118,7 +136,7 @@ GivesIfFaultless s = (words : List Text) → level_fault s [] nothing_held words
 firsts : Each (λ s. Each (IsFirst s.rules) s.rules) (built tsume_line).subs
 unfolding tsume_line
 firsts = (
-  (refl, (refl, (refl, (refl, (refl, (refl, (refl, (refl, (refl, tt))))))))),
+  (refl, (refl, (refl, (refl, (refl, (refl, (refl, (refl, (refl, (refl, (refl, tt))))))))))),
   ((refl, (refl, (refl, (refl, tt)))), ((refl, tt), tt)),
 )
 
@@ -130,8 +148,10 @@ solve_given words all = record {
   room = number_given _ 1 MOST_ROOM _ all.1.1.0 refl refl refl;
   rows = number_given _ LEAST_ROWS MOST_ROWS _ all.1.1.1.0 refl refl refl;
   shards = number_given _ 1 MOST_SHARDS _ all.1.1.1.1.0 refl refl refl;
-  kif = flag_given _ _ all.1.1.1.1.1.0 refl refl refl;
-  rest = flag_given _ _ all.1.1.1.1.1.1.0 refl refl refl;
+  deadline = number_if_any _ 1 MOST_DEADLINE _ all.1.1.1.1.1.0 refl refl;
+  kif = flag_given _ _ all.1.1.1.1.1.1.0 refl refl refl;
+  rest = flag_given _ _ all.1.1.1.1.1.1.1.0 refl refl refl;
+  progress = flag_given _ _ all.1.1.1.1.1.1.1.1.0 refl refl refl;
 }
 
 check_given : (words : List Text) → Each (GivesValue (rows_after check_shape.rules [] words)) check_shape.rules

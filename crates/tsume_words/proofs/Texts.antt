@@ -1,13 +1,13 @@
 -- What clap's getters read of the rows that they find.
-use Rattle.std.proofs.Common.{◌≡◌, ◌∙◌, ◌<◌, ◌⊎◌, ◌^◌, ℕ, Bool, true, false, List, Option, Some, None, Result, Ok, Err, refl, sym, ap, codes, inl, inr}
-use Rattle.std.specs.Prelude.{IsSomeAnd}
-use Rattle.std.specs.Option.{option_map_or}
+use Rattle.std.proofs.Common.{◌≡◌, ◌∙◌, ◌<◌, ◌⊎◌, ◌^◌, ℕ, Bool, true, false, List, Option, Some, None, Result, Ok, Err, refl, sym, ap, subst, codes, inl, inr}
+use Rattle.std.specs.Prelude.{IsSomeAnd, IfSome, option_map}
+use Rattle.std.specs.Option.{option_map_or, ForSome}
 use Rattle.std.specs.Str.{bytes_eq}
 use Rattle.std.specs.Str.Parse.{IsNumeral, ParsesUnsigned, digits_value, without_leading_plus}
 use Rattle.clap.specs.Matches.{ReadsOne}
 use Rattle.clap.specs.Values.{IsUnsignedIn}
 use Rattle.clap.specs.Walk.{Row, Text, one_of}
-use Rattle.tsume_words.specs.Given.{HasNumber, IsNumberGiven, number_of}
+use Rattle.tsume_words.specs.Given.{HasNumber, HasNumberIfAny, IsNumberGiven, IsNumberIfAny, number_if_given, number_of}
 use Rattle.tsume_words.specs.Sizes.{IsFromTo}
 
 -- a number that reads is the one that its text writes
@@ -35,6 +35,34 @@ within_by : (low high : ℕ) (o : Option Text) → IsSomeAnd o (IsUnsignedIn low
     → IsFromTo low high (option_map_or (λ t. digits_value 10 (without_leading_plus t)) o 0)
 within_by low high None has = absurd has
 within_by low high (Some t) has = (has.2, has.3)
+
+-- the same of an option that may have none
+pub number_read_if : {E : Type 0} (G : List ℕ → Result ℕ E → Type 0) (o : Option Text) (r : Option ℕ) → (o ≡ None → r ≡ None)
+    → ((t : Text) → o ≡ Some t → ReadsOne G t r) → ((u : Text) (x : Result ℕ E) → G u x → ParsesUnsigned 64 10 u x)
+    → IfSome o (λ t. IsNumeral 10 (without_leading_plus t) × (digits_value 10 (without_leading_plus t) < 2 ^ 64))
+    → r ≡ option_map (λ t. digits_value 10 (without_leading_plus t)) o
+number_read_if G None r none reads only has = none refl
+number_read_if G (Some t) r none reads only has = number_read G (Some t) r reads only has
+
+readable_if_by : (low high : ℕ) (o : Option Text) → IfSome o (IsUnsignedIn low high)
+    → IfSome o (λ t. IsNumeral 10 (without_leading_plus t) × (digits_value 10 (without_leading_plus t) < 2 ^ 64))
+readable_if_by low high None has = has
+readable_if_by low high (Some t) has = (has.0, has.1)
+
+-- if there is a number, it can be read
+pub readable_if : (name : Text) (low high : ℕ) (found : List Row) → HasNumberIfAny name low high found → IsNumberIfAny name found
+readable_if name low high found has = readable_if_by low high (one_of name found) has
+
+within_if_by : (low high : ℕ) (o : Option Text) → IfSome o (IsUnsignedIn low high)
+    → ForSome (option_map (λ t. digits_value 10 (without_leading_plus t)) o) (IsFromTo low high)
+within_if_by low high None has = λ n e. absurd cc
+within_if_by low high (Some t) has = λ n e.
+    let is : digits_value 10 (without_leading_plus t) ≡ n = cc in
+    subst (IsFromTo low high) is (has.2, has.3)
+
+-- and lies in its range
+pub within_if : (name : Text) (low high : ℕ) (found : List Row) → HasNumberIfAny name low high found → ForSome (number_if_given name found) (IsFromTo low high)
+within_if name low high found has = within_if_by low high (one_of name found) has
 
 -- and lies in its range
 pub within : (name : Text) (low high : ℕ) (found : List Row) → HasNumber name low high found → IsFromTo low high (number_of name found)

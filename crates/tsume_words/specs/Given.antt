@@ -1,6 +1,6 @@
 -- What clap gives for the words of the command line, by its own meaning of the command.
 use Rattle.std.specs.Prelude.{◌≡◌, ◌<◌, ◌^◌, ℕ, Bool, true, false, List, [], ◌∷◌, Option, Some, None, codes}
-use Rattle.std.specs.Prelude.{◌⊎◌, IsSomeAnd, option_and_then, if◌then◌else◌}
+use Rattle.std.specs.Prelude.{◌⊎◌, IsSomeAnd, IfSome, option_and_then, option_map, if◌then◌else◌}
 use Rattle.std.specs.Option.{option_map_or}
 use Rattle.std.specs.Str.{bytes_eq}
 use Rattle.std.specs.Str.Parse.{IsNumeral, digits_value, without_leading_plus}
@@ -12,6 +12,7 @@ use Rattle.tsume_words.specs.declared.form.Format.{Format}
 use Rattle.tsume_words.specs.declared.form.Format.TheVariants.{Sfen, Kif}
 use Rattle.tsume_words.specs.declared.form.ProblemForm.{ProblemForm}
 use Rattle.tsume_words.specs.declared.settings.TheConstants.{MOST_WORKERS, MOST_ROOM, LEAST_ROWS, MOST_ROWS, MOST_SHARDS}
+use Rattle.tsume_words.specs.declared.watch.TheConstants.{MOST_DEADLINE}
 use Rattle.search_gate.specs.declared.expansions.TheConstants.{MOST_EXPANSIONS}
 use Rattle.tsume_words.specs.Line.{tsume_line}
 
@@ -51,6 +52,10 @@ pub record AsksForHelp (words : List Text) : Type 0 where
 abbrev pub number_of : Text → List Row → ℕ
 number_of name rows = option_map_or (λ text. digits_value 10 (without_leading_plus text)) (one_of name rows) 0
 
+-- The number that clap gives for an option without a default: none where it isn't among the words.
+abbrev pub number_if_given : Text → List Row → Option ℕ
+number_if_given name rows = option_map (λ text. digits_value 10 (without_leading_plus text)) (one_of name rows)
+
 -- The text that clap gives for an option without a default: none where it isn't among the words.
 abbrev pub text_of : Text → List Row → Option Text
 text_of name rows = first_of name rows
@@ -67,10 +72,15 @@ pub record SettingsView : Type 0 where
   pub rows : ℕ
   pub shards : ℕ
 
--- What a command asks for: to solve, with its numbers and the form of the problem; or to check, with its workers and, where the
--- certificate has to be for a given problem, its text.
+-- How a search is watched: after how many milliseconds it gives up, if at all; and whether the user is told how far it has come.
+pub record WatchView : Type 0 where
+  pub deadline : Option ℕ
+  pub progress : Bool
+
+-- What a command asks for: to solve, with its numbers, the form of the problem and how the search is watched; or to check, with its workers
+-- and, where the certificate has to be for a given problem, its text.
 pub data Wish : Type 0 where
-  to_solve : SettingsView → ProblemForm → Wish
+  to_solve : SettingsView → ProblemForm → WatchView → Wish
   to_check : ℕ → Option Text → Wish
 
 -- The five numbers that clap gives for `solve`.
@@ -95,10 +105,17 @@ form_of found = record {
   rest = is_flagged (codes "rest") found;
 }
 
+-- How the search is watched, by what clap found for `solve`.
+abbrev pub watch_of : List Row → WatchView
+watch_of found = record {
+  deadline = number_if_given (codes "deadline") found;
+  progress = is_flagged (codes "progress") found;
+}
+
 -- What a command of this name asks for, by what clap found for it.
 abbrev pub wish_named : Text × List Row → Option Wish
 wish_named p =
-    if bytes_eq p.0 (codes "solve") then Some (to_solve (settings_of p.1) (form_of p.1))
+    if bytes_eq p.0 (codes "solve") then Some (to_solve (settings_of p.1) (form_of p.1) (watch_of p.1))
     else (if bytes_eq p.0 (codes "check") then Some (to_check (number_of (codes "workers") p.1) (text_of (codes "problem") p.1)) else None)
 
 -- A wish stands where clap found no fault.
@@ -128,6 +145,15 @@ file_of words = option_and_then file_named (subcommand_of tsume_line (all_words 
 abbrev pub HasNumber : Text → ℕ → ℕ → List Row → Type 0
 HasNumber name low high found = IsSomeAnd (one_of name found) (IsUnsignedIn low high)
 
+-- Clap gives a number from low to high for the option of this name, if it gives one.
+abbrev pub HasNumberIfAny : Text → ℕ → ℕ → List Row → Type 0
+HasNumberIfAny name low high found = IfSome (one_of name found) (IsUnsignedIn low high)
+
+-- Clap gives a number of 64 bits for the option of this name, if it gives one.
+abbrev pub IsNumberIfAny : Text → List Row → Type 0
+IsNumberIfAny name found = IfSome (one_of name found) (λ text. IsNumeral 10 (without_leading_plus text)
+    × (digits_value 10 (without_leading_plus text) < 2 ^ 64))
+
 -- Clap gives a number of 64 bits for the option of this name.
 abbrev pub IsNumberGiven : Text → List Row → Type 0
 IsNumberGiven name found = IsSomeAnd (one_of name found) (λ text. IsNumeral 10 (without_leading_plus text)
@@ -144,8 +170,10 @@ pub record IsForSolve (found : List Row) : Type 0 where
   pub room : HasNumber (codes "room") 1 MOST_ROOM found
   pub rows : HasNumber (codes "rows") LEAST_ROWS MOST_ROWS found
   pub shards : HasNumber (codes "shards") 1 MOST_SHARDS found
+  pub deadline : HasNumberIfAny (codes "deadline") 1 MOST_DEADLINE found
   pub kif : HasFlag (codes "kif") found
   pub rest : HasFlag (codes "rest") found
+  pub progress : HasFlag (codes "progress") found
 
 -- What clap gives for one of the two commands, each number in its range.
 abbrev pub IsForCommand : Text × List Row → Type 0

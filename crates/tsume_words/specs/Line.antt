@@ -1,5 +1,6 @@
 -- The command line that clap is given, in clap's own terms.
 use Rattle.tsume_words.specs.declared.settings.TheConstants.{MOST_WORKERS, MOST_ROOM, LEAST_ROWS, MOST_ROWS, MOST_SHARDS}
+use Rattle.tsume_words.specs.declared.watch.TheConstants.{MOST_DEADLINE}
 use Rattle.search_gate.specs.declared.expansions.TheConstants.{MOST_EXPANSIONS}
 use Rattle.std.specs.Prelude.{ℕ, [], ◌∷◌, Some, codes, true}
 use Rattle.clap.specs.Words.{App, Rule, Text, new_app, new_rule, with_rule, with_subcommand}
@@ -36,6 +37,15 @@ rows_option = number_option (codes "rows") LEAST_ROWS MOST_ROWS (codes "65536")
 abbrev pub shards_option : Rule
 shards_option = number_option (codes "shards") 1 MOST_SHARDS (codes "16")
 
+-- The option `--deadline MS` takes a number of milliseconds, 1 to 86,400,000, and has no default.
+abbrev pub deadline_option : Rule
+deadline_option = record (new_rule (codes "deadline")) {
+  long = Some (codes "deadline");
+  action = Some Set;
+  value_names = 1;
+  parser = Some (Unsigned 1 MOST_DEADLINE);
+}
+
 -- The option `--problem SFEN` takes any text, and has no default.
 abbrev pub problem_option : Rule
 problem_option = record (new_rule (codes "problem")) {
@@ -58,6 +68,13 @@ rest_flag = record (new_rule (codes "rest")) {
   action = Some SetTrue;
 }
 
+-- The flag `--progress` takes no value.
+abbrev pub progress_flag : Rule
+progress_flag = record (new_rule (codes "progress")) {
+  long = Some (codes "progress");
+  action = Some SetTrue;
+}
+
 -- The word FILE may be any.
 abbrev pub file_word : Rule
 file_word = record (new_rule (codes "file")) {
@@ -65,9 +82,11 @@ file_word = record (new_rule (codes "file")) {
   value_names = 1;
 }
 
--- `solve` has the five numbers, the two flags and the file.
+-- `solve` has the five numbers, the deadline, the three flags and the file.
 abbrev pub solve_line : App
 solve_line = with_rule
+    (with_rule
+    (with_rule
     (with_rule
     (with_rule
     (with_rule
@@ -77,8 +96,10 @@ solve_line = with_rule
     room_option)
     rows_option)
     shards_option)
+    deadline_option)
     kif_flag)
     rest_flag)
+    progress_flag)
     file_word
 
 -- `check` has the workers, the problem and the file.

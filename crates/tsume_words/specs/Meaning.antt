@@ -3,7 +3,7 @@ use Rattle.std.specs.Prelude.{◌≡◌, ◌<◌, ℕ, Result, Ok, Err, String, 
 use Rattle.std.specs.Prelude.{if◌then◌else◌, nat_le, IsSomeAnd, ⊤}
 use Rattle.std.specs.Int.{IsPowerOfTwo, is_power_of_two}
 use Rattle.clap.specs.Words.{Text}
-use Rattle.tsume_words.specs.Given.{SettingsView, Wish, given_of, is_help, MayAskForHelp, MayBeRefused}
+use Rattle.tsume_words.specs.Given.{SettingsView, WatchView, Wish, given_of, is_help, MayAskForHelp, MayBeRefused}
 use Rattle.tsume_words.specs.Given.Wish.{to_solve, to_check}
 use Rattle.tsume_words.specs.declared.command.Command.{Command}
 use Rattle.tsume_words.specs.declared.command.Asked.{Asked}
@@ -15,6 +15,7 @@ use Rattle.tsume_words.specs.declared.faults.WordsEnd.{WordsEnd}
 use Rattle.tsume_words.specs.declared.faults.WordsEnd.TheVariants.{Help, Fault, NoMemory}
 use Rattle.clap.specs.declared.error.kind.ErrorKind.{ErrorKind}
 use Rattle.tsume_words.specs.declared.settings.Settings.{Settings}
+use Rattle.tsume_words.specs.declared.watch.Watch.{Watch}
 
 -- The rows and the shards are powers of two, and there are no more shards than rows.
 abbrev pub are_sound : SettingsView → Bool
@@ -22,7 +23,7 @@ are_sound n = is_power_of_two n.rows && (is_power_of_two n.shards && nat_le n.sh
 
 -- A wish to solve stands where its numbers are sound, a wish to check always.
 abbrev pub sound_wish : Wish → Option Wish
-sound_wish (to_solve settings form) = if are_sound settings then Some (to_solve settings form) else None
+sound_wish (to_solve settings form watch) = if are_sound settings then Some (to_solve settings form watch) else None
 sound_wish (to_check workers problem) = Some (to_check workers problem)
 
 -- What the words ask for: none where clap refuses them or one of the three tests after it fails.
@@ -39,14 +40,18 @@ settings_in s = record {
   shards = s.shards;
 }
 
+-- How a search is watched.
+abbrev pub watch_in : Watch → WatchView
+watch_in w = record { deadline = w.deadline; progress = w.progress }
+
 -- What a command asks for.
 abbrev pub wish_of : Command → Wish
-wish_of (Solve settings form) = to_solve (settings_in settings) form
+wish_of (Solve settings form watch) = to_solve (settings_in settings) form (watch_in watch)
 wish_of (Check workers problem) = to_check workers (option_map string_bytes problem)
 
 -- By how many workers a command is to be done.
 abbrev pub workers_of : Command → ℕ
-workers_of (Solve settings form) = settings.workers
+workers_of (Solve settings form watch) = settings.workers
 workers_of (Check workers problem) = workers
 
 -- The numbers fail this test and pass those before it: the rows are a power of two, then the shards, and then there are
@@ -59,7 +64,7 @@ FailFirst (Clap text) n = ⊥
 
 -- The wish is to solve with numbers of which this test is the first to fail.
 abbrev pub IsStoppedBy : WordFault → Wish → Type 0
-IsStoppedBy fault (to_solve settings form) = FailFirst fault settings
+IsStoppedBy fault (to_solve settings form watch) = FailFirst fault settings
 IsStoppedBy fault (to_check workers problem) = ⊥
 
 -- Clap takes the words, and this test after it is the first to fail.

@@ -1,13 +1,14 @@
 // The commands of the program.
-use crate::{ProblemForm, Settings};
+use crate::{ProblemForm, Settings, Watch};
 
 /// What the words of the command line ask for.
 #[derive(Debug, Drop)]
 pub enum Command {
-    /// Solve the problem that is read, which has this form.
+    /// Solve the problem that is read, which has this form, and watch the search so.
     Solve {
         settings: Settings,
         form: ProblemForm,
+        watch: Watch,
     },
     /// Check the certificate that is read, by this many threads; from the words come 1 to 64. With a `problem` (its SFEN, as
     /// the words have it) the certificate has to be for that one.

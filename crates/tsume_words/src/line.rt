@@ -2,10 +2,11 @@
 ghost use Rattle.std.specs.Prelude.{◌≡◌, IfOk, false};
 ghost use Rattle.clap.specs.Words.{app_of, rule_of};
 ghost use Rattle.clap.specs.declared.builder.command.Command.TheViews.{out-Command as fields_of};
-ghost use Rattle.tsume_words.specs.Line.{number_option, workers_option, expansions_option, room_option, rows_option, shards_option, problem_option, kif_flag, rest_flag, file_word, solve_line};
+ghost use Rattle.tsume_words.specs.Line.{number_option, workers_option, expansions_option, room_option, rows_option, shards_option, deadline_option, problem_option, kif_flag, rest_flag, progress_flag, file_word, solve_line};
 ghost use Rattle.tsume_words.specs.Line.{check_line, tsume_line};
 
 use crate::settings::{LEAST_ROWS, MOST_ROOM, MOST_ROWS, MOST_SHARDS, MOST_WORKERS};
+use crate::watch::MOST_DEADLINE;
 use clap::builder::ValueParser;
 use clap::{Arg, ArgAction, Command};
 use search_gate::MOST_EXPANSIONS;
@@ -70,8 +71,8 @@ fn room_option<'a>(alloc: Global) -> Arg<'a>
         MOST_ROOM,
         "1048576",
         "Solved positions that it may note down before it gives\n\
-         up, 1 to 1400000, and so the most entries of a\n\
-         certificate; each takes some 400 bytes",
+         up, 1 to 1400000, and so the most that a certificate\n\
+         lists; each takes some 400 bytes",
     )
 }
 
@@ -87,7 +88,8 @@ fn rows_option<'a>(alloc: Global) -> Arg<'a>
         "65536",
         "Rows of the table in which it keeps what it knows, a\n\
          power of two, 16 to 1048576. A row takes 1 KB, all at\n\
-         once. More help a search of more than a million visits",
+         once. More help where a million visits\n\
+         aren't enough",
     )
 }
 
@@ -105,6 +107,23 @@ fn shards_option<'a>(alloc: Global) -> Arg<'a>
         "Parts of the table, a power of two (1 to 64), at most the rows",
     )
     .hide(true)
+}
+
+fn deadline_option<'a>(alloc: Global) -> Arg<'a>
+    ensures rule { rule_of result ≡ deadline_option }
+    ensures local { result.global ≡ false }
+{
+    Arg::new(alloc, "deadline")
+        .long("deadline")
+        .action(ArgAction::Set)
+        .value_name("MS")
+        .value_parser(ValueParser::unsigned(1, MOST_DEADLINE))
+        .help(
+            "Milliseconds after which it gives up, 1 to 86400000 (a\n\
+             day), counted from when the problem is read and the\n\
+             search begins. Whether it gives up then depends on the\n\
+             machine. Default: no end in time",
+        )
 }
 
 fn problem_option<'a>(alloc: Global) -> Arg<'a>
@@ -151,6 +170,21 @@ fn rest_flag<'a>(alloc: Global) -> Arg<'a>
         )
 }
 
+fn progress_flag<'a>(alloc: Global) -> Arg<'a>
+    ensures rule { rule_of result ≡ progress_flag }
+    ensures local { result.global ≡ false }
+{
+    Arg::new(alloc, "progress")
+        .long("progress")
+        .action(ArgAction::SetTrue)
+        .help(
+            "Tell on standard error, a few times a second, how many\n\
+             visits were used, and at the end how many it took. The\n\
+             answer stays the same. Off unless given; it costs next\n\
+             to nothing",
+        )
+}
+
 fn file_word<'a>(alloc: Global, help: &'a str) -> Arg<'a>
     ensures rule { rule_of result ≡ file_word }
     ensures local { result.global ≡ false }
@@ -181,8 +215,10 @@ fn solve_command<'a>(alloc: Global) -> Result<Command<'a>, AllocError>
         .arg(room_option(alloc))?
         .arg(rows_option(alloc))?
         .arg(shards_option(alloc))?
+        .arg(deadline_option(alloc))?
         .arg(kif_flag(alloc))?
         .arg(rest_flag(alloc))?
+        .arg(progress_flag(alloc))?
         .arg(file_word(
             alloc,
             "The problem's file, 65536 bytes at most; - or none: standard input",

@@ -4,17 +4,18 @@ ghost use Rattle.std.specs.Prelude.{option_and_then};
 ghost use Rattle.std.specs.Int.{IsPowerOfTwo, is_power_of_two};
 ghost use Rattle.clap.specs.Words.{found_of, kind_of, rows_of, subcommand_rows_of};
 ghost use Rattle.tsume_words.specs.Given.{AsksForHelp, HasFlag, HasNumber, IsForCommand, IsForSolve, IsNumberGiven, Wish, file_named, file_of, is_help};
-ghost use Rattle.tsume_words.specs.Given.{all_words, form_of, is_flagged, number_of, settings_of, but_dash, text_of, wish_named};
+ghost use Rattle.tsume_words.specs.Given.{HasNumberIfAny, IsNumberIfAny, all_words, form_of, is_flagged, number_of, number_if_given, settings_of, but_dash, text_of, watch_of, wish_named};
 ghost use Rattle.tsume_words.specs.Given.Wish.{to_solve, to_check};
 ghost use Rattle.tsume_words.specs.Meaning.{IsOutcomeFor, FailsFirst, IsClapsEnd, IsEndFor, IsHelp, command_of};
-ghost use Rattle.tsume_words.specs.Meaning.{texts_of, wish_of, workers_of};
+ghost use Rattle.tsume_words.specs.Meaning.{texts_of, watch_in, wish_of, workers_of};
 ghost use Rattle.tsume_words.specs.Sizes.{IsFromTo};
 ghost use Rattle.tsume_words.specs.declared.faults.WordFault.{WordFault};
 ghost use Rattle.tsume_words.specs.declared.settings.TheConstants.{MOST_WORKERS, MOST_ROOM};
+ghost use Rattle.tsume_words.specs.declared.watch.TheConstants.{MOST_DEADLINE};
 ghost use Rattle.search_gate.specs.declared.expansions.TheConstants.{MOST_EXPANSIONS};
 
 use crate::line::command_line;
-use crate::{Asked, Command, Format, ProblemForm, Settings, Size, WordFault, WordsEnd};
+use crate::{Asked, Command, Format, ProblemForm, Settings, Size, Watch, WordFault, WordsEnd};
 use clap::ArgMatches;
 use clap::error::ErrorKind;
 use search_gate::Expansions;
@@ -164,6 +165,25 @@ fn form(given: &ArgMatches<'_>) -> ProblemForm
     ProblemForm { format, rest }
 }
 
+// The number that clap gives for the option of this name, which has no default.
+fn number_if_given(given: &ArgMatches<'_>, name: &str) -> Option<u64>
+    requires { IsNumberIfAny name.now (rows_of (found_of given.now)) }
+    ensures { result ≡ number_if_given name.now (rows_of (found_of given.now)) }
+{
+    given.get_one::<u64>(name)
+}
+
+// How the words say that the search is watched.
+fn watch(given: &ArgMatches<'_>) -> Watch
+    requires deadline { HasNumberIfAny (codes "deadline") 1 MOST_DEADLINE (rows_of (found_of given.now)) }
+    requires progress { HasFlag (codes "progress") (rows_of (found_of given.now)) }
+    ensures { watch_in result ≡ watch_of (rows_of (found_of given.now)) }
+{
+    let deadline = number_if_given(given, "deadline");
+    let progress = is_flagged(given, "progress");
+    Watch { deadline, progress }
+}
+
 // The text that clap gives for the option of this name.
 fn text(alloc: Global, given: &ArgMatches<'_>, name: &str) -> Result<Option<String>, AllocError>
     ensures { IfOk result (λ text. option_map string_bytes text ≡ text_of name.now (rows_of (found_of given.now))) }
@@ -214,7 +234,7 @@ fn check(alloc: Global, given: &ArgMatches<'_>) -> Result<Asked, WordsEnd>
 fn solve(alloc: Global, given: &ArgMatches<'_>) -> Result<Asked, WordsEnd>
     requires { IsForSolve (rows_of (found_of given.now)) }
     ensures outcome { let found = rows_of (found_of given.now) in
-        IsOutcomeFor (to_solve (settings_of found) (form_of found)) result }
+        IsOutcomeFor (to_solve (settings_of found) (form_of found) (watch_of found)) result }
     ensures file { IfOk result (λ asked. option_map string_bytes asked.file ≡ but_dash (text_of (codes "file") (rows_of (found_of given.now)))) }
     ensures workers { IfOk result (λ asked. IsFromTo 1 MOST_WORKERS (workers_of asked.command)) }
 {
@@ -224,6 +244,7 @@ fn solve(alloc: Global, given: &ArgMatches<'_>) -> Result<Asked, WordsEnd>
     let rows = number(given, "rows");
     let shards = number(given, "shards");
     let form = form(given);
+    let watch = watch(given);
     if !is_power_of_two(rows) {
         return Err(WordsEnd::Fault(WordFault::NotPowerOfTwo(Size::Rows)));
     }
@@ -240,7 +261,11 @@ fn solve(alloc: Global, given: &ArgMatches<'_>) -> Result<Asked, WordsEnd>
         rows,
         shards,
     };
-    let command = Command::Solve { settings, form };
+    let command = Command::Solve {
+        settings,
+        form,
+        watch,
+    };
     let file = file(alloc, given)?;
     Ok(Asked { command, file })
 }

@@ -3,9 +3,9 @@ use super::*;
 use std::alloc::{AllocError, Global};
 use std::test::Fail;
 
-// A line, and what it asks for: the numbers in the order of the settings, whether `--rest` stands, and `kif` where `--kif` does; or the
-// workers; and the file.
-static ASKED: [(&str, &str); 28] = [
+// A line, and what it asks for: the numbers in the order of the settings, whether `--rest` stands, `kif` where `--kif` does, `until` the
+// deadline, and `telling` where `--progress` stands; or the workers; and the file.
+static ASKED: [(&str, &str); 30] = [
     ("solve", "solve 1 1000000 1048576 65536 16 false"),
     ("solve --rest", "solve 1 1000000 1048576 65536 16 true"),
     ("solve --kif", "solve 1 1000000 1048576 65536 16 false kif"),
@@ -34,24 +34,32 @@ static ASKED: [(&str, &str); 28] = [
         "solve --expansions 1000000000",
         "solve 1 1000000000 1048576 65536 16 false",
     ),
-    ("solve --room 1", "solve 1 1000000 1 16384 16 false"),
+    ("solve --room 1", "solve 1 1000000 1 65536 16 false"),
     (
         "solve --room 1400000",
-        "solve 1 1000000 1400000 16384 16 false",
+        "solve 1 1000000 1400000 65536 16 false",
     ),
     ("solve --rows 16", "solve 1 1000000 1048576 16 16 false"),
     (
         "solve --rows 1048576",
         "solve 1 1000000 1048576 1048576 16 false",
     ),
-    ("solve --shards 1", "solve 1 1000000 1048576 16384 1 false"),
+    ("solve --shards 1", "solve 1 1000000 1048576 65536 1 false"),
     (
         "solve --shards 64",
-        "solve 1 1000000 1048576 16384 64 false",
+        "solve 1 1000000 1048576 65536 64 false",
     ),
     (
         "solve --rest --shards 2 --rows 32 --room 3 --expansions 4 --workers 5",
         "solve 5 4 3 32 2 true",
+    ),
+    (
+        "solve --deadline 1",
+        "solve 1 1000000 1048576 65536 16 false until 1",
+    ),
+    (
+        "solve --progress --deadline 86400000",
+        "solve 1 1000000 1048576 65536 16 false until 86400000 telling",
     ),
     ("check", "check 1"),
     ("check --workers 3", "check 3"),
@@ -70,7 +78,7 @@ static ASKED: [(&str, &str); 28] = [
 ];
 
 // A line that is refused, and how its text begins.
-static REFUSED: [(&str, &str); 23] = [
+static REFUSED: [(&str, &str); 24] = [
     ("solve --rows 16 --shards 32", "more shards than rows"),
     ("", "Solves tsume-shogi problems"),
     ("dance", "error: unrecognized subcommand 'dance'"),
@@ -138,6 +146,10 @@ static REFUSED: [(&str, &str); 23] = [
         "error: invalid value '65' for '--shards <N>'",
     ),
     (
+        "solve --deadline 0",
+        "error: invalid value '0' for '--deadline <MS>': 0 is not in 1..=86400000",
+    ),
+    (
         "solve --workers 3 --workers 4",
         "error: the argument '--workers <N>' cannot be used multiple times",
     ),
@@ -148,7 +160,7 @@ static REFUSED: [(&str, &str); 23] = [
 ];
 
 // A request for help or for the version, and a part of its text.
-static HELPED: [(&str, &str); 16] = [
+static HELPED: [(&str, &str); 17] = [
     ("--version", "tsume 0.1.0\n"),
     ("-V --help", "tsume 0.1.0\n"),
     ("--help", "Usage: tsume <COMMAND>\n"),
@@ -159,12 +171,19 @@ static HELPED: [(&str, &str); 16] = [
     ("help", "\n  check  Checks a certificate, alone or behind"),
     (
         "solve --help",
-        "\n      --expansions <N>  Positions, of both sides, whose moves may be listed\n",
+        "\n      --expansions <N>  Visits of positions, of both sides, before it gives up,\n",
     ),
-    ("solve --workers 3 -h", " 1 to 1000000000; a million cost\n"),
+    (
+        "solve --workers 3 -h",
+        " search comes back to it [default: 1000000]\n",
+    ),
     (
         "help solve",
-        " 10 to 20 seconds and up to 4 GB [default: 1000000]\n",
+        "\n      --deadline <MS>   Milliseconds after which it gives up",
+    ),
+    (
+        "solve -h",
+        "\n      --progress        Tell on standard error",
     ),
     (
         "solve --rows 24 -h",
@@ -189,7 +208,7 @@ static HELPED: [(&str, &str); 16] = [
 ];
 
 // What has no effect yet, and isn't shown.
-static HIDDEN: [&str; 4] = ["--workers", "--room", "--rows", "--shards"];
+static HIDDEN: [&str; 2] = ["--workers", "--shards"];
 
 fn words_of(alloc: Global, line: &str) -> Result<Vec<String>, AllocError> {
     let mut words = Vec::new(alloc);
@@ -201,7 +220,11 @@ fn words_of(alloc: Global, line: &str) -> Result<Vec<String>, AllocError> {
 
 fn command_text(alloc: Global, command: &Command) -> Result<String, AllocError> {
     match command {
-        Command::Solve { settings, form } => {
+        Command::Solve {
+            settings,
+            form,
+            watch,
+        } => {
             let Settings {
                 workers,
                 expansions,
@@ -215,7 +238,14 @@ fn command_text(alloc: Global, command: &Command) -> Result<String, AllocError> 
                 Format::Sfen => "",
                 Format::Kif => " kif",
             };
-            format!(in alloc; "solve {workers} {expansions} {room} {rows} {shards} {rest}{kif}")
+            let telling = if watch.progress { " telling" } else { "" };
+            let solve = format!(in alloc;
+                "solve {workers} {expansions} {room} {rows} {shards} {rest}{kif}"
+            )?;
+            match watch.deadline {
+                Some(end) => format!(in alloc; "{solve} until {end}{telling}"),
+                None => format!(in alloc; "{solve}{telling}"),
+            }
         }
         Command::Check { workers, problem } => match problem {
             Some(problem) => format!(in alloc; "check {workers} {problem}"),

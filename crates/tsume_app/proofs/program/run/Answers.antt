@@ -3,6 +3,7 @@ use Rattle.tsume_words.specs.Meaning.{texts_of}
 use Rattle.tsume_app.specs.declared.ended.Ended.{Ended}
 use Rattle.std.proofs.Common.{subst}
 use Rattle.tsume_app.specs.Outside.{shown}
+use Rattle.tsume_app.specs.Stops.{signals}
 use Rattle.tsume_app.specs.Run.{IsEnded}
 use Rattle.tsume_app.proofs.Complete.{complete_of}
 use Rattle.tsume_app.proofs.Promises.{mate_of, no_mate_of, unknown_of, own_mate_of, own_no_mate_of, accepted_of}
@@ -10,46 +11,53 @@ use Rattle.tsume_app.proofs.program.run.Goals as goal
 
 pub returns-clause-mate : goal.returns-clause-mate
 returns-clause-mate g c = λ form input certificate moves asks told is.
+    let stops = signals g.T.Stop.signal c.args.stops.now c.words_ended.new.stops in
     let source = shown g.S.Source.left g.S.Source.faults c.args.source.now c.words_ended.new.source in
     let sink = shown g.K.Sink.kept g.K.Sink.faults c.args.sink.now c.words_ended.new.sink in
-    mate_of asks.0 form source sink input certificate moves
-    (subst (λ (e : Ended). IsEnded (to_solve asks.0 form) source sink e) is (c.words_ended.ensures.ended (to_solve asks.0 form) asks.1)) told
+    mate_of asks.0 form asks.1 stops source sink input certificate moves
+    (subst (λ (e : Ended). IsEnded (to_solve asks.0 form asks.1) stops source sink e) is (c.words_ended.ensures.ended (to_solve asks.0 form asks.1) asks.2)) told
 
 pub returns-clause-no_mate : goal.returns-clause-no_mate
 returns-clause-no_mate g c = λ form input certificate asks told is.
+    let stops = signals g.T.Stop.signal c.args.stops.now c.words_ended.new.stops in
     let source = shown g.S.Source.left g.S.Source.faults c.args.source.now c.words_ended.new.source in
     let sink = shown g.K.Sink.kept g.K.Sink.faults c.args.sink.now c.words_ended.new.sink in
-    no_mate_of asks.0 form source sink input certificate
-    (subst (λ (e : Ended). IsEnded (to_solve asks.0 form) source sink e) is (c.words_ended.ensures.ended (to_solve asks.0 form) asks.1)) told
+    no_mate_of asks.0 form asks.1 stops source sink input certificate
+    (subst (λ (e : Ended). IsEnded (to_solve asks.0 form asks.1) stops source sink e) is (c.words_ended.ensures.ended (to_solve asks.0 form asks.1) asks.2)) told
 
 pub returns-clause-gave_up : goal.returns-clause-gave_up
-returns-clause-gave_up g c = λ settings form input cause crew asks told is.
+returns-clause-gave_up g c = λ settings form watch input cause crew asks told is.
+    let stops = signals g.T.Stop.signal c.args.stops.now c.words_ended.new.stops in
     let source = shown g.S.Source.left g.S.Source.faults c.args.source.now c.words_ended.new.source in
     let sink = shown g.K.Sink.kept g.K.Sink.faults c.args.sink.now c.words_ended.new.sink in
-    unknown_of settings form source sink input cause crew
-    (subst (λ (e : Ended). IsEnded (to_solve settings form) source sink e) is (c.words_ended.ensures.ended (to_solve settings form) asks)) told
+    unknown_of settings form watch stops source sink input cause crew
+    (subst (λ (e : Ended). IsEnded (to_solve settings form watch) stops source sink e) is (c.words_ended.ensures.ended (to_solve settings form watch) asks)) told
 
 pub returns-clause-own_mate : goal.returns-clause-own_mate
 returns-clause-own_mate g c = λ certificate moves is.
+    let stops = signals g.T.Stop.signal c.args.stops.now c.words_ended.new.stops in
     let source = shown g.S.Source.left g.S.Source.faults c.args.source.now c.words_ended.new.source in
     let sink = shown g.K.Sink.kept g.K.Sink.faults c.args.sink.now c.words_ended.new.sink in
-    own_mate_of (texts_of c.args.words.items) source sink c.words_ended.result certificate moves c.words_ended.ensures.ended c.words_ended.ensures.words is
+    own_mate_of (texts_of c.args.words.items) stops source sink c.words_ended.result certificate moves c.words_ended.ensures.ended c.words_ended.ensures.words is
 
 pub returns-clause-own_no_mate : goal.returns-clause-own_no_mate
 returns-clause-own_no_mate g c = λ certificate is.
+    let stops = signals g.T.Stop.signal c.args.stops.now c.words_ended.new.stops in
     let source = shown g.S.Source.left g.S.Source.faults c.args.source.now c.words_ended.new.source in
     let sink = shown g.K.Sink.kept g.K.Sink.faults c.args.sink.now c.words_ended.new.sink in
-    own_no_mate_of (texts_of c.args.words.items) source sink c.words_ended.result certificate c.words_ended.ensures.ended c.words_ended.ensures.words is
+    own_no_mate_of (texts_of c.args.words.items) stops source sink c.words_ended.result certificate c.words_ended.ensures.ended c.words_ended.ensures.words is
 
 pub returns-clause-accepted : goal.returns-clause-accepted
 returns-clause-accepted g c = λ problem input claim entries asks told whole.
+    let stops = signals g.T.Stop.signal c.args.stops.now c.words_ended.new.stops in
     let source = shown g.S.Source.left g.S.Source.faults c.args.source.now c.words_ended.new.source in
     let sink = shown g.K.Sink.kept g.K.Sink.faults c.args.sink.now c.words_ended.new.sink in
-    accepted_of c.text_laws.ensures asks.0 problem source sink input claim entries c.words_ended.result
+    accepted_of c.text_laws.ensures asks.0 problem stops source sink input claim entries c.words_ended.result
     (c.words_ended.ensures.ended (to_check asks.0 problem) asks.1) told whole
 
 pub returns-clause-complete : goal.returns-clause-complete
 returns-clause-complete g c = λ wish asks posed sound kept.
+    let stops = signals g.T.Stop.signal c.args.stops.now c.words_ended.new.stops in
     let source = shown g.S.Source.left g.S.Source.faults c.args.source.now c.words_ended.new.source in
     let sink = shown g.K.Sink.kept g.K.Sink.faults c.args.sink.now c.words_ended.new.sink in
-    complete_of c.text_laws.ensures wish source sink c.words_ended.result (c.words_ended.ensures.ended wish asks) posed sound kept
+    complete_of c.text_laws.ensures wish stops source sink c.words_ended.result (c.words_ended.ensures.ended wish asks) posed sound kept

@@ -1,11 +1,14 @@
-use Rattle.std.proofs.Common.{◌≡◌, ◌⊎◌, inl, inr, List, String, Global, Result, Ok, Err, ap, sym, subst, ◌∙◌}
-use Rattle.tsume_words.specs.Meaning.{FailsFirst, texts_of}
+use Rattle.std.proofs.Common.{◌≡◌, ◌⊎◌, inl, inr, List, Option, Some, String, Global, Result, Ok, Err, refl, ap, sym, subst, ◌∙◌}
+use Rattle.tsume_words.specs.Meaning.{FailsFirst, command_of, texts_of, wish_of}
 use Rattle.tsume_words.specs.declared.command.Asked.{Asked}
 use Rattle.tsume_words.specs.declared.faults.WordFault.{WordFault}
 use Rattle.tsume_words.specs.declared.faults.WordsEnd.{WordsEnd}
 use Rattle.tsume_words.specs.declared.faults.WordsEnd.TheVariants as ends
 use Rattle.app_texts.specs.declared.answer.Answer.TheVariants as answers
+use Rattle.tsume_words.specs.Given.{Wish}
 use Rattle.tsume_app.specs.Outside.{shown}
+use Rattle.tsume_app.specs.Stops.{AreUsedTill, deadline_in, signals}
+use Rattle.tsume_app.proofs.Armed.{used_till}
 use Rattle.tsume_app.proofs.Running.{help_of}
 use Rattle.tsume_app.proofs.program.words_ended.Goals as goal
 
@@ -45,3 +48,15 @@ pub returns-in-Err-Help-clause-help : goal.returns-in-Err-Help-clause-help
 returns-in-Err-Help-clause-help g c = λ asks kept.
     help_of (shown g.K.Sink.kept g.K.Sink.faults c.args.sink.now c.write_answer.new.sink) (answers.Help c.in-Err-Help.text) c.write_answer.result tt
     c.write_answer.ensures kept
+
+pub returns-in-Ok-clause-used : goal.returns-in-Ok-clause-used
+returns-in-Ok-clause-used g c =
+    let stops = signals g.T.Stop.signal c.args.stops.now c.command_ended.new.stops in
+    let is : command_of (texts_of c.args.words.items) ≡ Some (wish_of c.in-Ok.asked.command) =
+    subst (λ (ws : List (String Global)). command_of (texts_of ws) ≡ Some (wish_of c.in-Ok.asked.command)) c.deref.ensures.value c.in-Ok.ensures.command in
+    subst (λ (wish : Option Wish). AreUsedTill (deadline_in wish) stops c.command_ended.result) (sym is) c.command_ended.ensures.used
+
+pub returns-in-Err-Help-clause-used : goal.returns-in-Err-Help-clause-used
+returns-in-Err-Help-clause-used g c =
+    used_till (deadline_in (command_of (texts_of c.args.words.items))) (signals g.T.Stop.signal c.args.stops.now c.args.stops.now)
+    (shown g.K.Sink.kept g.K.Sink.faults c.args.sink.now c.write_answer.new.sink) (answers.Help c.in-Err-Help.text) c.write_answer.result c.write_answer.ensures refl

@@ -23,14 +23,20 @@ returns c =
     let no_3 = stays_local _ _ _ c.in_ok-arg-3.ensures.globals no_2 n.local in
     let no_4 = stays_local _ _ _ c.in_ok-arg-4.ensures.globals no_3 r.local in
     let no_5 = stays_local _ _ _ c.in_ok-arg-5.ensures.globals no_4 s.local in
+    let d = c.deadline_option.ensures in
     let k = c.kif_flag.ensures in
     let f = c.rest_flag.ensures in
+    let p = c.progress_flag.ensures in
     let w_file = c.file_word.ensures in
-    let six = c.in_ok-arg-6.ensures.shape k.local ∙ ap₂ with_rule five k.rule in
-    let no_6 = stays_local _ _ _ c.in_ok-arg-6.ensures.globals no_5 k.local in
-    let seven = c.in_ok-arg-7.ensures.shape f.local ∙ ap₂ with_rule six f.rule in
-    let no_7 = stays_local _ _ _ c.in_ok-arg-7.ensures.globals no_6 f.local in
+    let six = c.in_ok-arg-6.ensures.shape d.local ∙ ap₂ with_rule five d.rule in
+    let no_6 = stays_local _ _ _ c.in_ok-arg-6.ensures.globals no_5 d.local in
+    let seven = c.in_ok-arg-7.ensures.shape k.local ∙ ap₂ with_rule six k.rule in
+    let no_7 = stays_local _ _ _ c.in_ok-arg-7.ensures.globals no_6 k.local in
+    let eight = c.in_ok-arg-8.ensures.shape f.local ∙ ap₂ with_rule seven f.rule in
+    let no_8 = stays_local _ _ _ c.in_ok-arg-8.ensures.globals no_7 f.local in
+    let nine = c.in_ok-arg-9.ensures.shape p.local ∙ ap₂ with_rule eight p.rule in
+    let no_9 = stays_local _ _ _ c.in_ok-arg-9.ensures.globals no_8 p.local in
     record {
-      app = IfOk-weaker c.arg-8.result _ _ (λ r adds. adds.shape w_file.local ∙ ap₂ with_rule seven w_file.rule) c.arg-8.ensures;
-      local = IfOk-weaker c.arg-8.result _ _ (λ r adds. stays_local _ _ _ adds.globals no_7 w_file.local) c.arg-8.ensures;
+      app = IfOk-weaker c.arg-10.result _ _ (λ r adds. adds.shape w_file.local ∙ ap₂ with_rule nine w_file.rule) c.arg-10.ensures;
+      local = IfOk-weaker c.arg-10.result _ _ (λ r adds. stays_local _ _ _ adds.globals no_9 w_file.local) c.arg-10.ensures;
     }

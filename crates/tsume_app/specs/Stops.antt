@@ -1,0 +1,64 @@
+-- What became of the stops that a run was given.
+use Rattle.std.specs.Prelude.{◌≡◌, ◌⊎◌, ℕ, List, [], ◌∷◌, Option, Some, None, drop, map}
+use Rattle.search_gate.specs.Stop.{Signal, armed_with, one_more}
+use Rattle.tsume_words.specs.Given.{Wish}
+use Rattle.tsume_words.specs.Given.Wish.{to_solve, to_check}
+use Rattle.app_texts.specs.declared.answer.Answer.{Answer}
+use Rattle.app_texts.specs.declared.answer.Answer.TheVariants.{Solved, Judged, Help}
+use Rattle.app_texts.specs.declared.fault.Fault.{Fault}
+use Rattle.app_texts.specs.declared.fault.Fault.TheVariants.{NotUtf8, Words, Asked, TooLong, Problem, Cert, Read, NoMemory}
+use Rattle.tsume_app.specs.declared.ended.Ended.{Ended}
+use Rattle.tsume_app.specs.declared.ended.Ended.TheVariants.{Answered, CutShort, Failed}
+
+-- What the stops of a run tell of themselves, before and after.
+pub record Signals : Type 0 where
+  pub before : List Signal
+  pub after : List Signal
+
+-- What they tell, by what each of them tells.
+abbrev pub signals : {A : Type 0} → (A → Signal) → List A → List A → Signals
+signals signal before after = record { before = map signal before; after = map signal after }
+
+-- What the first stop tells, which the first worker polls.
+abbrev pub first_of : List Signal → Signal
+first_of [] = record { raised = 0; armed = None; arms = 0 }
+first_of (signal ∷ others) = signal
+
+-- The deadline that words give, if any.
+abbrev pub deadline_in : Option Wish → Option ℕ
+deadline_in None = None
+deadline_in (Some (to_solve settings form watch)) = watch.deadline
+deadline_in (Some (to_check workers problem)) = None
+
+-- A search with one worker used the stops: each was armed once, for this deadline or for none, and then only the first was polled.
+pub record AreUsed (deadline : Option ℕ) (stops : Signals) : Type 0 where
+  pub armed : (first_of stops.after).armed ≡ deadline
+  pub arms : (first_of stops.after).arms ≡ one_more (first_of stops.before).arms
+  pub others : drop 1 stops.after ≡ map (λ signal. armed_with signal deadline) (drop 1 stops.before)
+
+-- No stop was armed or polled.
+abbrev pub AreUnused : Signals → Type 0
+AreUnused stops = stops.after ≡ stops.before
+
+-- The stops where an answer was found: used for a solution, and for nothing else.
+abbrev pub AreUsedFor : Option ℕ → Signals → Answer → Type 0
+AreUsedFor deadline stops (Solved solution) = AreUsed deadline stops
+AreUsedFor deadline stops (Judged judgement) = AreUnused stops
+AreUsedFor deadline stops (Help text) = AreUnused stops
+
+-- The stops where a run failed: unused. (Memory may be wanted before a problem was accepted, or after it.)
+abbrev pub AreUsedBefore : Option ℕ → Signals → Fault → Type 0
+AreUsedBefore deadline stops NotUtf8 = AreUnused stops
+AreUsedBefore deadline stops (Words fault) = AreUnused stops
+AreUsedBefore deadline stops (Asked fault) = AreUnused stops
+AreUsedBefore deadline stops TooLong = AreUnused stops
+AreUsedBefore deadline stops (Problem fault) = AreUnused stops
+AreUsedBefore deadline stops (Cert fault) = AreUnused stops
+AreUsedBefore deadline stops Read = AreUnused stops
+AreUsedBefore deadline stops NoMemory = AreUsed deadline stops ⊎ AreUnused stops
+
+-- The stops at the end of a run: used where a problem was accepted, and nowhere else.
+abbrev pub AreUsedTill : Option ℕ → Signals → Ended → Type 0
+AreUsedTill deadline stops (Answered answer) = AreUsedFor deadline stops answer
+AreUsedTill deadline stops (CutShort answer) = AreUsedFor deadline stops answer
+AreUsedTill deadline stops (Failed fault input) = AreUsedBefore deadline stops fault
