@@ -1,5 +1,5 @@
 -- What a step does to the desk, and what a worker's log was told of it.
-use Rattle.std.proofs.Common.{◌≡◌, ◌⊎◌, inl, inr, List, [], ◌∷◌, ◌++◌, arith, refl, sym, ap, ◌∙◌, subst}
+use Rattle.std.proofs.Common.{◌≡◌, inl, inr, List, [], ◌∷◌, ◌++◌, arith, refl, sym, ap, subst}
 use Rattle.std.specs.Prelude.{Option, Some, None, IsSome}
 use Rattle.std.proofs.lemmas.List.Elements.{Contains-push_cases}
 use Rattle.board_core.specs.declared.keys.Key.{Key}
@@ -9,7 +9,7 @@ use Rattle.notes.specs.declared.words.Claim.TheVariants.{Room, NoRoom as Full}
 use Rattle.visit_log.specs.declared.words.WorkEnd.{WorkEnd}
 use Rattle.visit_log.specs.declared.words.WorkEnd.TheVariants.{Posted, Spent, NoRoom, TooHigh, NoMemory, Stopped}
 use Rattle.visit_log.specs.declared.words.Request.{Request}
-use Rattle.visit_log.specs.declared.words.Request.TheVariants.{Poll, Draw as Draws, Claim as Claims, Look, Enter, Leave, Post, End}
+use Rattle.visit_log.specs.declared.words.Request.TheVariants.{Poll, Draw as Draws, Claim as Claims, Look, Enter, Leave, Post}
 use Rattle.visit_log.specs.declared.words.Answer.{Answer}
 use Rattle.visit_log.specs.declared.words.Answer.TheVariants.{Poll as Polled, Draw as Drew, Claim as Claimed, Look as Looked, Enter as Entered, Leave as LeftIt, Post as PostedIt}
 use Rattle.visit_log.specs.Visit.{Event as Exchange, drew, claimed}

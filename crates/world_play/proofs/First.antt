@@ -1,6 +1,6 @@
 -- The world at first is fair.
-use Rattle.std.proofs.Common.{◌≡◌, ◌⊎◌, inl, inr, ℕ, zero, suc, ◌+◌, ◌≤◌, ◌<◌, List, [], ◌∷◌, ◌++◌, length, get_or, replicate, arith, refl, sym, ap, ◌∙◌, subst, Bool, true, false, sum_by}
-use Rattle.std.specs.Prelude.{Option, Some, None, slice_get, sum, Contains}
+use Rattle.std.proofs.Common.{◌≡◌, inl, inr, ℕ, zero, suc, ◌+◌, ◌<◌, List, [], ◌∷◌, ◌++◌, length, get_or, replicate, arith, refl, sym, ap, ◌∙◌, subst, Bool, false, sum_by}
+use Rattle.std.specs.Prelude.{Some, slice_get, sum, Contains}
 use Rattle.std.proofs.lemmas.List.{length-replicate, get_or-replicate}
 use Rattle.std.proofs.lemmas.List.Sums.{sum_by-cons}
 use Rattle.std.proofs.lemmas.List.Folds.{sum_by-replicate}
@@ -8,7 +8,6 @@ use Rattle.std.proofs.lemmas.Bool.{cases_lt}
 use Rattle.std.proofs.lemmas.List.{get_or_past}
 use Rattle.board_core.specs.Board.{Board}
 use Rattle.board_core.specs.Kept.{IsKept}
-use Rattle.board_core.specs.declared.keys.Key.{Key}
 use Rattle.shogi_rules.specs.Tsume.{IsProblem}
 use Rattle.table_shard.specs.Entry.{Held}
 use Rattle.table_shard.specs.Shard.{place_of}
@@ -16,7 +15,6 @@ use Rattle.unit_desk.specs.Sizes.{SettingsView}
 use Rattle.unit_desk.specs.Desk.{DeskView, fresh}
 use Rattle.visit_log.specs.declared.words.WorkEnd.{WorkEnd}
 use Rattle.visit_log.specs.declared.words.WorkEnd.TheVariants.{Posted, Spent, NoRoom, TooHigh, NoMemory, Stopped}
-use Rattle.visit_log.specs.Visit.{Event as Exchange}
 use Rattle.visit_log.specs.Run.{Standing}
 use Rattle.visit_log.specs.Counts.{own_slots, own_size}
 use Rattle.visit_log.specs.Laws.{HasCause}

@@ -1,5 +1,5 @@
 -- What each event comes to in a fair world.
-use Rattle.std.proofs.Common.{◌≡◌, ◌⊎◌, inl, inr, ℕ, zero, suc, ◌+◌, ◌≤◌, ◌<◌, List, [], ◌∷◌, ◌++◌, length, set, get_or, arith, refl, sym, ap, ◌∙◌, subst, Bool, true, false, length-set, append-nil, append_assoc}
+use Rattle.std.proofs.Common.{◌≡◌, inl, inr, ℕ, List, [], ◌∷◌, ◌++◌, length, set, get_or, arith, refl, sym, ap, ◌∙◌, subst, Bool, true, false, length-set, append-nil, append_assoc}
 use Rattle.std.specs.Prelude.{Option, Some, None, slice_get, slice_index_or, IfSome, IfNone, if◌then◌else◌}
 use Rattle.std.proofs.lemmas.Option.{slice_get_within, slice_get_read}
 use Rattle.visit_log.specs.declared.words.WorkEnd.{WorkEnd}
@@ -15,8 +15,8 @@ use Rattle.lone_port.specs.Lone.{Lone, book_of, opened}
 use Rattle.search_world.specs.World.{World, Steps, StepsAt, IsAtWork, IsIdle, Happens, Plays}
 use Rattle.search_world.specs.declared.event.Event.{Event}
 use Rattle.search_world.specs.declared.event.Event.TheVariants.{Step, Raise, Starve}
-use Rattle.world_play.specs.Fair.{IsFair, IsMember}
-use Rattle.world_play.specs.Logs.{GoesOnBy, GoOnBy}
+use Rattle.world_play.specs.Fair.{IsFair}
+use Rattle.world_play.specs.Logs.{GoOnBy}
 use Rattle.world_play.proofs.Desks.{desk_same, keeps}
 use Rattle.world_play.proofs.Suited.{some_is}
 use Rattle.world_play.proofs.Stepped.{fair_on, member_on}

@@ -1,5 +1,5 @@
 -- What follows of a fair world.
-use Rattle.std.proofs.Common.{◌≡◌, ◌⊎◌, inl, inr, ℕ, zero, suc, ◌+◌, ◌≤◌, ◌<◌, List, [], ◌∷◌, length, get_or, arith, refl, sym, ap, ◌∙◌, subst, Bool, true, false, sum_by}
+use Rattle.std.proofs.Common.{◌≡◌, inl, inr, ℕ, suc, ◌+◌, ◌≤◌, ◌<◌, List, [], ◌∷◌, length, get_or, arith, refl, sym, ap, ◌∙◌, subst, Bool, true, false, sum_by}
 use Rattle.std.specs.Prelude.{Option, Some, None, IsSomeAnd, slice_get, slice_index, if◌then◌else◌}
 use Rattle.std.specs.Ordering.{is_eq}
 use Rattle.std.specs.declared.cmp.Ordering.{Ordering}
@@ -26,7 +26,7 @@ use Rattle.lone_port.specs.Lone.{held_at, pins_of}
 use Rattle.search_world.specs.World.{World}
 use Rattle.world_play.specs.Fair.{IsFair, IsToldOf}
 use Rattle.world_play.proofs.Suited.{some_is}
-use Rattle.world_play.specs.Promises.{HoldsWhatIsEntered, AreSoundWorkers, AreToldOf, HasEnded, AllHaveEnded, OneEnded, IsOver, IsLeft}
+use Rattle.world_play.specs.Promises.{HoldsWhatIsEntered, AreSoundWorkers, AreToldOf, HasEnded, AllHaveEnded, IsOver, IsLeft}
 
 -- 1. WHAT IS ENTERED IS HELD.
 

@@ -1,24 +1,21 @@
 -- The table and the desk of a fair world suit each of its workers.
-use Rattle.std.proofs.Common.{◌≡◌, ◌⊎◌, inl, ℕ, zero, suc, ◌+◌, ◌≤◌, ◌<◌, List, [], ◌∷◌, length, arith, refl, sym, ap, ◌∙◌, subst, Bool, true, false, sum_by}
+use Rattle.std.proofs.Common.{◌≡◌, inl, ℕ, zero, suc, ◌+◌, ◌≤◌, List, [], ◌∷◌, length, arith, refl, ap, false, sum_by}
 use Rattle.std.specs.Prelude.{Option, Some, None, slice_get}
 use Rattle.std.proofs.lemmas.List.Sums.{sum_by-cons}
-use Rattle.board_core.specs.declared.keys.Key.{Key}
-use Rattle.board_core.specs.Board.{Board}
 use Rattle.notes.specs.declared.words.Kept.{Kept}
 use Rattle.notes.specs.declared.words.Kept.TheVariants.{Slot, Unkept}
 use Rattle.unit_desk.specs.Desk.{IsDesk}
 use Rattle.visit_log.specs.declared.parts.Stage.{Stage}
 use Rattle.visit_log.specs.declared.parts.Stage.TheVariants.{Polling, Drawing, Entering, Looking, Claiming, Leaving, Posting, Winding}
-use Rattle.visit_log.specs.Frame.{Task, Visiting, begun}
-use Rattle.visit_log.specs.Machine.{State}
+use Rattle.visit_log.specs.Frame.{Task, Visiting}
 use Rattle.visit_log.specs.Run.{Standing}
 use Rattle.visit_log.specs.Sound.{IsSoundAt}
-use Rattle.visit_log.specs.Counts.{own_slots, own_size, slots_in, kept_once}
-use Rattle.visit_log.specs.Laws.{WorkersAreSound, WorkersAreCounted, IsCounted}
+use Rattle.visit_log.specs.Counts.{own_slots, own_size, slots_in}
+use Rattle.visit_log.specs.Laws.{WorkersAreSound, WorkersAreCounted}
 use Rattle.worker_core.specs.Port.{Suits, entering}
 use Rattle.lone_port.specs.Lone.{book_of, opened}
 use Rattle.search_world.specs.World.{World}
-use Rattle.world_play.specs.Fair.{IsFair, all_slots, all_sizes, all_visits}
+use Rattle.world_play.specs.Fair.{IsFair}
 
 -- 1. SUMS.
 

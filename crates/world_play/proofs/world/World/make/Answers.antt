@@ -1,8 +1,6 @@
-use Rattle.std.proofs.Common.{◌≡◌, ◌<◌, ◌≤◌, ◌+◌, ◌++◌, ◌∷◌, [], suc, List, replicate, arith, refl, sym, ap, ◌∙◌, subst, Bool, false}
+use Rattle.std.proofs.Common.{◌++◌, ◌∷◌, [], List, arith, ap, ◌∙◌, Bool, false}
 use Rattle.unit_desk.specs.Settings.{settings_in}
 use Rattle.visit_log.specs.Run.{Standing}
-use Rattle.lone_port.specs.Lone.{worker_at_first}
-use Rattle.search_world.specs.World.{workers_from}
 use Rattle.world_play.proofs.First.{one_more, made_fair, false_push}
 use Rattle.world_play.proofs.world.World.make.Goals as goal
 

@@ -1,4 +1,4 @@
-use Rattle.std.proofs.Common.{◌≡◌, ◌<◌, length, set, arith, refl, sym, subst, true}
+use Rattle.std.proofs.Common.{set, arith, refl, sym, subst}
 use Rattle.std.proofs.lemmas.Option.{slice_get_within}
 use Rattle.search_world.specs.World.{World, IsAtWork}
 use Rattle.search_world.specs.declared.event.Event.TheVariants.{Starve}

@@ -1,4 +1,4 @@
-use Rattle.std.proofs.Common.{◌≡◌, ◌<◌, length, set, arith, refl, sym, ap, subst, false}
+use Rattle.std.proofs.Common.{set, arith, refl, sym, subst}
 use Rattle.std.proofs.lemmas.Option.{slice_get_within}
 use Rattle.worker_core.specs.Port.{Suits}
 use Rattle.lone_port.specs.Lone.{Lone, book_of}
