@@ -5,3 +5,5 @@ pub mod Gone
 pub mod Happened
 pub mod First
 pub mod Promised
+pub mod Below
+pub mod Entered

@@ -38,18 +38,18 @@ equal_of Less h = cc
 equal_of Equal h = refl
 equal_of Greater h = cc
 
-held_there : (o : Option Held) (key : Key) (count : ℕ) → 0 < held_at o key count → IsSomeAnd o (λ e. e.key ≡ key)
+pub held_there : (o : Option Held) (key : Key) (count : ℕ) → 0 < held_at o key count → IsSomeAnd o (λ e. e.key ≡ key) × (0 < count)
 held_there None key count some = absurd (omega (arith, some))
 held_there (Some e) key count some = by_test (is_eq (key_cmp e.key key)) refl some
   where
-    by_test : (b : Bool) → is_eq (key_cmp e.key key) ≡ b → 0 < (if b then count else 0) → e.key ≡ key
-    by_test true h more = key_exact e.key key (equal_of (key_cmp e.key key) h)
+    by_test : (b : Bool) → is_eq (key_cmp e.key key) ≡ b → 0 < (if b then count else 0) → (e.key ≡ key) × (0 < count)
+    by_test true h more = (key_exact e.key key (equal_of (key_cmp e.key key) h), more)
     by_test false h more = absurd (omega (arith, more))
 
 pub holds : (world : World) → IsFair world → HoldsWhatIsEntered world
 holds world fair key slot some =
     let count = fair.held key slot in
-    held_there (slice_get (row_of world.port.rows key) slot) key (slice_index (pins_of world.port.pins key) slot) (omega (arith, some, count))
+    (held_there (slice_get (row_of world.port.rows key) slot) key (slice_index (pins_of world.port.pins key) slot) (omega (arith, some, count))).0
 
 -- 2. THE WORKERS.
 

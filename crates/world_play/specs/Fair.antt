@@ -1,11 +1,15 @@
 -- What a world keeps whatever happens in it: what the table and the desk count is what its workers have, all together.
-use Rattle.std.specs.Prelude.{◌≡◌, ◌<◌, ◌+◌, ℕ, zero, suc, false, List, Option, Some, None, length, slice_get, sum, sum_by}
+use Rattle.std.specs.Prelude.{◌≡◌, ◌<◌, ◌+◌, ℕ, zero, suc, false, List, [], ◌∷◌, Option, Some, None, length, slice_get, sum, sum_by, if◌then◌else◌}
+use Rattle.std.specs.Ordering.{is_eq}
 use Rattle.board_core.specs.declared.keys.Key.{Key}
+use Rattle.path_tags.specs.Tag.{key_cmp}
+use Rattle.notes.specs.declared.words.Kept.{Kept}
+use Rattle.notes.specs.declared.words.Kept.TheVariants.{Slot}
 use Rattle.unit_desk.specs.Desk.{DeskView, HasPosted}
 use Rattle.visit_log.specs.declared.words.WorkEnd.{WorkEnd}
 use Rattle.visit_log.specs.declared.words.WorkEnd.TheVariants.{Posted, Spent, NoRoom, TooHigh, NoMemory, Stopped}
 use Rattle.visit_log.specs.Visit.{Event as Exchange}
-use Rattle.visit_log.specs.Frame.{task_for}
+use Rattle.visit_log.specs.Frame.{Visiting, task_for}
 use Rattle.visit_log.specs.Run.{Standing, Leads}
 use Rattle.visit_log.specs.Sound.{IsTask}
 use Rattle.visit_log.specs.Counts.{own_slots, own_size}
@@ -22,6 +26,20 @@ all_slots workers key slot = sum_by (λ worker. own_slots worker.state.frames ke
 -- How many visits of theirs have entered some slot.
 abbrev pub all_sizes : List Standing → ℕ
 all_sizes workers = sum_by (λ worker. own_size worker.state.frames) workers
+
+-- 1 where a visit of the first key has entered a slot and the second key is the same, else 0.
+abbrev pub key_once : Option Kept → Key → Key → ℕ
+key_once (Some (Slot slot)) of key = if is_eq (key_cmp of key) then 1 else 0
+key_once kept of key = 0
+
+-- How many of these visits have entered a slot for the key.
+abbrev pub own_below : List Visiting → Key → ℕ
+own_below [] key = 0
+own_below (f ∷ fs) key = key_once f.kept f.place.key key + own_below fs key
+
+-- How many visits of theirs have entered a slot for the key.
+abbrev pub all_below : List Standing → Key → ℕ
+all_below workers key = sum_by (λ worker. own_below worker.state.frames key) workers
 
 -- How many units they were given.
 abbrev pub all_visits : List Standing → ℕ

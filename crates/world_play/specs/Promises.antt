@@ -1,17 +1,18 @@
 -- What follows of a fair world, for whoever reads one.
-use Rattle.std.specs.Prelude.{◌≡◌, ◌<◌, ◌⊎◌, ℕ, List, Some, slice_get, sum, sum_by}
+use Rattle.std.specs.Prelude.{◌≡◌, ◌<◌, ◌⊎◌, ℕ, Bool, List, Some, slice_get, sum, sum_by}
 use Rattle.board_core.specs.declared.keys.Key.{Key}
 use Rattle.table_shard.specs.Row.{HoldsAt}
 use Rattle.table_shard.specs.Shard.{row_of}
 use Rattle.unit_desk.specs.Desk.{HasPosted}
 use Rattle.visit_log.specs.declared.words.WorkEnd.{WorkEnd}
 use Rattle.visit_log.specs.declared.words.WorkEnd.TheVariants.{TooHigh, NoMemory, Stopped}
+use Rattle.visit_log.specs.Visit.{Event as Exchange}
 use Rattle.visit_log.specs.Machine.{end_of}
 use Rattle.visit_log.specs.Run.{Standing}
 use Rattle.visit_log.specs.Sound.{IsSound}
 use Rattle.visit_log.specs.Laws.{IsCounted}
-use Rattle.lone_port.specs.Lone.{held_in}
-use Rattle.search_world.specs.World.{World}
+use Rattle.lone_port.specs.Lone.{Lone, IsLone, held_in}
+use Rattle.search_world.specs.World.{World, Steps}
 use Rattle.world_play.specs.Fair.{all_slots, IsToldOf}
 
 -- Each slot that a visit has entered for a key holds an entry of that key.
@@ -53,3 +54,10 @@ IsOver world =
 pub record IsLeft (world : World) : Type 0 where
   pub slots : (key : Key) (slot : ℕ) → held_in world.port.rows world.port.pins key slot ≡ 0
   pub size : sum_by sum world.port.pins ≡ 0
+
+-- A law: no step gives up an entry that a visit has entered. Where a visit is below a slot of the key before the step, the slot holds the key's entry
+-- behind it.
+abbrev pub StepsKeepEntered : Type 0
+StepsKeepEntered = (stops : Bool) (port : Lone) (worker : Standing) (exchange : Exchange) (after : Lone) (later : Standing) → IsLone port
+    → Steps stops port worker exchange after later
+    → (key : Key) (slot : ℕ) → 0 < held_in port.rows port.pins key slot → HoldsAt (row_of after.rows key) slot key

@@ -4,6 +4,10 @@
 //! workers have, all together (`specs/Fair.antt`); `specs/Logs.antt` says how each worker's log goes on.
 #![tactic(auto)]
 
+mod laws;
+#[cfg(test)]
+mod tests;
 mod world;
 
+pub use laws::step_laws;
 pub use world::World;

@@ -7,10 +7,12 @@ ghost use Rattle.search_world.specs.World.{Happens, Plays, IsAtWork, IsIdle, wor
 ghost use Rattle.search_world.specs.declared.event.Event.TheVariants.{Step, Raise, Starve};
 ghost use Rattle.unit_desk.specs.Desk.{IsDesk};
 ghost use Rattle.lone_port.specs.Lone.{IsLone};
-ghost use Rattle.world_play.specs.Fair.{numbered, IsFair};
+ghost use Rattle.table_shard.specs.Row.{IsRow};
+ghost use Rattle.world_play.specs.Fair.{numbered, IsFair, all_below};
 ghost use Rattle.world_play.specs.Promises.{HoldsWhatIsEntered, AreSoundWorkers, AreToldOf, AllHaveEnded, IsOver, IsLeft};
 ghost use Rattle.world_play.specs.Logs.{GoOnBy};
 
+use board_core::Key;
 use lone_port::LonePort;
 use notes::Note;
 use search_world::{Event, step};
@@ -173,13 +175,14 @@ impl World {
     }
 
     /// Laws: what every world keeps, and what follows. What the table and the desk count is what the workers have, all together; no more is drawn or
-    /// claimed than there is, and what is posted answers the problem; all notes are for its attacker. Each slot that a visit has entered still holds its key's
+    /// claimed than there is, and what is posted answers the problem; all notes are for its attacker, and each entry is true. Each slot that a visit has entered still holds its key's
     /// entry. What each worker knows is sound, and how it ended is so of the desk. Once all have ended nothing is entered any more, and there is a
     /// reason. Does nothing; whoever reads a world calls it to know this. Takes no memory.
     pub fn laws(&self)
         ensures fair { IsFair self.now }
         ensures desk { IsDesk self.now.port.desk }
         ensures lone { IsLone self.now.port }
+        ensures rows { All IsRow self.now.port.rows }
         ensures holds { HoldsWhatIsEntered self.now }
         ensures sound { AreSoundWorkers self.now.workers }
         ensures told { AreToldOf self.now }
@@ -190,6 +193,15 @@ impl World {
         count_laws();
         visit_laws();
         self.port.laws();
+    }
+
+    /// How many visits of the key's position are going on that have entered it in the table, over all workers: the count of its entry's slot. Takes
+    /// no memory.
+    pub fn below(&self, key: &Key) -> u64
+        ensures { result ≡ all_below self.now.workers key.now }
+    {
+        self.port.laws();
+        self.port.below(key)
     }
 
     /// How many units were drawn. Takes no memory.
