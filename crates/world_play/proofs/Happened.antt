@@ -105,7 +105,7 @@ starved worker = record { task = worker.task; state = starve worker.state; waiti
 abbrev pub LeadsStarved : Standing → Standing → Type 0
 LeadsStarved worker later = (log : List Exchange) (s : State) → Leads worker.task log s → worker.state ≡ now_at worker.waiting s → Leads worker.task log later.state
 
-leads_starved : (worker later : Standing) → worker.waiting ≡ false → LeadsStarved worker later → (log : List Exchange) → Leads worker.task log worker.state
+pub leads_starved : (worker later : Standing) → worker.waiting ≡ false → LeadsStarved worker later → (log : List Exchange) → Leads worker.task log worker.state
     → Leads worker.task log later.state
 leads_starved worker later idle leads log l = leads log worker.state l (subst (λ (b : Bool). worker.state ≡ now_at b worker.state) (sym idle) refl)
 

@@ -7,3 +7,4 @@ pub mod First
 pub mod Promised
 pub mod Below
 pub mod Entered
+pub mod Crews

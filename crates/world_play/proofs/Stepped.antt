@@ -44,7 +44,7 @@ each_set {X} P xs i x old there here others j y e =
     ]
 
 -- How a sum goes on.
-sum_set : (f : Standing → ℕ) (ws : List Standing) (i : ℕ) (w v : Standing) → slice_get ws i ≡ Some w → sum_by f (set ws i v) + f w ≡ sum_by f ws + f v
+pub sum_set : (f : Standing → ℕ) (ws : List Standing) (i : ℕ) (w v : Standing) → slice_get ws i ≡ Some w → sum_by f (set ws i v) + f w ≡ sum_by f ws + f v
 sum_set f ws i w v e =
     let q = sum_by-set f ws i v w (slice_get_within ws i w e) in
     let g : f (get_or ws i w) ≡ f w = ap f (get_or_from_slice_get ws i w w e) in

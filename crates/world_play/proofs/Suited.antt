@@ -81,7 +81,7 @@ size_few (f ∷ fs) =
     omega (arith, one, r)
 
 -- It has no more slots than units, with the one that it is about to enter.
-enters_within : (task : Task) (stage : Stage) (fs : List Visiting) (visits : ℕ) → IsSoundAt task stage fs → own_size fs ≤ length fs → length fs ≤ visits
+pub enters_within : (task : Task) (stage : Stage) (fs : List Visiting) (visits : ℕ) → IsSoundAt task stage fs → own_size fs ≤ length fs → length fs ≤ visits
     → own_size fs + entering stage ≤ visits
 enters_within task (Polling e) fs v s a b = omega (arith, a, b)
 enters_within task (Drawing e) fs v s a b = omega (arith, a, b)

@@ -2,3 +2,4 @@
 pub mod Fair
 pub mod Logs
 pub mod Promises
+pub mod Crew

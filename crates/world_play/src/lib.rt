@@ -4,10 +4,12 @@
 //! workers have, all together (`specs/Fair.antt`); `specs/Logs.antt` says how each worker's log goes on.
 #![tactic(auto)]
 
+mod crew;
 mod laws;
 #[cfg(test)]
 mod tests;
 mod world;
 
+pub use crew::{starve_in_crew, turn_in_crew};
 pub use laws::step_laws;
 pub use world::World;

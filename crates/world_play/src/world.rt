@@ -6,9 +6,10 @@ ghost use Rattle.visit_log.specs.Run.{Standing};
 ghost use Rattle.search_world.specs.World.{Happens, Plays, IsAtWork, IsIdle, world_at_first};
 ghost use Rattle.search_world.specs.declared.event.Event.TheVariants.{Step, Raise, Starve};
 ghost use Rattle.unit_desk.specs.Desk.{IsDesk};
-ghost use Rattle.lone_port.specs.Lone.{IsLone};
+ghost use Rattle.lone_port.specs.Lone.{IsLone, book_of};
 ghost use Rattle.table_shard.specs.Row.{IsRow};
 ghost use Rattle.world_play.specs.Fair.{numbered, IsFair, all_below};
+ghost use Rattle.world_play.specs.Crew.{IsCrew};
 ghost use Rattle.world_play.specs.Promises.{HoldsWhatIsEntered, AreSoundWorkers, AreToldOf, AllHaveEnded, IsOver, IsLeft};
 ghost use Rattle.world_play.specs.Logs.{GoOnBy};
 
@@ -149,6 +150,17 @@ impl World {
         };
         let worker = &mut self.workers[place];
         worker.starve();
+    }
+
+    /// Its table with its desk, and its workers, for whoever has them go on over a port that wraps these. The signalled stops are let go. Takes no
+    /// memory.
+    pub fn into_crew(self) -> (LonePort, Vec<Worker>)
+        ensures port { result.0 ≡ self.port }
+        ensures workers { result.1.items ≡ self.workers }
+        ensures crew { IsCrew (book_of result.0) result.1.items }
+    {
+        self.port.laws();
+        (self.port, self.workers)
     }
 
     /// Whether all workers have ended. Takes no memory.
