@@ -1,5 +1,5 @@
 -- A table, the counts of workers below its slots, and a desk: how a worker alone sees them, and what each request does with them.
-use Rattle.std.specs.Prelude.{◌≡◌, ◌<◌, ◌+◌, ◌-◌, ℕ, Bool, true, false, List, [], Option, Some, None, All, length, replicate, slice_get, slice_set, slice_index, slice_index_or, sum, sum_by, if◌then◌else◌}
+use Rattle.std.specs.Prelude.{◌≡◌, ◌<◌, ◌+◌, ◌-◌, ◌⊎◌, ℕ, Bool, true, false, List, [], Option, Some, None, All, length, replicate, slice_get, slice_set, slice_index, slice_index_or, sum, sum_by, if◌then◌else◌}
 use Rattle.std.specs.Ordering.{is_eq}
 use Rattle.bit_boards.specs.declared.piece.Side.{Side}
 use Rattle.board_core.specs.Board.{Board}
@@ -10,7 +10,7 @@ use Rattle.notes.specs.declared.words.Kept.{Kept}
 use Rattle.notes.specs.declared.words.Kept.TheVariants.{Slot, Unkept}
 use Rattle.notes.specs.declared.words.Update.{Update}
 use Rattle.table_shard.specs.Entry.{Held}
-use Rattle.table_shard.specs.Row.{Looks, left}
+use Rattle.table_shard.specs.Row.{HoldsAt, Lacks, Looks, left}
 use Rattle.table_shard.specs.Shard.{place_of, row_of, with_row, EntersIn}
 use Rattle.unit_desk.specs.Desk.{DeskView, Draws, Claims, first_posted, fresh}
 use Rattle.visit_log.specs.declared.words.Request.{Request}
@@ -67,6 +67,12 @@ held_at (Some entry) key below = if is_eq (key_cmp entry.key key) then below els
 -- How often the slot of the key is entered and not left.
 abbrev pub held_in : List (List Held) → List (List ℕ) → Key → ℕ → ℕ
 held_in rows pins key slot = held_at (slice_get (row_of rows key) slot) key (slice_index (pins_of pins key) slot)
+
+-- How many visits are below the slot of the key's entry; none where its row has none.
+abbrev pub IsBelow : List (List Held) → List (List ℕ) → Key → ℕ → Type 0
+IsBelow rows pins key count =
+    ((slot : ℕ) × HoldsAt (row_of rows key) slot key × (count ≡ slice_index (pins_of pins key) slot))
+    ⊎ (Lacks (row_of rows key) key × (count ≡ 0))
 
 -- What it tells of itself.
 abbrev pub book_of : Lone → Book

@@ -1,7 +1,8 @@
 // The table and the desk of a search with one worker.
-ghost use Rattle.std.specs.Prelude.{◌≡◌, ℕ, IfOk, option_copied};
+ghost use Rattle.std.specs.Prelude.{◌≡◌, ℕ, IfOk, All, option_copied};
+ghost use Rattle.table_shard.specs.Row.{IsRow};
 ghost use Rattle.worker_core.specs.Port.{Suits};
-ghost use Rattle.lone_port.specs.Lone.{IsLone, alone_at_first, opened, worker_at_first, book_of};
+ghost use Rattle.lone_port.specs.Lone.{IsLone, IsBelow, alone_at_first, opened, worker_at_first, book_of};
 ghost use Rattle.unit_desk.specs.Desk.{IsDesk};
 
 use board_core::Key;
@@ -109,12 +110,26 @@ impl LonePort {
         self.desk.into_note()
     }
 
-    /// What the type keeps, and what its desk does: what is posted answers the problem. Does nothing; whoever wants to know this calls it.
-    /// Takes no memory.
+    /// How many visits are below the slot of the key's entry; 0 where its row has none. Takes no memory.
+    pub fn below(&self, key: &Key) -> u64
+        ensures { IsBelow self.now.rows self.now.pins key.now result }
+    {
+        self.shard.laws();
+        let Some(slot) = self.shard.slot_of(key) else {
+            return 0;
+        };
+        let place = place_of(key, self.pins.len());
+        self.pins[place][slot]
+    }
+
+    /// What the type keeps, and what its desk and its rows do: what is posted answers the problem, and each entry is true. Does nothing;
+    /// whoever wants to know this calls it. Takes no memory.
     pub fn laws(&self)
         ensures lone { IsLone self.now }
         ensures desk { IsDesk self.now.desk }
+        ensures rows { All IsRow self.now.rows }
     {
+        self.shard.laws();
         self.desk.laws();
     }
 }

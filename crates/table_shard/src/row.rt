@@ -73,7 +73,7 @@ impl Row {
     }
 
     // The slot with the key's entry.
-    fn slot_of(&self, key: &Key) -> Option<usize>
+    pub(crate) fn slot_of(&self, key: &Key) -> Option<usize>
         ensures there { IfSome result (λ slot. slot < 8) }
         ensures some { IfSome result (λ slot. HoldsAt self.now slot key.now) }
         ensures none { IfNone result (Lacks self.now key.now) }

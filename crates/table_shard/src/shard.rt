@@ -1,9 +1,9 @@
 // A shard of the table.
-ghost use Rattle.std.specs.Prelude.{◌≡◌, ◌<◌, [], ℕ, List, IfOk, All, length, replicate};
+ghost use Rattle.std.specs.Prelude.{◌≡◌, ◌<◌, [], ℕ, List, IfOk, IfSome, IfNone, All, length, replicate};
 ghost use Rattle.board_core.specs.declared.keys.Key.{Key};
 ghost use Rattle.pn_numbers.specs.Numbers.{IsOpen};
 ghost use Rattle.table_shard.specs.Entry.{Held, FitsKey};
-ghost use Rattle.table_shard.specs.Row.{HoldsAt, IsRow, IsKeptAt, Looks, left};
+ghost use Rattle.table_shard.specs.Row.{HoldsAt, Lacks, IsRow, IsKeptAt, Looks, left};
 ghost use Rattle.table_shard.specs.Shard.{row_of, with_row, EntersIn, KeepsPinned, StaysAt};
 
 use crate::hash::place_of;
@@ -77,6 +77,15 @@ impl Shard {
             let row = &mut self.rows[place];
             row.clear();
         }
+    }
+
+    /// The slot of the key's entry; none where its row has none. Takes no memory.
+    pub fn slot_of(&self, key: &Key) -> Option<usize>
+        ensures there { IfSome result (λ slot. slot < 8) }
+        ensures some { IfSome result (λ slot. HoldsAt (row_of self.now key.now) slot key.now) }
+        ensures none { IfNone result (Lacks (row_of self.now key.now) key.now) }
+    {
+        self.rows[place_of(key, self.rows.len())].slot_of(key)
     }
 
     /// What the table shows of a position to a worker on the path: New exactly where it has no entry of the key; Solved with the first

@@ -1,0 +1,148 @@
+-- The world at first is fair.
+use Rattle.std.proofs.Common.{◌≡◌, inl, inr, ℕ, zero, suc, ◌+◌, ◌<◌, List, [], ◌∷◌, ◌++◌, length, get_or, replicate, arith, refl, sym, ap, ◌∙◌, subst, Bool, false, sum_by}
+use Rattle.std.specs.Prelude.{Some, slice_get, sum, Contains}
+use Rattle.std.proofs.lemmas.List.{length-replicate, get_or-replicate}
+use Rattle.std.proofs.lemmas.List.Sums.{sum_by-cons}
+use Rattle.std.proofs.lemmas.List.Folds.{sum_by-replicate}
+use Rattle.std.proofs.lemmas.Bool.{cases_lt}
+use Rattle.std.proofs.lemmas.List.{get_or_past}
+use Rattle.board_core.specs.Board.{Board}
+use Rattle.board_core.specs.Kept.{IsKept}
+use Rattle.shogi_rules.specs.Tsume.{IsProblem}
+use Rattle.table_shard.specs.Entry.{Held}
+use Rattle.table_shard.specs.Shard.{place_of}
+use Rattle.unit_desk.specs.Sizes.{SettingsView}
+use Rattle.unit_desk.specs.Desk.{DeskView, fresh}
+use Rattle.visit_log.specs.declared.words.WorkEnd.{WorkEnd}
+use Rattle.visit_log.specs.declared.words.WorkEnd.TheVariants.{Posted, Spent, NoRoom, TooHigh, NoMemory, Stopped}
+use Rattle.visit_log.specs.Run.{Standing}
+use Rattle.visit_log.specs.Counts.{own_slots, own_size}
+use Rattle.visit_log.specs.Laws.{HasCause}
+use Rattle.lone_port.specs.Lone.{held_in, held_at, pins_of, worker_at_first, alone_at_first, Lone}
+use Rattle.search_world.specs.World.{World, world_at_first, workers_from}
+use Rattle.world_play.specs.Fair.{IsFair, IsMember, IsToldOf}
+use Rattle.world_play.proofs.Suited.{some_is}
+
+-- 1. THE WORKERS.
+
+-- One more worker, behind.
+pub workers_push : (problem : Board) (first n : ℕ) → workers_from problem first (suc n) ≡ workers_from problem first n ++ worker_at_first problem (first + n) ∷ []
+workers_push problem first zero = let e : first ≡ first + 0 = omega arith in ap (λ (k : ℕ). worker_at_first problem k ∷ []) e
+workers_push problem first (suc n) =
+    let e : (first + 1) + n ≡ first + suc n = omega arith in
+    ap (λ (ws : List Standing). worker_at_first problem first ∷ ws)
+    (workers_push problem (first + 1) n
+    ∙ ap (λ (k : ℕ). workers_from problem (first + 1) n ++ worker_at_first problem k ∷ []) e)
+
+pub many_workers : (problem : Board) (first n : ℕ) → length (workers_from problem first n) ≡ n
+many_workers problem first zero = refl
+many_workers problem first (suc n) = let r = many_workers problem (first + 1) n in omega (arith, r)
+
+-- What none of them has at first, they don't have all together.
+none_at_first : (f : Standing → ℕ) (problem : Board) (first n : ℕ) → ((number : ℕ) → f (worker_at_first problem number) ≡ 0) → sum_by f (workers_from problem first n) ≡ 0
+none_at_first f problem first zero none = refl
+none_at_first f problem first (suc n) none =
+    let s = sum_by-cons f (worker_at_first problem first) (workers_from problem (first + 1) n) in
+    let here = none first in
+    let r = none_at_first f problem (first + 1) n none in
+    omega (arith, s, here, r)
+
+worker_there : (problem : Board) (first n place : ℕ) (w : Standing) → slice_get (workers_from problem first n) place ≡ Some w → worker_at_first problem (first + place) ≡ w
+worker_there problem first zero place w e = absurd (cc)
+worker_there problem first (suc n) zero w e =
+    let k : first + 0 ≡ first = omega arith in
+    ap (worker_at_first problem) k ∙ some_is (worker_at_first problem first) w e
+worker_there problem first (suc n) (suc place) w e =
+    let k : first + suc place ≡ (first + 1) + place = omega arith in
+    ap (worker_at_first problem) k ∙ worker_there problem (first + 1) n place w e
+
+-- 2. WHAT THEY WERE TOLD: NOTHING.
+
+not_in_none : {X : Type 0} (x : X) → Contains [] x → ⊥
+not_in_none {X} x c = let low = c.1 in omega (arith, low)
+
+no_cause : (desk : DeskView) (end : WorkEnd) → HasCause end [] → IsToldOf desk end
+no_cause desk Posted (inl c) = absurd (not_in_none _ c.1)
+no_cause desk Posted (inr c) = absurd (not_in_none _ c)
+no_cause desk Spent c = absurd (not_in_none _ c)
+no_cause desk NoRoom c = absurd (not_in_none _ c)
+no_cause desk TooHigh c = tt
+no_cause desk NoMemory c = tt
+no_cause desk Stopped c = tt
+
+-- 3. THE TABLE: EMPTY.
+
+no_row : (n place : ℕ) (none : List Held) → get_or (replicate n none) place none ≡ none
+no_row n place none =
+    elim (cases_lt place n) as (λ _. get_or (replicate n none) place none ≡ none) [
+      | inl low ↦ get_or-replicate n place none none low
+      | inr high ↦ get_or_past (replicate n none) place none (let l = length-replicate n none in omega (arith, l, high))
+    ]
+
+-- 4. THE WORLD.
+
+pub first_fair : (problem : Board) (s : SettingsView) → IsKept problem → IsProblem problem → 0 < s.workers → IsFair (world_at_first problem s)
+first_fair problem s kept is some = record {
+  some = (let n = many_workers problem 1 s.workers in omega (arith, n, some));
+  raised = length-replicate s.workers false ∙ sym (many_workers problem 1 s.workers);
+  held = λ key slot. (
+      let none : List Held = [] in
+      let e = no_row s.rows (place_of key (length (replicate s.rows none))) none in
+      let h : held_in (replicate s.rows none) (replicate s.rows (replicate 8 0)) key slot ≡ 0 =
+      ap (λ (row : List Held). held_at (slice_get row slot) key (get_or (pins_of (replicate s.rows (replicate 8 0)) key) slot 0)) e in
+      h ∙ sym (none_at_first (λ (w : Standing). own_slots w.state.frames key slot) problem 1 s.workers (λ number. refl)));
+  size = (let none = sum_by-replicate sum s.rows (replicate 8 0) in
+      let all = none_at_first (λ (w : Standing). own_size w.state.frames) problem 1 s.workers (λ number. refl) in
+      omega (arith, none, all));
+  drawn = sym (none_at_first (λ (w : Standing). w.state.visits) problem 1 s.workers (λ number. refl));
+  claimed = sym (none_at_first (λ (w : Standing). w.state.claims) problem 1 s.workers (λ number. refl));
+  members = λ place worker e. (
+      let z = worker_there problem 1 s.workers place worker e in
+      let k : 1 + place ≡ place + 1 = omega arith in
+      let z2 : worker_at_first problem (place + 1) ≡ worker = ap (worker_at_first problem) (sym k) ∙ z in
+      subst (λ (w : Standing). IsMember (fresh problem s.expansions s.room) place w) z2
+      (record {
+        task = refl;
+        problem = record { kept = kept; problem = is };
+        idle = refl;
+        log = [];
+        leads = record { happenings = []; runs = refl; logged = refl };
+        told = no_cause (fresh problem s.expansions s.room);
+      }));
+}
+
+-- 5. THE WORLD THAT IS MADE.
+
+pub made_is : (problem : Board) (s : SettingsView) (place : ℕ) (port : Lone) (workers : List Standing) (raised : List Bool)
+    → port ≡ alone_at_first problem s.expansions s.room s.rows → workers ≡ workers_from problem 1 place → raised ≡ replicate place false → place ≡ s.workers
+    → record { port = port; workers = workers; raised = raised } ≡ world_at_first problem s
+made_is problem s place port workers raised one two three end =
+    let ws : workers ≡ workers_from problem 1 s.workers = two ∙ ap (λ (n : ℕ). workers_from problem 1 n) end in
+    let rs : raised ≡ replicate s.workers false = three ∙ ap (λ (n : ℕ). replicate n false) end in
+    let P : Lone → List Standing → List Bool → World = λ p w r. record { port = p; workers = w; raised = r } in
+    ap (λ (p : Lone). P p workers raised) one
+    ∙ (ap (λ (w : List Standing). P (alone_at_first problem s.expansions s.room s.rows) w raised) ws
+    ∙ ap (λ (r : List Bool). P (alone_at_first problem s.expansions s.room s.rows) (workers_from problem 1 s.workers) r) rs)
+
+pub made_fair : (problem : Board) (s : SettingsView) (place : ℕ) (port : Lone) (workers : List Standing) (raised : List Bool) → IsKept problem → IsProblem problem
+    → 0 < s.workers → port ≡ alone_at_first problem s.expansions s.room s.rows → workers ≡ workers_from problem 1 place → raised ≡ replicate place false
+    → place ≡ s.workers → IsFair (record { port = port; workers = workers; raised = raised })
+made_fair problem s place port workers raised kept is some one two three end =
+    subst IsFair (sym (made_is problem s place port workers raised one two three end)) (first_fair problem s kept is some)
+
+-- One more worker, and one more that isn't told to stop.
+pub one_more : (problem : Board) (place : ℕ) (workers : List Standing) → workers ≡ workers_from problem 1 place
+    → workers ++ worker_at_first problem (place + 1) ∷ [] ≡ workers_from problem 1 (place + 1)
+one_more problem place workers e =
+    let k : place + 1 ≡ 1 + place = omega arith in
+    let n : suc place ≡ place + 1 = omega arith in
+    ap (λ (ws : List Standing). ws ++ worker_at_first problem (place + 1) ∷ []) e
+    ∙ (ap (λ (m : ℕ). workers_from problem 1 place ++ worker_at_first problem m ∷ []) k
+    ∙ (sym (workers_push problem 1 place) ∙ ap (λ (m : ℕ). workers_from problem 1 m) n))
+
+suc_push : (n : ℕ) → replicate n false ++ false ∷ [] ≡ replicate (suc n) false
+suc_push zero = refl
+suc_push (suc n) = ap (λ (r : List Bool). false ∷ r) (suc_push n)
+
+pub false_push : (n : ℕ) → replicate n false ++ false ∷ [] ≡ replicate (n + 1) false
+false_push n = let e : suc n ≡ n + 1 = omega arith in suc_push n ∙ ap (λ (m : ℕ). replicate m false) e

@@ -1,0 +1,239 @@
+-- What each event comes to in a fair world.
+use Rattle.std.proofs.Common.{◌≡◌, inl, inr, ℕ, List, [], ◌∷◌, ◌++◌, length, set, get_or, arith, refl, sym, ap, ◌∙◌, subst, Bool, true, false, length-set, append-nil, append_assoc}
+use Rattle.std.specs.Prelude.{Option, Some, None, slice_get, slice_index_or, IfSome, IfNone, if◌then◌else◌}
+use Rattle.std.proofs.lemmas.Option.{slice_get_within, slice_get_read}
+use Rattle.visit_log.specs.declared.words.WorkEnd.{WorkEnd}
+use Rattle.visit_log.specs.Visit.{Event as Exchange}
+use Rattle.visit_log.specs.Frame.{Task}
+use Rattle.visit_log.specs.Machine.{State, asks, starve, end_of}
+use Rattle.visit_log.specs.Run.{Standing, Leads, now_at}
+use Rattle.visit_log.specs.Sound.{IsTask}
+use Rattle.visit_log.specs.Laws.{IsLeftAlone}
+use Rattle.worker_core.specs.Port.{KeepsOthers, Goes}
+use Rattle.worker_core.specs.Machine.{is_poll}
+use Rattle.lone_port.specs.Lone.{Lone, book_of, opened}
+use Rattle.search_world.specs.World.{World, Steps, StepsAt, IsAtWork, IsIdle, Happens, Plays}
+use Rattle.search_world.specs.declared.event.Event.{Event}
+use Rattle.search_world.specs.declared.event.Event.TheVariants.{Step, Raise, Starve}
+use Rattle.world_play.specs.Fair.{IsFair}
+use Rattle.world_play.specs.Logs.{GoOnBy}
+use Rattle.world_play.proofs.Desks.{desk_same, keeps}
+use Rattle.world_play.proofs.Suited.{some_is}
+use Rattle.world_play.proofs.Stepped.{fair_on, member_on}
+use Rattle.world_play.proofs.Gone.{goes_on_by, gone_none, gone_one, gone_quietly, gone_then}
+
+-- What an event comes to.
+abbrev pub Comes : World → Event → World → Type 0
+Comes world event after = (log : List (ℕ × Exchange)) × Happens world event log after × GoOnBy world.workers log after.workers
+
+-- 1. A STEP.
+
+goes_asks : (task : Task) (s t : State) (x : Exchange) → Goes task s x t → x.0 ≡ asks s
+goes_asks task s t (q, None) h = h.0
+goes_asks task s t (q, Some a) h = h.0
+
+-- All that is known of one request.
+pub record IsRequest (world after : World) (number place : ℕ) (worker later : Standing) (x : Exchange) : Type 0 where
+  pub fair : IsFair world
+  pub at_work : IsAtWork world number place worker
+  pub workers : after.workers ≡ set world.workers place later
+  pub raised : after.raised ≡ (if is_poll (asks worker.state) then set world.raised place false else world.raised)
+  pub steps : Steps (slice_index_or world.raised place false) (opened world.port false) worker x after.port later
+  pub leads : (log : List Exchange) → Leads worker.task log worker.state → Leads worker.task (log ++ x ∷ []) later.state
+  pub keep : KeepsOthers worker later (book_of (opened world.port false)) (book_of after.port)
+
+length_if : (b : Bool) (xs : List Bool) (i : ℕ) → length (if b then set xs i false else xs) ≡ length xs
+length_if true xs i = length-set xs i false
+length_if false xs i = refl
+
+pub step_fair : (world after : World) (number place : ℕ) (worker later : Standing) (x : Exchange) → IsRequest world after number place worker later x → IsFair after
+step_fair world after number place worker later x r =
+    fair_on world after place worker later r.fair r.at_work.there r.workers
+    (ap length r.raised ∙ length_if (is_poll (asks worker.state)) world.raised place)
+    r.keep
+    (keeps (opened (opened world.port false) (slice_index_or world.raised place false)) _ x.0 x.1 after.port r.steps.turns)
+    (member_on (opened world.port false) after.port (slice_index_or world.raised place false) place worker later x (r.fair.members place worker r.at_work.there) r.steps r.leads)
+
+pub step_comes : (world after : World) (number place : ℕ) (worker later : Standing) (x : Exchange) → IsRequest world after number place worker later x
+    → Comes world (Step number) after
+step_comes world after number place worker later x r =
+    let m = r.fair.members place worker r.at_work.there in
+    let polls : is_poll (asks worker.state) ≡ is_poll x.0 = ap is_poll (sym (goes_asks worker.task worker.state later.state x r.steps.goes)) in
+    let at : StepsAt world place worker x after = record {
+      later = later;
+      steps = record { turns = r.steps.turns; goes = r.steps.goes; task = r.steps.task; idle = r.steps.idle };
+      workers = r.workers;
+      raised = r.raised ∙ ap (λ (b : Bool). if b then set world.raised place false else world.raised) polls;
+    } in (
+      (number, x) ∷ [],
+      inl (place, worker, x, r.at_work, at, refl),
+      subst (λ (ws : List Standing). GoOnBy world.workers ((number, x) ∷ []) ws) (sym r.workers)
+          (gone_one world.workers place number worker later x r.at_work.there r.at_work.numbered
+          (goes_on_by worker later (x ∷ []) m.idle r.steps.idle r.steps.task r.leads)),
+    )
+
+-- 2. A RAISE.
+
+pub raise_fair : (world after : World) (place : ℕ) → IsFair world → after ≡ record world { raised = set world.raised place true } → IsFair after
+raise_fair world after place fair e =
+    subst IsFair (sym e)
+    (record {
+      some = fair.some;
+      raised = length-set world.raised place true ∙ fair.raised;
+      held = fair.held;
+      size = fair.size;
+      drawn = fair.drawn;
+      claimed = fair.claimed;
+      members = fair.members;
+    })
+
+pub raise_comes : (world after : World) (number place : ℕ) (worker : Standing) → IsAtWork world number place worker
+    → after ≡ record world { raised = set world.raised place true } → Comes world (Raise number) after
+raise_comes world after number place worker at e = (
+  [],
+  inl (place, worker, at, e, refl),
+  subst (λ (w : World). GoOnBy world.workers [] w.workers) (sym e) (gone_none world.workers),
+)
+
+-- 3. STARVING.
+
+-- The worker once it is starved.
+abbrev pub starved : Standing → Standing
+starved worker = record { task = worker.task; state = starve worker.state; waiting = false }
+
+-- The log of a worker that waits for nothing goes on so when it is starved.
+abbrev pub LeadsStarved : Standing → Standing → Type 0
+LeadsStarved worker later = (log : List Exchange) (s : State) → Leads worker.task log s → worker.state ≡ now_at worker.waiting s → Leads worker.task log later.state
+
+pub leads_starved : (worker later : Standing) → worker.waiting ≡ false → LeadsStarved worker later → (log : List Exchange) → Leads worker.task log worker.state
+    → Leads worker.task log later.state
+leads_starved worker later idle leads log l = leads log worker.state l (subst (λ (b : Bool). worker.state ≡ now_at b worker.state) (sym idle) refl)
+
+pub starve_fair : (world after : World) (place : ℕ) (worker later : Standing) → IsFair world → slice_get world.workers place ≡ Some worker → later ≡ starved worker
+    → LeadsStarved worker later → IsLeftAlone worker.state later.state → after ≡ record world { workers = set world.workers place later } → IsFair after
+starve_fair world after place worker later fair there is leads alone e =
+    let m = fair.members place worker there in
+    subst IsFair (sym e)
+    (fair_on world (record world { workers = set world.workers place later }) place worker later fair there refl refl
+    (record {
+      held = λ key slot. (let a = alone.slots key slot in omega (arith, a));
+      size = (let a = alone.size in omega (arith, a));
+      units = (let a = alone.visits in omega (arith, a));
+      rooms = (let a = alone.claims in omega (arith, a));
+    })
+    (desk_same world.port.desk)
+    (let task : later.task ≡ worker.task = ap (λ (w : Standing). w.task) is in
+    record {
+      task = task ∙ m.task;
+      problem = subst IsTask (sym task) m.problem;
+      idle = ap (λ (w : Standing). w.waiting) is;
+      log = m.log;
+      leads = subst (λ (t : Task). Leads t m.log later.state) (sym task) (leads_starved worker later m.idle leads m.log m.leads);
+      told = m.told;
+    }))
+
+pub starve_comes : (world after : World) (number place : ℕ) (worker later : Standing) → IsFair world → IsAtWork world number place worker → later ≡ starved worker
+    → LeadsStarved worker later → after ≡ record world { workers = set world.workers place later } → Comes world (Starve number) after
+starve_comes world after number place worker later fair at is leads e =
+    let m = fair.members place worker at.there in
+    let idle : later.waiting ≡ false = ap (λ (w : Standing). w.waiting) is in
+    let task : later.task ≡ worker.task = ap (λ (w : Standing). w.task) is in (
+      [],
+      inl (place, worker, at, e ∙ ap (λ (v : Standing). record world { workers = set world.workers place v }) is, refl),
+      subst (λ (w : World). GoOnBy world.workers [] w.workers) (sym e)
+          (gone_quietly world.workers place worker later at.there
+          (goes_on_by worker later [] m.idle idle task
+          (λ log l. subst (λ (z : List Exchange). Leads worker.task z later.state) (sym (append-nil log)) (leads_starved worker later m.idle leads log l)))),
+    )
+
+-- 4. A SCHEDULE.
+
+plays_push : (es : List Event) (e : Event) (w v u : World) (a b : List (ℕ × Exchange)) → Plays w es a v → Happens v e b u → Plays w (es ++ e ∷ []) (a ++ b) u
+plays_push [] e w v u a b h k =
+    let p : Plays v (e ∷ []) b u = (b, [], u, k, (refl, refl), sym (append-nil b)) in
+    subst (λ (z : List (ℕ × Exchange)). Plays w (e ∷ []) (z ++ b) u) (sym h.0) (subst (λ (z : World). Plays z (e ∷ []) b u) (sym h.1) p)
+plays_push (f ∷ es) e w v u a b h k = (
+  h.0,
+  h.1 ++ b,
+  h.2,
+  h.3,
+  plays_push es e h.2 v u h.1 b h.4 k,
+  ap (λ (z : List (ℕ × Exchange)). z ++ b) h.5 ∙ append_assoc h.0 h.1 b,
+)
+
+-- What a schedule comes to.
+abbrev pub Played : World → List Event → World → Type 0
+Played world events after = (log : List (ℕ × Exchange)) × Plays world events log after × GoOnBy world.workers log after.workers
+
+pub played_none : (world : World) → Played world [] world
+played_none world = ([], (refl, refl), gone_none world.workers)
+
+pub played_push : (world mid after : World) (events : List Event) (event : Event) → Played world events mid → Comes mid event after
+    → Played world (events ++ event ∷ []) after
+played_push world mid after events event p c = (
+  p.0 ++ c.0,
+  plays_push events event world mid after p.0 c.0 p.1 c.1,
+  gone_then world.workers mid.workers after.workers p.0 c.0 p.2 c.2,
+)
+
+-- 5. WHAT THE CODE READS.
+
+-- One request was answered.
+abbrev pub IsOne : Bool → Lone → Standing → Lone → Standing → Type 0
+IsOne stops ready worker after later =
+    (x : Exchange) × Steps stops ready worker x after later
+    × ((log : List Exchange) → Leads worker.task log worker.state → Leads worker.task (log ++ x ∷ []) later.state)
+
+one_answered : (result : Option WorkEnd) (stops : Bool) (ready : Lone) (worker : Standing) (after : Lone) (later : Standing) → end_of worker.state ≡ None
+    → IfNone result (IsOne stops ready worker after later)
+    → IfSome result (λ (end : WorkEnd). (end_of worker.state ≡ Some end) × (later ≡ worker) × (after ≡ ready)) → IsOne stops ready worker after later
+one_answered None stops ready worker after later going none some = none
+one_answered (Some end) stops ready worker after later going none some = let e : Some end ≡ None = sym some.0 ∙ going in absurd (cc)
+
+-- What is read at a place is there.
+pub at_work_by : (world : World) (number place : ℕ) (worker read : Standing) → IsAtWork world number place worker → read ≡ get_or world.workers place read
+    → IsAtWork world number place read
+at_work_by world number place worker read at is =
+    let low = slice_get_within world.workers place worker at.there in
+    let e : slice_get world.workers place ≡ Some read = slice_get_read world.workers (length world.workers) place read refl low is in
+    record {
+      numbered = at.numbered;
+      there = e;
+      goes_on = ap (λ (w : Standing). end_of w.state) (sym (some_is worker read (sym at.there ∙ e))) ∙ at.goes_on;
+    }
+
+-- A request of the worker that was read.
+pub requested : (world after : World) (ready : Lone) (number place : ℕ) (found first worker later : Standing) (stops polls : Bool) (result : Option WorkEnd)
+    → IsFair world → IsAtWork world number place found → first ≡ get_or world.workers place first → worker ≡ get_or world.workers place worker
+    → polls ≡ is_poll (asks first.state) → stops ≡ slice_index_or world.raised place false → ready ≡ opened world.port false
+    → after.workers ≡ set world.workers place later → after.raised ≡ (if polls then set world.raised place false else world.raised)
+    → IfNone result (IsOne stops ready worker after.port later) → IfSome result (λ (end : WorkEnd). (end_of worker.state ≡ Some end) × (later ≡ worker) × (after.port ≡ ready))
+    → KeepsOthers worker later (book_of ready) (book_of after.port) → (x : Exchange) × IsRequest world after number place worker later x
+requested world after ready number place found first worker later stops polls result fair at one two polled stopped opens workers raised none some keep =
+    let a1 = at_work_by world number place found first at one in
+    let a2 = at_work_by world number place found worker at two in
+    let same : first ≡ worker = some_is first worker (sym a1.there ∙ a2.there) in
+    let asked : polls ≡ is_poll (asks worker.state) = polled ∙ ap (λ (w : Standing). is_poll (asks w.state)) same in
+    let r = one_answered result stops ready worker after.port later a2.goes_on none some in (
+      r.0,
+      record {
+        fair = fair;
+        at_work = a2;
+        workers = workers;
+        raised = raised ∙ ap (λ (b : Bool). if b then set world.raised place false else world.raised) asked;
+        steps = subst (λ (b : Bool). Steps b (opened world.port false) worker r.0 after.port later) stopped
+            (subst (λ (p : Lone). Steps stops p worker r.0 after.port later) opens r.1);
+        leads = r.2;
+        keep = subst (λ (p : Lone). KeepsOthers worker later (book_of p) (book_of after.port)) opens keep;
+      },
+    )
+
+-- No event of a worker that is idle changes anything.
+pub idle_step : (world : World) (number : ℕ) → IsIdle world number → Comes world (Step number) world
+idle_step world number idle = ([], inr (idle, refl, refl), gone_none world.workers)
+
+pub idle_raise : (world : World) (number : ℕ) → IsIdle world number → Comes world (Raise number) world
+idle_raise world number idle = ([], inr (idle, refl, refl), gone_none world.workers)
+
+pub idle_starve : (world : World) (number : ℕ) → IsIdle world number → Comes world (Starve number) world
+idle_starve world number idle = ([], inr (idle, refl, refl), gone_none world.workers)

@@ -1,0 +1,10 @@
+pub mod Suited
+pub mod Desks
+pub mod Stepped
+pub mod Gone
+pub mod Happened
+pub mod First
+pub mod Promised
+pub mod Below
+pub mod Entered
+pub mod Crews

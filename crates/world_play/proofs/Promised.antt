@@ -1,0 +1,142 @@
+-- What follows of a fair world.
+use Rattle.std.proofs.Common.{◌≡◌, inl, inr, ℕ, suc, ◌+◌, ◌≤◌, ◌<◌, List, [], ◌∷◌, length, get_or, arith, refl, sym, ap, ◌∙◌, subst, Bool, true, false, sum_by}
+use Rattle.std.specs.Prelude.{Option, Some, None, IsSomeAnd, slice_get, slice_index, if◌then◌else◌}
+use Rattle.std.specs.Ordering.{is_eq}
+use Rattle.std.specs.declared.cmp.Ordering.{Ordering}
+use Rattle.std.specs.declared.cmp.Ordering.TheVariants.{Less, Equal, Greater}
+use Rattle.std.proofs.lemmas.Map.Lookups.{CmpEqualImpliesEq, exact_bytes}
+use Rattle.std.proofs.lemmas.List.Sums.{sum_by-cons}
+use Rattle.std.proofs.lemmas.Bool.{cases_lt}
+use Rattle.std.proofs.lemmas.Option.{slice_get_within, slice_get_read}
+use Rattle.board_core.specs.declared.keys.Key.{Key}
+use Rattle.path_tags.specs.Tag.{key_cmp}
+use Rattle.table_shard.specs.Entry.{Held}
+use Rattle.table_shard.specs.Shard.{row_of}
+use Rattle.visit_log.specs.declared.parts.Stage.{Stage}
+use Rattle.visit_log.specs.declared.parts.Stage.TheVariants.{Polling, Drawing, Entering, Looking, Claiming, Leaving, Posting, Winding}
+use Rattle.visit_log.specs.declared.words.WorkEnd.{WorkEnd}
+use Rattle.visit_log.specs.declared.words.WorkEnd.TheVariants.{Posted, Spent, NoRoom, TooHigh, NoMemory, Stopped}
+use Rattle.visit_log.specs.Visit.{Event as Exchange, IsVisitLog}
+use Rattle.visit_log.specs.Frame.{Visiting}
+use Rattle.visit_log.specs.Machine.{end_of, end_at}
+use Rattle.visit_log.specs.Run.{Standing}
+use Rattle.visit_log.specs.Counts.{own_slots, own_size}
+use Rattle.visit_log.specs.Laws.{WorkersAreSound, WorkersAreCounted, LogsAreWhole, EndsHaveCauses}
+use Rattle.lone_port.specs.Lone.{held_at, pins_of}
+use Rattle.search_world.specs.World.{World}
+use Rattle.world_play.specs.Fair.{IsFair, IsToldOf}
+use Rattle.world_play.proofs.Suited.{some_is}
+use Rattle.world_play.specs.Promises.{HoldsWhatIsEntered, AreSoundWorkers, AreToldOf, HasEnded, AllHaveEnded, IsOver, IsLeft}
+
+-- 1. WHAT IS ENTERED IS HELD.
+
+key_exact : CmpEqualImpliesEq key_cmp
+key_exact a b h = ap (λ (words : List ℕ). record { 0 = words }) (exact_bytes a.0 b.0 h)
+
+equal_of : (o : Ordering) → is_eq o ≡ true → o ≡ Equal
+equal_of Less h = cc
+equal_of Equal h = refl
+equal_of Greater h = cc
+
+pub held_there : (o : Option Held) (key : Key) (count : ℕ) → 0 < held_at o key count → IsSomeAnd o (λ e. e.key ≡ key) × (0 < count)
+held_there None key count some = absurd (omega (arith, some))
+held_there (Some e) key count some = by_test (is_eq (key_cmp e.key key)) refl some
+  where
+    by_test : (b : Bool) → is_eq (key_cmp e.key key) ≡ b → 0 < (if b then count else 0) → (e.key ≡ key) × (0 < count)
+    by_test true h more = (key_exact e.key key (equal_of (key_cmp e.key key) h), more)
+    by_test false h more = absurd (omega (arith, more))
+
+pub holds : (world : World) → IsFair world → HoldsWhatIsEntered world
+holds world fair key slot some =
+    let count = fair.held key slot in
+    (held_there (slice_get (row_of world.port.rows key) slot) key (slice_index (pins_of world.port.pins key) slot) (omega (arith, some, count))).0
+
+-- 2. THE WORKERS.
+
+pub sound_workers : WorkersAreSound → WorkersAreCounted → (world : World) → IsFair world → AreSoundWorkers world.workers
+sound_workers sound counted world fair place worker e =
+    let m = fair.members place worker e in
+    (sound worker.task m.leads.happenings worker.state m.problem m.leads.runs, counted worker.task m.leads.happenings worker.state m.leads.runs)
+
+pub told_of : LogsAreWhole → EndsHaveCauses → (world : World) → IsFair world → AreToldOf world
+told_of whole causes world fair place worker end there ended =
+    let m = fair.members place worker there in
+    let v = whole worker.task m.leads.happenings worker.state end m.leads.runs ended in
+    m.told end (causes worker.task m.log end (subst (λ (log : List Exchange). IsVisitLog worker.task log end) m.leads.logged v))
+
+-- 3. WHEN ALL HAVE ENDED.
+
+first_there : (ws : List Standing) → 0 < length ws → (w : Standing) × (slice_get ws 0 ≡ Some w)
+first_there [] some = absurd (omega (arith, some))
+first_there (w ∷ ws) some = (w, refl)
+
+over_by : (world : World) (worker : Standing) (end : WorkEnd) → slice_get world.workers 0 ≡ Some worker → end_of worker.state ≡ Some end
+    → IsToldOf world.port.desk end → IsOver world
+over_by world worker Posted there ended told = inl told
+over_by world worker Spent there ended told = inr (inl told)
+over_by world worker NoRoom there ended told = inr (inr (inl told))
+over_by world worker TooHigh there ended told = inr (inr (inr (inl (record { place = 0; worker = worker; there = there; ended = ended }))))
+over_by world worker NoMemory there ended told = inr (inr (inr (inr (inl (record { place = 0; worker = worker; there = there; ended = ended })))))
+over_by world worker Stopped there ended told = inr (inr (inr (inr (inr (record { place = 0; worker = worker; there = there; ended = ended })))))
+
+pub over : LogsAreWhole → EndsHaveCauses → (world : World) → IsFair world → AllHaveEnded world.workers → IsOver world
+over whole causes world fair all =
+    let w = first_there world.workers fair.some in
+    let e = all 0 w.0 w.1 in
+    over_by world w.0 e.end w.1 e.ended (told_of whole causes world fair 0 w.0 e.end w.1 e.ended)
+
+ended_empty : (stage : Stage) (fs : List Visiting) (end : WorkEnd) → end_at stage fs ≡ Some end → fs ≡ []
+ended_empty stage [] end e = refl
+ended_empty (Polling x) (f ∷ fs) end e = absurd (cc)
+ended_empty (Drawing x) (f ∷ fs) end e = absurd (cc)
+ended_empty Entering (f ∷ fs) end e = absurd (cc)
+ended_empty (Looking x) (f ∷ fs) end e = absurd (cc)
+ended_empty Claiming (f ∷ fs) end e = absurd (cc)
+ended_empty (Leaving x) (f ∷ fs) end e = absurd (cc)
+ended_empty (Posting x) (f ∷ fs) end e = absurd (cc)
+ended_empty (Winding x) (f ∷ fs) end e = absurd (cc)
+
+-- What a worker that has ended doesn't have, none has.
+all_ended : (f : List Visiting → ℕ) → f [] ≡ 0 → (ws : List Standing) → AllHaveEnded ws → sum_by (λ (w : Standing). f w.state.frames) ws ≡ 0
+all_ended f none [] all = refl
+all_ended f none (w ∷ ws) all =
+    let s = sum_by-cons (λ (v : Standing). f v.state.frames) w ws in
+    let e = all 0 w refl in
+    let z : f w.state.frames ≡ 0 = ap f (ended_empty w.state.stage w.state.frames e.end e.ended) ∙ none in
+    let r = all_ended f none ws (λ place v g. all (suc place) v g) in
+    omega (arith, s, z, r)
+
+pub left : (world : World) → IsFair world → AllHaveEnded world.workers → IsLeft world
+left world fair all = record {
+  slots = λ key slot. fair.held key slot ∙ all_ended (λ (fs : List Visiting). own_slots fs key slot) refl world.workers all;
+  size = fair.size ∙ all_ended own_size refl world.workers all;
+}
+
+-- 4. WHETHER ALL HAVE ENDED.
+
+-- One that goes on.
+pub not_all_ended : (ws : List Standing) (i : ℕ) (w : Standing) (result : Option WorkEnd) → i < length ws → w ≡ get_or ws i w → result ≡ end_of w.state → result ≡ None
+    → AllHaveEnded ws → ⊥
+not_all_ended ws i w result low is ends none all =
+    let e = all i w (slice_get_read ws (length ws) i w refl low is) in
+    let n : Some e.end ≡ None = sym e.ended ∙ (sym ends ∙ none) in
+    absurd (cc)
+
+-- One more that has ended.
+pub one_more_ended : (ws : List Standing) (i : ℕ) (w : Standing) (end : WorkEnd) (result : Option WorkEnd) → i < length ws → w ≡ get_or ws i w → result ≡ end_of w.state → result ≡ Some end
+    → ((place : ℕ) → place < i → (v : Standing) → slice_get ws place ≡ Some v → HasEnded v)
+    → (place : ℕ) → place < i + 1 → (v : Standing) → slice_get ws place ≡ Some v → HasEnded v
+one_more_ended ws i w end result low is ends some before place within v there =
+    elim (cases_lt place i) as (λ _. HasEnded v) [
+      | inl less ↦ before place less v there
+      | inr more ↦ (
+          let same : place ≡ i = omega (arith, within, more) in
+          let z : v ≡ w = some_is v w (sym there ∙ (ap (λ (n : ℕ). slice_get ws n) same ∙ slice_get_read ws (length ws) i w refl low is)) in
+          record { end = end; ended = ap (λ (u : Standing). end_of u.state) z ∙ (sym ends ∙ some) })
+    ]
+
+-- All have.
+pub all_have_ended : (ws : List Standing) (i : ℕ) → length ws ≤ i → ((place : ℕ) → place < i → (v : Standing) → slice_get ws place ≡ Some v → HasEnded v) → AllHaveEnded ws
+all_have_ended ws i long before place v there =
+    let low = slice_get_within ws place v there in
+    before place (omega (arith, low, long)) v there

@@ -1,0 +1,13 @@
+use Rattle.std.proofs.Common.{List, take, get_or, sym, subst}
+use Rattle.std.proofs.lemmas.List.{take_more}
+use Rattle.search_world.specs.declared.event.Event.{Event}
+use Rattle.search_world.specs.declared.event.Event.TheVariants.{Step}
+use Rattle.world_play.proofs.Happened.{Played, played_push}
+use Rattle.world_play.proofs.world.World.play.Goals as goal
+
+pub loop-event-preserved : goal.loop-event-preserved
+loop-event-preserved c =
+    let events = c.args.events.now in
+    let i = c.loop-event.event-index in
+    subst (λ (es : List Event). Played c.args.self.now es c.happen.new.self) (sym (take_more events i (Step 0) c.loop-event-test.true))
+    (played_push c.args.self.now c.loop-event.self c.happen.new.self (take i events) (get_or events i (Step 0)) c.loop-event.invariant c.happen.ensures)

@@ -1,0 +1,89 @@
+-- What a world keeps whatever happens in it: what the table and the desk count is what its workers have, all together.
+use Rattle.std.specs.Prelude.{◌≡◌, ◌<◌, ◌+◌, ℕ, zero, suc, false, List, [], ◌∷◌, Option, Some, None, length, slice_get, sum, sum_by, if◌then◌else◌}
+use Rattle.std.specs.Ordering.{is_eq}
+use Rattle.board_core.specs.declared.keys.Key.{Key}
+use Rattle.path_tags.specs.Tag.{key_cmp}
+use Rattle.notes.specs.declared.words.Kept.{Kept}
+use Rattle.notes.specs.declared.words.Kept.TheVariants.{Slot}
+use Rattle.unit_desk.specs.Desk.{DeskView, HasPosted}
+use Rattle.visit_log.specs.declared.words.WorkEnd.{WorkEnd}
+use Rattle.visit_log.specs.declared.words.WorkEnd.TheVariants.{Posted, Spent, NoRoom, TooHigh, NoMemory, Stopped}
+use Rattle.visit_log.specs.Visit.{Event as Exchange}
+use Rattle.visit_log.specs.Frame.{Visiting, task_for}
+use Rattle.visit_log.specs.Run.{Standing, Leads}
+use Rattle.visit_log.specs.Sound.{IsTask}
+use Rattle.visit_log.specs.Counts.{own_slots, own_size}
+use Rattle.visit_log.specs.Laws.{HasCause}
+use Rattle.lone_port.specs.Lone.{held_in}
+use Rattle.search_world.specs.World.{World}
+
+-- 1. WHAT THE WORKERS HAVE, ALL TOGETHER.
+
+-- How many visits of theirs have entered this slot of the key.
+abbrev pub all_slots : List Standing → Key → ℕ → ℕ
+all_slots workers key slot = sum_by (λ worker. own_slots worker.state.frames key slot) workers
+
+-- How many visits of theirs have entered some slot.
+abbrev pub all_sizes : List Standing → ℕ
+all_sizes workers = sum_by (λ worker. own_size worker.state.frames) workers
+
+-- 1 where a visit of the first key has entered a slot and the second key is the same, else 0.
+abbrev pub key_once : Option Kept → Key → Key → ℕ
+key_once (Some (Slot slot)) of key = if is_eq (key_cmp of key) then 1 else 0
+key_once kept of key = 0
+
+-- How many of these visits have entered a slot for the key.
+abbrev pub own_below : List Visiting → Key → ℕ
+own_below [] key = 0
+own_below (f ∷ fs) key = key_once f.kept f.place.key key + own_below fs key
+
+-- How many visits of theirs have entered a slot for the key.
+abbrev pub all_below : List Standing → Key → ℕ
+all_below workers key = sum_by (λ worker. own_below worker.state.frames key) workers
+
+-- How many units they were given.
+abbrev pub all_visits : List Standing → ℕ
+all_visits workers = sum_by (λ worker. worker.state.visits) workers
+
+-- For how many notes they were given room.
+abbrev pub all_claims : List Standing → ℕ
+all_claims workers = sum_by (λ worker. worker.state.claims) workers
+
+-- 2. WHAT A WORLD KEEPS.
+
+-- What a worker's end says of the desk: a note is posted, all units were drawn, all room was claimed; the other ends say nothing of it.
+abbrev pub IsToldOf : DeskView → WorkEnd → Type 0
+IsToldOf desk Posted = HasPosted desk
+IsToldOf desk Spent = desk.drawn ≡ desk.expansions
+IsToldOf desk NoRoom = desk.claimed ≡ desk.room
+IsToldOf desk TooHigh = Unit {0}
+IsToldOf desk NoMemory = Unit {0}
+IsToldOf desk Stopped = Unit {0}
+
+-- The worker at the place searches the desk's problem under the number of its place, no request of its waits, it stands by some log, and what that
+-- log was told of the desk still holds.
+pub record IsMember (desk : DeskView) (place : ℕ) (worker : Standing) : Type 0 where
+  pub task : worker.task ≡ task_for desk.position (place + 1)
+  pub problem : IsTask worker.task
+  pub idle : worker.waiting ≡ false
+  pub log : List Exchange
+  pub leads : Leads worker.task log worker.state
+  pub told : (end : WorkEnd) → HasCause end log → IsToldOf desk end
+
+-- There is a worker, and of each it is known whether a stop was signalled; the count of each slot of a key is that of the visits that have entered
+-- it, over all workers, and so is the number of all; what is drawn and claimed is what the workers were given; and each is a worker of this search.
+pub record IsFair (world : World) : Type 0 where
+  pub some : 0 < length world.workers
+  pub raised : length world.raised ≡ length world.workers
+  pub held : (key : Key) (slot : ℕ) → held_in world.port.rows world.port.pins key slot ≡ all_slots world.workers key slot
+  pub size : sum_by sum world.port.pins ≡ all_sizes world.workers
+  pub drawn : world.port.desk.drawn ≡ all_visits world.workers
+  pub claimed : world.port.desk.claimed ≡ all_claims world.workers
+  pub members : (place : ℕ) (worker : Standing) → slice_get world.workers place ≡ Some worker → IsMember world.port.desk place worker
+
+-- 3. ITS WORKERS.
+
+-- The worker of a number, from 1; none where there isn't one.
+abbrev pub numbered : List Standing → ℕ → Option Standing
+numbered workers zero = None
+numbered workers (suc place) = slice_get workers place

@@ -1,0 +1,5 @@
+-- What a world of many workers keeps under any schedule, and how each worker's log goes on in it.
+pub mod Fair
+pub mod Logs
+pub mod Promises
+pub mod Crew

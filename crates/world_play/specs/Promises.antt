@@ -1,0 +1,63 @@
+-- What follows of a fair world, for whoever reads one.
+use Rattle.std.specs.Prelude.{◌≡◌, ◌<◌, ◌⊎◌, ℕ, Bool, List, Some, slice_get, sum, sum_by}
+use Rattle.board_core.specs.declared.keys.Key.{Key}
+use Rattle.table_shard.specs.Row.{HoldsAt}
+use Rattle.table_shard.specs.Shard.{row_of}
+use Rattle.unit_desk.specs.Desk.{HasPosted}
+use Rattle.visit_log.specs.declared.words.WorkEnd.{WorkEnd}
+use Rattle.visit_log.specs.declared.words.WorkEnd.TheVariants.{TooHigh, NoMemory, Stopped}
+use Rattle.visit_log.specs.Visit.{Event as Exchange}
+use Rattle.visit_log.specs.Machine.{end_of}
+use Rattle.visit_log.specs.Run.{Standing}
+use Rattle.visit_log.specs.Sound.{IsSound}
+use Rattle.visit_log.specs.Laws.{IsCounted}
+use Rattle.lone_port.specs.Lone.{Lone, IsLone, held_in}
+use Rattle.search_world.specs.World.{World, Steps}
+use Rattle.world_play.specs.Fair.{all_slots, IsToldOf}
+
+-- Each slot that a visit has entered for a key holds an entry of that key.
+abbrev pub HoldsWhatIsEntered : World → Type 0
+HoldsWhatIsEntered world = (key : Key) (slot : ℕ) → 0 < all_slots world.workers key slot → HoldsAt (row_of world.port.rows key) slot key
+
+-- What each worker knows is sound: so each note that it has of a position holds on its path to there, and one that it posts on every path.
+abbrev pub AreSoundWorkers : List Standing → Type 0
+AreSoundWorkers workers = (place : ℕ) (worker : Standing) → slice_get workers place ≡ Some worker → IsSound worker.task worker.state × IsCounted worker.state
+
+-- How each worker that has ended did is so of the desk.
+abbrev pub AreToldOf : World → Type 0
+AreToldOf world = (place : ℕ) (worker : Standing) (end : WorkEnd) → slice_get world.workers place ≡ Some worker → end_of worker.state ≡ Some end → IsToldOf world.port.desk end
+
+-- The worker has ended.
+pub record HasEnded (worker : Standing) : Type 0 where
+  pub end : WorkEnd
+  pub ended : end_of worker.state ≡ Some end
+
+-- All workers have ended.
+abbrev pub AllHaveEnded : List Standing → Type 0
+AllHaveEnded workers = (place : ℕ) (worker : Standing) → slice_get workers place ≡ Some worker → HasEnded worker
+
+-- A worker ended so.
+pub record OneEnded (workers : List Standing) (end : WorkEnd) : Type 0 where
+  pub place : ℕ
+  pub worker : Standing
+  pub there : slice_get workers place ≡ Some worker
+  pub ended : end_of worker.state ≡ Some end
+
+-- Why nothing more happens: a note is posted, all units were drawn, all room was claimed, or a worker ended since a note would have been too high,
+-- for want of memory, or since it was told to stop.
+abbrev pub IsOver : World → Type 0
+IsOver world =
+    HasPosted world.port.desk ⊎ ((world.port.desk.drawn ≡ world.port.desk.expansions) ⊎ ((world.port.desk.claimed ≡ world.port.desk.room)
+    ⊎ (OneEnded world.workers TooHigh ⊎ (OneEnded world.workers NoMemory ⊎ OneEnded world.workers Stopped))))
+
+-- No slot is entered any more.
+pub record IsLeft (world : World) : Type 0 where
+  pub slots : (key : Key) (slot : ℕ) → held_in world.port.rows world.port.pins key slot ≡ 0
+  pub size : sum_by sum world.port.pins ≡ 0
+
+-- A law: no step gives up an entry that a visit has entered. Where a visit is below a slot of the key before the step, the slot holds the key's entry
+-- behind it.
+abbrev pub StepsKeepEntered : Type 0
+StepsKeepEntered = (stops : Bool) (port : Lone) (worker : Standing) (exchange : Exchange) (after : Lone) (later : Standing) → IsLone port
+    → Steps stops port worker exchange after later
+    → (key : Key) (slot : ℕ) → 0 < held_in port.rows port.pins key slot → HoldsAt (row_of after.rows key) slot key
