@@ -16,12 +16,7 @@ use worker_core::{Worker, turn};
 /// Has one request of a worker answered by the table and the desk, which are opened for it and say that it is to stop where `stops` does; and says
 /// how the worker had ended where it has no request, and then nothing changes. The last request must be answered, and the table and the desk suit
 /// the worker: both are of one problem, they go on or the worker winds up, and its own slots are held.
-pub fn step(
-    alloc: Global,
-    port: &mut LonePort,
-    worker: &mut Worker,
-    stops: bool,
-) -> Option<WorkEnd>
+pub fn step(alloc: Global, port: &mut LonePort, worker: &mut Worker, stops: bool) -> Option<WorkEnd>
     requires idle { worker.old.waiting ≡ false }
     requires suits { Suits worker.old (book_of port.old) }
     ensures suits { Suits worker.new (book_of port.new) }

@@ -3,7 +3,7 @@
 //! WHAT is `read`, which reads the standard input whole; `lists`, which makes the lists of checks and evasions, and their counts, at
 //! the problems of the standard input, a line each, and at the positions behind their checks and the evasions to these; `start`, which
 //! asks at the same positions for the numbers with which the search begins behind each check, and behind each evasion; `search`, which
-//! solves these problems, at most ROUNDS milliseconds each; `looks` or
+//! solves these problems, at most ROUNDS milliseconds each; `world`, which solves them by ROUNDS workers in turn; `looks` or
 //! `enters`, which ask tables that are full; the word of a part, as [`part::ROWS`] lists them; or `all`, every part. A part does its
 //! work ROUNDS times, 1 where no number is given, and a line says how many calls that were and a
 //! check sum of what they answered, the same on every machine. With `times` the line also says how long each took, in
@@ -22,6 +22,7 @@ mod starts;
 mod tables;
 mod trees;
 mod words;
+mod worlds;
 
 use boards::Boards;
 use pace::print_done;
@@ -46,6 +47,9 @@ fn main(rt: HostRuntime) -> io::Result<()> {
     if asked.what.as_str() == "search" {
         return searches::searches(&rt, &asked);
     }
+    if asked.what.as_str() == "world" {
+        return worlds::worlds(&rt, &asked);
+    }
     if asked.what.as_str() == "looks" {
         return tables::looks(&rt, &asked);
     }
@@ -67,7 +71,7 @@ fn main(rt: HostRuntime) -> io::Result<()> {
 
 fn usage(rt: &HostRuntime) -> io::Result<()> {
     eprintln!(rt;
-        "usage: speed WHAT [ROUNDS] [times], where WHAT is all, read, lists, start, search, looks, enters, or one of"
+        "usage: speed WHAT [ROUNDS] [times], where WHAT is all, read, lists, start, search, world, looks, enters, or one of"
     )?;
     for (word, title, _) in ROWS {
         eprintln!(rt; "  {word}: {title}")?;
