@@ -4,6 +4,7 @@
 //! how many both did, and of how many of these the verdicts differ. Each certificate is checked; one that is refused ends the run with
 //! status 1, as want of memory and a failed write do.
 #![tactic(auto)]
+
 ghost use Rattle.visit_log.specs.Frame.{task_for};
 ghost use Rattle.visit_log.specs.Sound.{IsAnswer};
 
@@ -21,6 +22,7 @@ use std::io;
 use unit_desk::Settings;
 
 const PROBLEMS: u64 = 50;
+
 const EXPANSIONS: u64 = 20_000;
 
 // How many problems each search decided, how many both did, and of how many of these the verdicts differ.
