@@ -34,32 +34,32 @@ crew_suits sound counted book ws place worker crew going e =
     let c = counted worker.task m.leads.happenings worker.state m.leads.runs in
     let low : (i : ℕ) (w : Standing) → slice_get ws i ≡ Some w → own_size w.state.frames ≤ w.state.visits =
     λ i w g. (
-      let n = crew.members i w g in
-      let d = counted w.task n.leads.happenings w.state n.leads.runs in
-      let slots = d.slots in
-      let frames = d.frames in
-      omega (arith, slots, frames)) in
+    let n = crew.members i w g in
+    let d = counted w.task n.leads.happenings w.state n.leads.runs in
+    let slots = d.slots in
+    let frames = d.frames in
+    omega (arith, slots, frames)) in
     record {
       problem = m.of_problem;
       going = inl going;
       held = λ key slot. (
-        let all = crew.held key slot in
-        let one = one_within (λ (w : Standing). own_slots w.state.frames key slot) ws place worker e in
-        omega (arith, all, one));
+          let all = crew.held key slot in
+          let one = one_within (λ (w : Standing). own_slots w.state.frames key slot) ws place worker e in
+          omega (arith, all, one));
       some = (
-        let all = crew.size in
-        let one = one_within (λ (w : Standing). own_size w.state.frames) ws place worker e in
-        omega (arith, all, one));
+          let all = crew.size in
+          let one = one_within (λ (w : Standing). own_size w.state.frames) ws place worker e in
+          omega (arith, all, one));
       units = (
-        let all = crew.units in
-        let one = one_within (λ (w : Standing). w.state.visits) ws place worker e in
-        omega (arith, all, one));
+          let all = crew.units in
+          let one = one_within (λ (w : Standing). w.state.visits) ws place worker e in
+          omega (arith, all, one));
       size = (
-        let all = crew.size in
-        let units = crew.units in
-        let own = enters_within worker.task worker.state.stage worker.state.frames worker.state.visits s c.slots c.frames in
-        let one = all_with_one (λ (w : Standing). own_size w.state.frames) (λ (w : Standing). w.state.visits) ws (entering worker.state.stage) place worker low e own in
-        omega (arith, all, units, one));
+          let all = crew.size in
+          let units = crew.units in
+          let own = enters_within worker.task worker.state.stage worker.state.frames worker.state.visits s c.slots c.frames in
+          let one = all_with_one (λ (w : Standing). own_size w.state.frames) (λ (w : Standing). w.state.visits) ws (entering worker.state.stage) place worker low e own in
+          omega (arith, all, units, one));
       most = crew.most;
     }
 
@@ -69,20 +69,20 @@ pub crew_on : (before after : Book) (ws : List Standing) (place : ℕ) (worker l
     → IsCrew after (set ws place later)
 crew_on before after ws place worker later crew there keep problem most member = record {
   held = λ key slot. (
-    let q = sum_set (λ (w : Standing). own_slots w.state.frames key slot) ws place worker later there in
-    let m = keep.held key slot in
-    let b = crew.held key slot in
-    omega (arith, q, m, b));
+      let q = sum_set (λ (w : Standing). own_slots w.state.frames key slot) ws place worker later there in
+      let m = keep.held key slot in
+      let b = crew.held key slot in
+      omega (arith, q, m, b));
   size = (
-    let q = sum_set (λ (w : Standing). own_size w.state.frames) ws place worker later there in
-    let m = keep.size in
-    let b = crew.size in
-    omega (arith, q, m, b));
+      let q = sum_set (λ (w : Standing). own_size w.state.frames) ws place worker later there in
+      let m = keep.size in
+      let b = crew.size in
+      omega (arith, q, m, b));
   units = (
-    let q = sum_set (λ (w : Standing). w.state.visits) ws place worker later there in
-    let m = keep.units in
-    let b = crew.units in
-    omega (arith, q, m, b));
+      let q = sum_set (λ (w : Standing). w.state.visits) ws place worker later there in
+      let m = keep.units in
+      let b = crew.units in
+      omega (arith, q, m, b));
   most = most;
   members =
       each_set (λ (n : ℕ) (v : Standing). IsInCrew after.problem v) ws place later worker there member
@@ -134,16 +134,16 @@ fair_crew world fair desk = record {
   size = fair.size;
   units = fair.drawn;
   most = (
-    let low = desk.drawn in
-    let most = desk.expansions.1 in
-    omega (arith, low, most));
+      let low = desk.drawn in
+      let most = desk.expansions.1 in
+      omega (arith, low, most));
   members = λ place worker there. (
-    let m = fair.members place worker there in
-    record {
-      of_problem = ap (λ (t : Task). t.problem) m.task;
-      task = m.problem;
-      idle = m.idle;
-      log = m.log;
-      leads = m.leads;
-    });
+      let m = fair.members place worker there in
+      record {
+        of_problem = ap (λ (t : Task). t.problem) m.task;
+        task = m.problem;
+        idle = m.idle;
+        log = m.log;
+        leads = m.leads;
+      });
 }
