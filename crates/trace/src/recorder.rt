@@ -22,7 +22,7 @@ impl Port for Recorder {
 
     ghost book = { λ r. book_of r.port };
 
-    ghost turn = { λ before request answer after. Turns before.port request answer after.port };
+    ghost turn = { λ before path request answer after. Turns before.port path request answer after.port };
 
     fn poll(&mut self) -> bool {
         let stop = self.port.poll();
