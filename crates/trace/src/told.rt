@@ -40,10 +40,7 @@ impl Told {
     /// A world before anything happens, and the lines so far. Errors: want of memory alone.
     pub fn make(alloc: Global, world: World, lines: Lines) -> Result<Told, AllocError> {
         let (port, workers) = world.into_crew();
-        let mut raised = Vec::with_capacity(alloc, workers.len())?;
-        while raised.len() < workers.len() {
-            raised.push(false)?;
-        }
+        let raised = vec![in alloc; false; workers.len()]?;
         Ok(Told {
             recorder: Recorder {
                 port,
