@@ -13,6 +13,8 @@ use visit_log::WorkEnd;
 pub struct Lines {
     text: Vec<u8>,
     attacker: Side,
+    // With which each line begins; none where there is one worker alone.
+    worker: Option<u32>,
     // Whether each line could be written.
     is_whole: bool,
 }
@@ -23,6 +25,7 @@ impl Lines {
         Lines {
             text: Vec::new(alloc),
             attacker,
+            worker: None,
             is_whole: true,
         }
     }
@@ -30,6 +33,19 @@ impl Lines {
     /// The lines; none where one couldn't be written.
     pub fn into_text(self) -> Option<Vec<u8>> {
         if self.is_whole { Some(self.text) } else { None }
+    }
+
+    /// The lines from here on begin with this number of their worker.
+    pub fn of_worker(&mut self, number: u32) {
+        self.worker = Some(number);
+    }
+
+    // Begins a line.
+    fn begin(&mut self) {
+        if let Some(number) = self.worker {
+            let written = write!(self.text, "{number} ");
+            self.note(written);
+        }
     }
 
     fn note(&mut self, written: io::Result<()>) {
@@ -40,6 +56,7 @@ impl Lines {
 
     /// Whether the worker is to stop.
     pub fn poll(&mut self, stop: bool) {
+        self.begin();
         let answer = if stop { "yes" } else { "no" };
         let written = writeln!(self.text, "poll {answer}");
         self.note(written);
@@ -47,6 +64,7 @@ impl Lines {
 
     /// The next unit of work.
     pub fn draw(&mut self, draw: Draw) {
+        self.begin();
         let written = match draw {
             Draw::Go(unit) => writeln!(self.text, "draw go {unit}"),
             Draw::Done => writeln!(self.text, "draw done"),
@@ -57,6 +75,7 @@ impl Lines {
 
     /// Room for a note.
     pub fn claim(&mut self, claim: Claim) {
+        self.begin();
         let written = match claim {
             Claim::Room(number) => writeln!(self.text, "claim room {number}"),
             Claim::NoRoom => writeln!(self.text, "claim noroom"),
@@ -66,30 +85,35 @@ impl Lines {
 
     /// What is known of a position.
     pub fn look(&mut self, key: &Key, seen: &Seen) {
+        self.begin();
         let written = write_look(&mut self.text, self.attacker, key, seen);
         self.note(written);
     }
 
     /// A position is entered.
     pub fn enter(&mut self, key: &Key, numbers: Numbers, kept: Kept) {
+        self.begin();
         let written = write_enter(&mut self.text, self.attacker, key, numbers, kept);
         self.note(written);
     }
 
     /// A position is left.
     pub fn leave(&mut self, key: &Key, update: &Update) {
+        self.begin();
         let written = write_leave(&mut self.text, self.attacker, key, update);
         self.note(written);
     }
 
     /// A note is posted.
     pub fn post(&mut self) {
+        self.begin();
         let written = writeln!(self.text, "post");
         self.note(written);
     }
 
     /// How the worker ended.
     pub fn end(&mut self, end: WorkEnd) {
+        self.begin();
         let word = match end {
             WorkEnd::Posted => "posted",
             WorkEnd::Spent => "spent",
@@ -99,6 +123,17 @@ impl Lines {
             WorkEnd::Stopped => "stopped",
         };
         let written = writeln!(self.text, "end {word}");
+        self.note(written);
+    }
+
+    /// The last line of a world: how many units were drawn, for how many notes room was claimed, whether a note is posted, how many workers have ended,
+    /// and how many visits are below the slots of the table.
+    pub fn total(&mut self, drawn: u64, claimed: u32, posted: bool, ended: u32, below: u64) {
+        let posted = if posted { "yes" } else { "no" };
+        let written = writeln!(
+            self.text,
+            "drawn {drawn} claimed {claimed} posted {posted} ended {ended} counts {below}"
+        );
         self.note(written);
     }
 }

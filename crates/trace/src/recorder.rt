@@ -15,6 +15,8 @@ pub struct Recorder {
     pub port: LonePort,
     /// What was written down.
     pub lines: Lines,
+    /// How many slots are entered and not left.
+    pub below: u64,
 }
 
 impl Port for Recorder {
@@ -50,11 +52,13 @@ impl Port for Recorder {
 
     fn enter(&mut self, key: &Key, numbers: Numbers) -> Kept {
         let kept = self.port.enter(key, numbers);
+        self.below = one_more(self.below, kept);
         self.lines.enter(key, numbers, kept);
         kept
     }
 
     fn leave(&mut self, kept: Kept, key: &Key, update: Update) {
+        self.below = one_less(self.below, kept);
         self.lines.leave(key, &update);
         self.port.leave(kept, key, update);
     }
@@ -62,5 +66,21 @@ impl Port for Recorder {
     fn post(&mut self, note: Note) {
         self.port.post(note);
         self.lines.post();
+    }
+}
+
+// One more where a slot is entered.
+fn one_more(below: u64, kept: Kept) -> u64 {
+    match kept {
+        Kept::Slot(_) => below.wrapping_add(1),
+        Kept::Unkept => below,
+    }
+}
+
+// One less where a slot is left.
+fn one_less(below: u64, kept: Kept) -> u64 {
+    match kept {
+        Kept::Slot(_) => below.wrapping_sub(1),
+        Kept::Unkept => below,
     }
 }

@@ -1,0 +1,2 @@
+-- What a world that is written down keeps.
+pub mod Told
