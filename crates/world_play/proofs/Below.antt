@@ -1,5 +1,5 @@
 -- The count of a key's slot is that of the visits of the key's position, over all workers.
-use Rattle.std.proofs.Common.{◌≡◌, ◌≢◌, ◌⊎◌, inl, inr, ℕ, zero, suc, ◌+◌, ◌%◌, ◌≤◌, ◌<◌, List, [], ◌∷◌, length, get_or, arith, refl, sym, ap, ◌∙◌, subst, Bool, true, false, sum_by}
+use Rattle.std.proofs.Common.{◌≡◌, ◌≢◌, inl, inr, ℕ, suc, ◌%◌, ◌<◌, List, [], ◌∷◌, length, get_or, arith, refl, sym, ap, ◌∙◌, Bool, true, false, sum_by}
 use Rattle.std.specs.Prelude.{Option, Some, None, IsSomeAnd, All, slice_get, slice_index, ◌==◌, ◌&&◌, if◌then◌else◌}
 use Rattle.std.specs.Ordering.{is_eq}
 use Rattle.std.specs.Cmp.{IsTotalOrder}
@@ -18,7 +18,7 @@ use Rattle.table_shard.specs.Shard.{row_of, place_of, hash_of}
 use Rattle.visit_log.specs.Frame.{Visiting}
 use Rattle.visit_log.specs.Run.{Standing}
 use Rattle.visit_log.specs.Counts.{own_slots, slot_of}
-use Rattle.lone_port.specs.Lone.{IsLone, IsBelow, held_at, held_in, pins_of}
+use Rattle.lone_port.specs.Lone.{IsLone, IsBelow, held_at, pins_of}
 use Rattle.search_world.specs.World.{World}
 use Rattle.world_play.specs.Fair.{IsFair, all_slots, all_below, own_below, key_once}
 use Rattle.world_play.proofs.Suited.{one_within}

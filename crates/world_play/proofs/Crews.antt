@@ -1,13 +1,11 @@
 -- A crew stays one when one of it goes on.
-use Rattle.std.proofs.Common.{◌≡◌, ◌⊎◌, inl, ℕ, ◌+◌, ◌≤◌, ◌<◌, List, [], ◌∷◌, ◌++◌, length, set, get_or, arith, refl, sym, ap, ◌∙◌, subst, Bool, true, false, length-set, sum_by}
+use Rattle.std.proofs.Common.{◌≡◌, inl, ℕ, ◌+◌, ◌≤◌, ◌<◌, List, ◌++◌, length, set, get_or, arith, refl, sym, ap, ◌∙◌, subst, true, false}
 use Rattle.std.specs.Prelude.{Some, slice_get}
 use Rattle.std.proofs.lemmas.Option.{slice_get_read}
 use Rattle.board_core.specs.Board.{Board}
-use Rattle.board_core.specs.declared.keys.Key.{Key}
 use Rattle.visit_log.specs.Visit.{Event as Exchange}
 use Rattle.visit_log.specs.Frame.{Task}
-use Rattle.visit_log.specs.Machine.{State, starve}
-use Rattle.visit_log.specs.Run.{Standing, Leads, now_at}
+use Rattle.visit_log.specs.Run.{Standing, Leads}
 use Rattle.visit_log.specs.Sound.{IsTask}
 use Rattle.visit_log.specs.Counts.{own_slots, own_size}
 use Rattle.visit_log.specs.Laws.{WorkersAreSound, WorkersAreCounted, IsLeftAlone}

@@ -1,27 +1,23 @@
 -- A step gives up no entry that a visit has entered.
-use Rattle.std.proofs.Common.{◌≡◌, ◌≢◌, ◌⊎◌, inl, inr, ℕ, zero, suc, ◌+◌, ◌%◌, ◌≤◌, ◌<◌, List, [], ◌∷◌, ◌++◌, length, get_or, set, arith, refl, sym, ap, ◌∙◌, subst, Bool, true, false, length-set}
-use Rattle.std.specs.Prelude.{Option, Some, None, IsSomeAnd, slice_get, slice_index, if◌then◌else◌}
-use Rattle.std.specs.Ordering.{is_eq}
+use Rattle.std.proofs.Common.{◌≡◌, ◌≢◌, inl, inr, ℕ, zero, suc, ◌+◌, ◌%◌, ◌<◌, List, [], ◌∷◌, ◌++◌, length, get_or, set, arith, refl, sym, ap, ◌∙◌, subst, Bool, length-set}
+use Rattle.std.specs.Prelude.{Option, Some, None, IsSomeAnd, slice_get, slice_index}
 use Rattle.std.proofs.lemmas.Bool.{cases_eq}
 use Rattle.std.proofs.lemmas.List.{get_or-set_same, get_or-set_other}
 use Rattle.board_core.specs.declared.keys.Key.{Key}
-use Rattle.path_tags.specs.Tag.{key_cmp}
 use Rattle.pn_numbers.specs.declared.numbers.Numbers.{Numbers}
-use Rattle.notes.specs.declared.words.Draw.TheVariants.{Go, Done, Spent as AllDrawn}
-use Rattle.notes.specs.declared.words.Claim.TheVariants.{Room, NoRoom as Full}
 use Rattle.notes.specs.declared.words.Kept.{Kept}
 use Rattle.notes.specs.declared.words.Kept.TheVariants.{Slot, Unkept}
 use Rattle.notes.specs.declared.words.Update.{Update}
 use Rattle.notes.specs.declared.words.Update.TheVariants.{Numbers as SetNumbers, Note as AddNote, Nothing as ChangeNothing}
 use Rattle.table_shard.specs.Entry.{Held, updated}
-use Rattle.table_shard.specs.Row.{HoldsAt, Enters, Takes, IsGivenUp, fresh, left}
-use Rattle.table_shard.specs.Shard.{row_of, with_row, place_of, hash_of, EntersIn}
+use Rattle.table_shard.specs.Row.{HoldsAt, Enters, IsGivenUp, fresh, left}
+use Rattle.table_shard.specs.Shard.{row_of, with_row, place_of, hash_of}
 use Rattle.visit_log.specs.declared.words.Request.{Request}
-use Rattle.visit_log.specs.declared.words.Request.TheVariants.{Poll, Draw as Draws, Claim as Claims, Look, Enter, Leave, Post, End}
+use Rattle.visit_log.specs.declared.words.Request.TheVariants.{Poll, Draw as Draws, Claim as Claims, Look, Enter, Leave, Post}
 use Rattle.visit_log.specs.declared.words.Answer.{Answer}
 use Rattle.visit_log.specs.declared.words.Answer.TheVariants.{Poll as Polled, Draw as Drew, Claim as Claimed, Look as Looked, Enter as Entered, Leave as LeftIt, Post as PostedIt}
 use Rattle.visit_log.specs.Machine.{path_of}
-use Rattle.lone_port.specs.Lone.{Lone, IsLone, Turns, opened, held_in, held_at, pins_of, left_in}
+use Rattle.lone_port.specs.Lone.{Lone, IsLone, Turns, opened, pins_of}
 use Rattle.world_play.specs.Promises.{StepsKeepEntered}
 use Rattle.world_play.proofs.Promised.{held_there}
 use Rattle.world_play.proofs.Stepped.{get_set_other}

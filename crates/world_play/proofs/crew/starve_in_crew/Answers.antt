@@ -1,4 +1,3 @@
-use Rattle.std.proofs.Common.{◌≡◌, ◌<◌, length, arith}
 use Rattle.world_play.proofs.Crews.{read_there, crew_starved}
 use Rattle.world_play.proofs.crew.starve_in_crew.Goals as goal
 

@@ -1,4 +1,3 @@
-use Rattle.std.proofs.Common.{◌≡◌, ◌<◌, length, arith}
 use Rattle.world_play.proofs.Crews.{read_there, crew_suits, crew_turned}
 use Rattle.world_play.proofs.crew.turn_in_crew.Goals as goal
 

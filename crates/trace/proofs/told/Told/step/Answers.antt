@@ -1,4 +1,3 @@
-use Rattle.std.proofs.Common.{◌≡◌}
 use Rattle.trace.proofs.Opened.{opened_crew}
 use Rattle.trace.proofs.told.Told.step.Goals as goal
 

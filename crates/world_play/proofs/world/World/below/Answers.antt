@@ -1,4 +1,4 @@
-use Rattle.std.proofs.Common.{◌≡◌, ap, ◌∙◌}
+use Rattle.std.proofs.Common.{ap, ◌∙◌}
 use Rattle.search_world.specs.World.{World}
 use Rattle.world_play.specs.Fair.{all_below}
 use Rattle.world_play.proofs.Below.{below_is}
