@@ -97,6 +97,17 @@ fn a_diagram_may_be_written_in_many_ways(rt: HostRuntime) -> Result<(), Fail> {
             "：飛二\u{3000}角 金四\u{3000}銀三 桂 香二\u{3000}歩十七",
             "4k4/9/4P4/9/9/9/9/9/9 b 2RB4G3SN2L17P",
         ),
+    ];
+    for (old, new, wanted) in table {
+        check(&rt, rt.alloc(), old, new, wanted)?;
+    }
+    Ok(())
+}
+
+// Hands of as many pawns as there may be, and of one more.
+#[test]
+fn a_hand_holds_as_many_as_are_written(rt: HostRuntime) -> Result<(), Fail> {
+    let table = [
         ("：なし", "：歩四", "4k4/9/4P4/9/9/9/9/9/9 b G4p"),
         ("：なし", "：歩五", "4k4/9/4P4/9/9/9/9/9/9 b G5p"),
         ("：なし", "：歩六", "4k4/9/4P4/9/9/9/9/9/9 b G6p"),
