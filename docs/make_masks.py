@@ -28,6 +28,8 @@ GAITS = [
     ("promoted bishop", SIDES + [(0, -1), (0, 1)]),
     ("promoted rook", [(-1, -1), (-1, 1), (1, -1), (1, 1)]),
 ]
+# The gaits of the kinds in their order, and of their promoted sides.
+GAIT_OF = [[1, 0, 2, 3, 4, 0, 0, 5], [4, 4, 4, 4, 4, 6, 7, 5]]
 JUMPS = [(-1, -2), (1, -2), (-1, 2), (1, 2)]
 
 
@@ -97,12 +99,47 @@ def toward():
     return lines + ["];", ""]
 
 
+def slides(promoted, kind, file, ahead):
+    if kind == 1:
+        return not promoted and file == 0 and ahead > 0
+    if kind == 5:
+        return file != 0 and abs(file) == abs(ahead)
+    return kind == 6 and (file == 0) != (ahead == 0)
+
+
+def goes(side, promoted, kind, file, row):
+    forward = -row if side == 0 else row
+    return (file, -forward) in GAITS[GAIT_OF[promoted][kind]][1] or slides(promoted, kind, file, forward)
+
+
+def going():
+    lines = [
+        "// Which pieces go from a square to another on an empty board, by how far the files differ, and then the rows, as above: bit",
+        "// 16 * side + 8 * promoted + kind, White being 1, promoted 1, and the kinds in their order.",
+        "#[rattlefmt::skip]",
+        "pub(crate) static GOING: [[u32; 17]; 17] = [",
+    ]
+    for file in range(17):
+        words = []
+        for row in range(17):
+            bits = 0
+            for side in range(2):
+                for promoted in range(2):
+                    for kind in range(8):
+                        if goes(side, promoted, kind, file - 8, row - 8):
+                            bits |= 1 << (16 * side + 8 * promoted + kind)
+            words.append("%#x" % bits)
+        lines.append("    [" + ", ".join(words) + "],")
+    return lines + ["];", ""]
+
+
 def written():
     squares = range(81)
     lines = ["// Written by docs/make_masks.py. Do not edit.", ""]
     lines += ["use crate::Direction::{self, Down, DownLeft, DownRight, Left, Right, Up, UpLeft, UpRight};", ""]
     lines += nested("All squares that lie in a direction from each square.", "RAYS", [(name, [ray(s, d) for s in squares]) for name, d in zip(NAMES, DIRECTIONS)])
     lines += toward()
+    lines += going()
     lines += steps(squares)
     lines += table("The squares that share a line with each square.", "LINES", [sum(ray(s, d) for d in DIRECTIONS) for s in squares])
     lines += table("The neighbours of each square, and the squares two rows and a file away.", "AROUND", [near(s, DIRECTIONS + JUMPS) for s in squares])

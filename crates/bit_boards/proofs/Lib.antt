@@ -5,4 +5,5 @@ pub mod Ahead
 pub mod Looked
 pub mod Seen
 pub mod Stepping
+pub mod Going
 pub mod Walk

@@ -8,3 +8,4 @@ pub mod Movement
 pub mod Mask
 pub mod Direction
 pub mod Gait
+pub mod Going
