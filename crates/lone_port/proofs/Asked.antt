@@ -10,7 +10,9 @@ use Rattle.notes.specs.declared.words.Seen.{Seen}
 use Rattle.notes.specs.declared.words.Update.{Update}
 use Rattle.table_shard.specs.Entry.{Held}
 use Rattle.table_shard.specs.Row.{HoldsAt, IsRow, Looks, Enters, left}
-use Rattle.table_shard.specs.Shard.{place_of, row_of, with_row, EntersIn}
+use Rattle.table_shard.specs.Shard.{row_of, with_row, EntersIn}
+use Rattle.table_shard.specs.Spot.{place_of, spot_of}
+use Rattle.table_shard.specs.declared.hash.Spot.{Spot}
 use Rattle.visit_log.specs.declared.words.Request.TheVariants.{Look, Enter, Leave}
 use Rattle.visit_log.specs.declared.words.Answer.TheVariants.{Enter as Entered, Leave as LeftIt}
 use Rattle.visit_log.specs.Round.{MayShow}
@@ -25,6 +27,10 @@ use Rattle.lone_port.proofs.Rows.{IsEntered, entered, left_for, looks_may}
 use Rattle.lone_port.proofs.Places.{place_within, held_moves, size_moves, there_moves, there_at}
 
 -- 1. WHERE THE COUNTS ARE.
+
+-- A key's spot has its place.
+pub spot_place : (spot : Spot) (key : Key) (rows : ℕ) → spot ≡ spot_of key rows → spot.place ≡ place_of key rows
+spot_place spot key rows is = ap (λ (s : Spot). s.place) is
 
 -- The counts that are read at the place of a key are those of its row.
 pub found : (pins : List (List ℕ)) (key : Key) (p n : ℕ) (counts : List ℕ) → n ≡ length pins → p ≡ place_of key n → p < n → counts ≡ get_or pins p counts

@@ -6,3 +6,4 @@ pub mod Places
 pub mod Asked
 pub mod Starved
 pub mod Learnt
+mod Renewed

@@ -6,7 +6,8 @@ use Rattle.std.proofs.lemmas.List.{length-set, get_or-set_same, get_or-set_other
 use Rattle.std.proofs.lemmas.List.Sums.{sum_by-set}
 use Rattle.board_core.specs.declared.keys.Key.{Key}
 use Rattle.table_shard.specs.Entry.{Held}
-use Rattle.table_shard.specs.Shard.{hash_of, place_of, row_of, with_row}
+use Rattle.table_shard.specs.Shard.{row_of, with_row}
+use Rattle.table_shard.specs.Spot.{hash_of, place_of}
 use Rattle.lone_port.specs.Lone.{held_at, held_in, pins_of, with_pins}
 
 -- A key's place lies within the rows.

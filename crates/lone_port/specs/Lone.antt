@@ -11,7 +11,8 @@ use Rattle.notes.specs.declared.words.Kept.TheVariants.{Slot, Unkept}
 use Rattle.notes.specs.declared.words.Update.{Update}
 use Rattle.table_shard.specs.Entry.{Held}
 use Rattle.table_shard.specs.Row.{HoldsAt, Lacks, Looks, left}
-use Rattle.table_shard.specs.Shard.{place_of, row_of, with_row, EntersIn}
+use Rattle.table_shard.specs.Shard.{row_of, with_row, EntersIn}
+use Rattle.table_shard.specs.Spot.{place_of}
 use Rattle.unit_desk.specs.Desk.{DeskView, Draws, Claims, first_posted, fresh}
 use Rattle.visit_log.specs.declared.words.Request.{Request}
 use Rattle.visit_log.specs.declared.words.Request.TheVariants.{Poll, Draw, Claim, Look, Enter, Leave, Post}

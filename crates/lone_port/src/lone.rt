@@ -1,5 +1,5 @@
 // The table and the desk of a search with one worker.
-ghost use Rattle.std.specs.Prelude.{◌≡◌, ℕ, IfOk, All, option_copied};
+ghost use Rattle.std.specs.Prelude.{◌≡◌, ℕ, IfOk, All, option_copied, length};
 ghost use Rattle.table_shard.specs.Row.{IsRow};
 ghost use Rattle.worker_core.specs.Port.{Suits};
 ghost use Rattle.lone_port.specs.Lone.{IsLone, IsBelow, alone_at_first, opened, worker_at_first, book_of};
@@ -12,7 +12,7 @@ use pn_numbers::Numbers;
 use shogi_rules::Problem;
 use std::alloc::{AllocError, Global};
 use std::marker::Model;
-use table_shard::{Shard, place_of};
+use table_shard::Shard;
 use unit_desk::{Desk, Settings};
 use worker_core::Port;
 
@@ -73,6 +73,21 @@ impl LonePort {
         })
     }
 
+    /// Begins anew with another problem, with the units and the room of these settings and as many rows as before: nothing is known, drawn, claimed
+    /// or posted, as where it was just made. In the time of the rows that had entries. Takes no memory.
+    #[tactic(auto, using(crate::proofs::Asked::alone_suits))]
+    pub fn renew(&mut self, problem: &Problem, settings: &Settings)
+        requires { length self.old.rows ≡ settings.now.rows }
+        ensures made { self.new ≡ alone_at_first problem.now.position settings.now.expansions settings.now.room settings.now.rows }
+        // A worker in the search of the problem may begin to work over it.
+        ensures suits { (number : ℕ) → Suits (worker_at_first problem.now.position number) (book_of self.new) }
+    {
+        self.shard.empty(self.pins.as_mut_slice());
+        self.desk = Desk::make(problem, settings);
+        self.is_going = true;
+        self.stops = false;
+    }
+
     /// Opens it for a turn of a worker that doesn't wind up: it goes on, and says so whether the worker is to stop. Nothing else changes. Takes no
     /// memory.
     pub fn open(&mut self, stops: bool)
@@ -80,6 +95,13 @@ impl LonePort {
     {
         self.is_going = true;
         self.stops = stops;
+    }
+
+    /// How many rows its table has. Takes no memory.
+    pub fn rows(&self) -> usize
+        ensures { result ≡ length self.now.rows }
+    {
+        self.pins.len()
     }
 
     /// How many units were drawn. Takes no memory.
@@ -115,11 +137,11 @@ impl LonePort {
         ensures { IsBelow self.now.rows self.now.pins key.now result }
     {
         self.shard.laws();
-        let Some(slot) = self.shard.slot_of(key) else {
+        let spot = self.shard.spot_of(key);
+        let Some(slot) = self.shard.slot_of(spot, key) else {
             return 0;
         };
-        let place = place_of(key, self.pins.len());
-        self.pins[place][slot]
+        self.pins[spot.place][slot]
     }
 
     /// What the type keeps, and what its desk and its rows do: what is posted answers the problem, and each entry is true. Does nothing;
@@ -167,16 +189,16 @@ impl Port for LonePort {
 
     fn look(&mut self, key: &Key, path: &Path) -> Result<Seen, AllocError> {
         self.shard.laws();
-        let place = place_of(key, self.pins.len());
-        self.shard.look(key, path, &self.pins[place])
+        let spot = self.shard.spot_of(key);
+        self.shard.look(spot, key, path, &self.pins[spot.place])
     }
 
     fn enter(&mut self, key: &Key, numbers: Numbers) -> Kept {
         self.shard.laws();
-        let place = place_of(key, self.pins.len());
-        let kept = self.shard.enter(key, numbers, &self.pins[place]);
+        let spot = self.shard.spot_of(key);
+        let kept = self.shard.enter(spot, key, numbers, &self.pins[spot.place]);
         if let Kept::Slot(slot) = kept {
-            self.pins[place][slot as usize] += 1;
+            self.pins[spot.place][slot as usize] += 1;
         }
         kept
     }
@@ -186,9 +208,9 @@ impl Port for LonePort {
             return;
         };
         self.shard.laws();
-        let place = place_of(key, self.pins.len());
-        self.pins[place][slot as usize] -= 1;
-        self.shard.leave(slot, key, update);
+        let spot = self.shard.spot_of(key);
+        self.pins[spot.place][slot as usize] -= 1;
+        self.shard.leave(spot, slot, key, update);
     }
 
     fn post(&mut self, note: Note) {

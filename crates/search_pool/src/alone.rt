@@ -1,5 +1,5 @@
 // A search with one worker.
-ghost use Rattle.std.specs.Prelude.{◌≡◌, IsTrue, IfOk, IfSome, IfNone, ◌⊎◌, Some, None, true, false, MatchOption};
+ghost use Rattle.std.specs.Prelude.{◌≡◌, ℕ, IsTrue, IfOk, IfSome, IfNone, ◌⊎◌, Some, None, true, false, MatchOption};
 ghost use Rattle.unit_desk.specs.Settings.{settings_in};
 ghost use Rattle.visit_log.specs.Machine.{asks, end_of};
 ghost use Rattle.visit_log.specs.declared.words.WorkEnd.TheVariants.{Posted, NoMemory};
@@ -7,6 +7,8 @@ ghost use Rattle.worker_core.specs.Machine.{is_poll};
 ghost use Rattle.search_gate.specs.Stop.{HasSignalled};
 ghost use Rattle.search_pool.specs.End.{IsAlone, IsAloneUntil, IsSolution, IsStoppedBy};
 ghost use Rattle.search_pool.specs.Inside.{IsUnderWay, IsCauseOf};
+ghost use Rattle.worker_core.specs.Port.{Suits};
+ghost use Rattle.lone_port.specs.Lone.{alone_at_first, worker_at_first, book_of};
 
 use crate::{Crew, SearchEnd};
 use lone_port::LonePort;
@@ -71,6 +73,39 @@ fn cause_of(settings: &Settings, end: WorkEnd) -> Option<Cause>
     }
 }
 
+// Searches a problem over a table and a desk that know nothing yet: has a worker work till it has ended, and tells what came of it.
+pub(crate) fn search_over<G: Gate, T: Stop>(
+    alloc: Global,
+    problem: &Problem,
+    settings: &Settings,
+    port: &mut LonePort,
+    gate: &G,
+    stop: &mut T,
+) -> Result<SearchEnd, AllocError>
+    requires made { port.old ≡ alone_at_first problem.now.position settings.now.expansions settings.now.room settings.now.rows }
+    requires suits { (number : ℕ) → Suits (worker_at_first problem.now.position number) (book_of port.old) }
+    ensures alone { IfOk result (IsAloneUntil problem.now.position (settings_in settings.now) (T.signal stop.old) (T.signal stop.new)) }
+    ensures solution { IfOk result (IsSolution problem.now.position) }
+    ensures stopped { IfOk result (IsStoppedBy (T.signal stop.old) (T.signal stop.new)) }
+    ensures armed { (T.signal stop.new).armed ≡ (T.signal stop.old).armed }
+    ensures arms { (T.signal stop.new).arms ≡ (T.signal stop.old).arms }
+{
+    let mut worker = Worker::make(alloc, problem, 1);
+    let end = work_alone(alloc, problem, settings, port, &mut worker, gate, stop);
+    port.laws();
+    worker.laws();
+    visit_laws();
+    if let Some(posted) = port.posted() {
+        let note = posted.share()?;
+        note.laws();
+        return Ok(SearchEnd::Solved(note));
+    }
+    let Some(cause) = cause_of(settings, end) else {
+        return Err(AllocError);
+    };
+    Ok(SearchEnd::Unknown(cause, Crew::new(vec![in alloc; worker]?)))
+}
+
 /// Searches a problem with one worker, whatever the settings say of workers: it works under its own steps till it has ended. Where a note is
 /// posted, that note answers the problem; else the search gave up, for the cause that the worker's end names, and the worker comes with it.
 /// The gate is passed for each unit, as worker 1. The stop is polled before each unit; where it says that the worker is to stop, that is told
@@ -92,19 +127,7 @@ pub fn search_alone_until<G: Gate, T: Stop>(
     ensures arms { (T.signal stop.new).arms ≡ (T.signal stop.old).arms }
 {
     let mut port = LonePort::make(alloc, problem, settings)?;
-    let mut worker = Worker::make(alloc, problem, 1);
-    let end = work_alone(alloc, problem, settings, &mut port, &mut worker, gate, stop);
-    port.laws();
-    worker.laws();
-    visit_laws();
-    if let Some(note) = port.into_note() {
-        note.laws();
-        return Ok(SearchEnd::Solved(note));
-    }
-    let Some(cause) = cause_of(settings, end) else {
-        return Err(AllocError);
-    };
-    Ok(SearchEnd::Unknown(cause, Crew::new(vec![in alloc; worker]?)))
+    search_over(alloc, problem, settings, &mut port, gate, stop)
 }
 
 /// The same with a stop that never signals: it answers what the world of one worker does under its own steps. Errors: want of memory alone.

@@ -2,3 +2,5 @@ mod Noted
 mod Rows
 mod Used
 mod Places
+mod Marks
+mod Emptied

@@ -7,11 +7,17 @@ use Rattle.table_shard.specs.Entry.{Held}
 use Rattle.pn_numbers.specs.declared.numbers.Numbers.{Numbers}
 use Rattle.notes.specs.declared.words.Kept.{Kept}
 use Rattle.table_shard.specs.Row.{HoldsAt, Enters, IsKeptAt}
-use Rattle.table_shard.specs.Shard.{hash_of, place_of, row_of, with_row, KeepsPinned}
+use Rattle.table_shard.specs.Shard.{row_of, with_row, KeepsPinned}
+use Rattle.table_shard.specs.Spot.{hash_of, place_of, spot_of}
+use Rattle.table_shard.specs.declared.hash.Spot.{Spot}
 use Rattle.table_shard.proofs.Rows.{enters_held, enters_stays}
 
 place_within : (key : Key) (rows : ℕ) → 0 < rows → place_of key rows < rows
 place_within key rows some = let h = hash_of key.0 in let low : h % rows < rows = omega (arith, some) in low
+
+-- a spot lies within the rows
+pub spot_within : (rows : List (List Held)) (spot : Spot) (key : Key) → 0 < length rows → spot ≡ spot_of key (length rows) → spot.place < length rows
+spot_within rows spot key some is = subst (λ (n : ℕ). n < length rows) (sym (ap (λ (s : Spot). s.place) is)) (place_within key (length rows) some)
 
 -- the key's row is the one that was put in its place
 pub row_of_same : (rows : List (List Held)) (key : Key) (row : List Held) → 0 < length rows → row_of (with_row rows key row) key ≡ row

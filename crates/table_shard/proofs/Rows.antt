@@ -87,9 +87,9 @@ enters_some row pins key numbers (Slot slot) after (inr (none, inr t)) =
 enters_some row pins key numbers Unkept after h = let e = ap length h.3 in let f = h.1 in omega (arith, e, f)
 
 -- what a write through the slice of a row's entries leaves
-pub refilled : (items now : List Held) (slot : ℕ) (e : Held) → now ≡ items → refill (length items) items (set now slot e) ≡ set items slot e
-refilled items now slot e same =
-    subst (λ (l : List Held). refill (length items) items (set l slot e) ≡ set items slot e) (sym same)
+pub refilled : {X : Type 0} (items now : List X) (slot : ℕ) (e : X) → now ≡ items → refill (length items) items (set now slot e) ≡ set items slot e
+refilled {X} items now slot e same =
+    subst (λ (l : List X). refill (length items) items (set l slot e) ≡ set items slot e) (sym same)
     (take_at (set items slot e) (drop (length (set items slot e)) items) (length items) (length-set items slot e))
 
 pub some_within : (P : Held → Type 0) (row : List Held) (slot : ℕ) → IsSomeAnd (slice_get row slot) P → slot < length row

@@ -104,6 +104,10 @@ shard_of_free rows room some each has free = record {
   has_room = has;
 }
 
+-- the last place of the list is a row's
+pub last_within : (rows : List (List Held)) (used : List ℕ) (room place : ℕ) → IsShard rows (used ++ place ∷ []) room → place < length rows
+last_within rows used room place is = let all = All-pop (λ (p : ℕ). p < length rows) (used ++ place ∷ []) used (Some place) refl is.within in all.1
+
 -- a row whose entries are taken out, and the list of places without its place
 pub shard_cleared : (rows : List (List Held)) (used : List ℕ) (room place : ℕ) → IsShard rows (used ++ place ∷ []) room → IsShard (set rows place []) used room
 shard_cleared rows used room place is = record {

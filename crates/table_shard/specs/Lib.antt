@@ -3,4 +3,7 @@ pub mod Entry
 pub mod Facts
 pub mod Row
 pub mod Shard
+pub mod Spot
+pub mod Emptied
 pub mod Used
+pub mod Marks

@@ -1,23 +1,11 @@
--- A shard: rows, and which of them a position has.
-use Rattle.std.specs.Prelude.{◌≡◌, ◌<◌, ◌+◌, ◌*◌, ◌%◌, ℕ, List, [], fold, length, slice_index, slice_index_or, slice_set}
+-- A shard: rows, and what is done to the one that a position has.
+use Rattle.std.specs.Prelude.{◌≡◌, ◌<◌, ℕ, List, [], length, slice_index, slice_index_or, slice_set}
 use Rattle.board_core.specs.declared.keys.Key.{Key}
 use Rattle.pn_numbers.specs.declared.numbers.Numbers.{Numbers}
 use Rattle.notes.specs.declared.words.Kept.{Kept}
 use Rattle.table_shard.specs.Entry.{Held}
 use Rattle.table_shard.specs.Row.{HoldsAt, Enters}
-use Rattle.table_shard.specs.declared.hash.TheConstants.{MULTIPLIER, MODULUS}
-
--- The hash after another word.
-abbrev pub hashed : ℕ → ℕ → ℕ
-hashed hash word = (hash + word) * MULTIPLIER % MODULUS
-
--- The hash of a key's words, the first first.
-abbrev pub hash_of : List ℕ → ℕ
-hash_of words = fold hashed 0 words
-
--- Which of so many rows a key has.
-abbrev pub place_of : Key → ℕ → ℕ
-place_of key rows = hash_of key.0 % rows
+use Rattle.table_shard.specs.Spot.{place_of}
 
 -- The key's row.
 abbrev pub row_of : List (List Held) → Key → List Held

@@ -1,6 +1,6 @@
-// Which row a key has.
+// Which row a key has, and how it is told apart there at a glance.
 ghost use Rattle.std.specs.Prelude.{◌≡◌, ◌<◌, fold};
-ghost use Rattle.table_shard.specs.Shard.{hashed, hash_of, place_of};
+ghost use Rattle.table_shard.specs.Spot.{hashed, hash_of, spot_of};
 
 use board_core::Key;
 
@@ -36,12 +36,25 @@ fn hash_of(key: &Key) -> u64
     hash
 }
 
-/// Which of so many rows the position of a key has, from 0: a hash of the key's words, modulo the rows. Whoever keeps counts beside a
-/// shard's rows keeps them at these places. Takes no memory.
-pub fn place_of(key: &Key, rows: usize) -> usize
+/// Where a table has a position: in which row, and by which mark its entry there is told apart at a glance. Both are of a hash of the key's
+/// words, which is reckoned once for all that is asked of the table at a time.
+#[derive(Clone, Copy, Debug)]
+pub struct Spot {
+    /// The row, from 0.
+    pub place: usize,
+    /// A part of the hash: entries of one position have one mark.
+    pub mark: u32,
+}
+
+// Where a table of so many rows has the position of a key: in the row that a hash of the key's words, modulo the rows, names.
+pub(crate) fn spot_of(key: &Key, rows: usize) -> Spot
     requires { 0 < rows }
-    ensures place { result ≡ place_of key.now rows }
-    ensures there { result < rows }
+    ensures spot { result ≡ spot_of key.now rows }
+    ensures there { result.place < rows }
 {
-    (hash_of(key) % rows as u64) as usize
+    let hash = hash_of(key);
+    Spot {
+        place: (hash % rows as u64) as usize,
+        mark: (hash >> 32) as u32,
+    }
 }

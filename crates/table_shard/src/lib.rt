@@ -16,5 +16,5 @@ mod shard;
 #[cfg(test)]
 mod tests;
 
-pub use hash::place_of;
+pub use hash::Spot;
 pub use shard::Shard;

@@ -2,6 +2,8 @@
 ghost use Rattle.std.specs.Prelude.{◌≡◌, ◌≢◌, ◌<◌, ◌≤◌, ◌++◌, ◌==◌, ◌↔◌, [], ◌∷◌, ℕ, IfOk, IfSome, IfNone, MatchOption, IsSomeAnd, All, IsTrue, false, length, slice_get, slice_set, slice_index};
 ghost use Rattle.pn_numbers.specs.Numbers.{IsOpen};
 ghost use Rattle.table_shard.specs.Entry.{Held, IsEntry, FitsKey};
+ghost use Rattle.table_shard.specs.Marks.{marks_of};
+ghost use Rattle.table_shard.specs.Spot.{mark_of};
 ghost use Rattle.table_shard.specs.Row.{HoldsAt, Lacks, IsRow, Looks, IsIdle, IsIdleUnsolved, IsFirst, IsGivenUp, Enters, left};
 
 use crate::entry::Entry;
@@ -16,9 +18,11 @@ use std::marker::Model;
 // How many slots a row has.
 pub(crate) const SLOTS: usize = 8;
 
-// The entries in the order of their slots; the slots behind them are free. Contracts see the list.
+// The entries in the order of their slots; the slots behind them are free. Contracts see the list. Their marks stand side by side, so that a
+// look for a position of which the row knows nothing mostly reads these alone.
 #[derive(Drop)]
 pub(crate) struct Row {
+    marks: ArrayVec<u32, SLOTS>,
     entries: ArrayVec<Entry, SLOTS>,
 }
 
@@ -26,9 +30,10 @@ pub(crate) struct Row {
 const _: () = prove!(size_of::<Row>() <= 1024);
 
 impl Model for Row {
-    ghost use Rattle.std.specs.Prelude.{List};
+    ghost use Rattle.std.specs.Prelude.{◌≡◌, List};
     ghost use Rattle.table_shard.specs.Entry.{Held};
     ghost use Rattle.table_shard.specs.Row.{IsRow};
+    ghost use Rattle.table_shard.specs.Marks.{marks_of};
     ghost use Rattle.std.specs.Coded.{codes};
     ghost use Rattle.table_shard.specs.contracts.entry.Entry as entry;
 
@@ -38,7 +43,7 @@ impl Model for Row {
 
     ghost view = { λ r. r.entries.items };
 
-    ghost invariant = { λ r. IsRow r.entries.items };
+    ghost invariant = { λ r. IsRow r.entries.items × (r.marks.items ≡ marks_of r.entries.items) };
 }
 
 impl Row {
@@ -47,6 +52,7 @@ impl Row {
         ensures { result ≡ [] }
     {
         Row {
+            marks: ArrayVec::new(),
             entries: ArrayVec::new(),
         }
     }
@@ -62,6 +68,7 @@ impl Row {
     pub(crate) fn clear(&mut self)
         ensures { self.new ≡ [] }
     {
+        self.marks.clear();
         self.entries.clear();
     }
 
@@ -72,63 +79,76 @@ impl Row {
         let _kept = &self.entries;
     }
 
-    // The slot with the key's entry.
-    pub(crate) fn slot_of(&self, key: &Key) -> Option<usize>
+    // The slot with the key's entry, whose mark is the key's.
+    pub(crate) fn slot_of(&self, mark: u32, key: &Key) -> Option<usize>
+        requires { mark ≡ mark_of key.now }
         ensures there { IfSome result (λ slot. slot < 8) }
         ensures some { IfSome result (λ slot. HoldsAt self.now slot key.now) }
         ensures none { IfNone result (Lacks self.now key.now) }
     {
-        slot_of(self.entries.as_slice(), key)
+        slot_of(self.marks.as_slice(), self.entries.as_slice(), mark, key)
     }
 
     // What a look for the key shows. Errors: want of memory alone.
-    pub(crate) fn look(&self, key: &Key, path: &Path, pins: &[u64; 8]) -> Result<Seen, AllocError>
+    pub(crate) fn look(
+        &self,
+        mark: u32,
+        key: &Key,
+        path: &Path,
+        pins: &[u64; 8],
+    ) -> Result<Seen, AllocError>
+        requires { mark ≡ mark_of key.now }
         ensures { IfOk result (λ seen. Looks self.now pins.now key.now path.now seen) }
     {
-        let Some(slot) = slot_of(self.entries.as_slice(), key) else {
+        let Some(slot) = slot_of(self.marks.as_slice(), self.entries.as_slice(), mark, key) else {
             return Ok(Seen::New);
         };
         self.entries.as_slice()[slot].show(path, pins[slot])
     }
 
     // Enters the key, with these numbers where it is new.
-    pub(crate) fn enter(&mut self, key: &Key, numbers: Numbers, pins: &[u64; 8]) -> Kept
-        requires { IsOpen numbers }
+    pub(crate) fn enter(&mut self, mark: u32, key: &Key, numbers: Numbers, pins: &[u64; 8]) -> Kept
+        requires mark { mark ≡ mark_of key.now }
+        requires open { IsOpen numbers }
         ensures { Enters self.old pins.now key.now numbers result self.new }
     {
-        if let Some(slot) = self.slot_of(key) {
+        if let Some(slot) = self.slot_of(mark, key) {
             return Kept::Slot(slot as u8);
         }
         let entry = Entry::fresh(*key, numbers);
         if self.entries.len() < SLOTS {
             let slot = self.entries.len();
-            self.push(entry);
+            self.push(mark, entry);
             return Kept::Slot(slot as u8);
         }
         let Some(slot) = given_up(self.entries.as_slice(), pins) else {
             return Kept::Unkept;
         };
-        self.put(slot, entry);
+        self.put(slot, mark, entry);
         Kept::Slot(slot as u8)
     }
 
     // Puts an entry of another key into the first free slot.
-    fn push(&mut self, entry: Entry)
+    fn push(&mut self, mark: u32, entry: Entry)
+        requires mark { mark ≡ mark_of entry.key }
         requires room { length self.old < 8 }
         requires entry { IsEntry entry }
         requires other { Lacks self.old entry.key }
         ensures { self.new ≡ self.old ++ entry ∷ [] }
     {
+        self.marks.push(mark);
         self.entries.push(entry);
     }
 
     // Puts an entry of another key into a slot that isn't free.
-    fn put(&mut self, slot: usize, entry: Entry)
+    fn put(&mut self, slot: usize, mark: u32, entry: Entry)
+        requires mark { mark ≡ mark_of entry.key }
         requires there { slot < length self.old }
         requires entry { IsEntry entry }
         requires other { Lacks self.old entry.key }
         ensures { self.new ≡ slice_set self.old slot entry }
     {
+        self.marks.as_mut_slice()[slot] = mark;
         self.entries.as_mut_slice()[slot] = entry;
     }
 
@@ -143,14 +163,25 @@ impl Row {
     }
 }
 
-// The slot with the key's entry.
-fn slot_of(entries: &[Entry], key: &Key) -> Option<usize>
+// Whether an entry with its mark is the key's. Where the marks differ, the entry isn't read.
+fn is_there(known: u32, entry: &Entry, mark: u32, key: &Key) -> bool
+    requires known { known ≡ mark_of entry.now.key }
+    requires mark { mark ≡ mark_of key.now }
+    ensures { IsTrue result ↔ (entry.now.key ≡ key.now) }
+{
+    known == mark && entry.is_of(key)
+}
+
+// The slot with the key's entry, by the marks of the entries.
+fn slot_of(marks: &[u32], entries: &[Entry], mark: u32, key: &Key) -> Option<usize>
+    requires marks { marks.now ≡ marks_of entries.now }
+    requires mark { mark ≡ mark_of key.now }
     ensures there { IfSome result (λ slot. slot < length entries.now) }
     ensures some { IfSome result (λ slot. HoldsAt entries.now slot key.now) }
     ensures none { IfNone result (Lacks entries.now key.now) }
 {
-    for (slot, entry) in entries.iter().enumerate() {
-        if entry.is_of(key) {
+    for (slot, known) in marks.iter().enumerate() {
+        if is_there(*known, &entries[slot], mark, key) {
             return Some(slot);
         }
     }

@@ -5,8 +5,10 @@ ghost use Rattle.pn_numbers.specs.Numbers.{IsOpen};
 ghost use Rattle.table_shard.specs.Entry.{Held, FitsKey};
 ghost use Rattle.table_shard.specs.Row.{HoldsAt, Lacks, IsRow, IsKeptAt, Looks, left};
 ghost use Rattle.table_shard.specs.Shard.{row_of, with_row, EntersIn, KeepsPinned, StaysAt};
+ghost use Rattle.table_shard.specs.Spot.{spot_of};
+ghost use Rattle.table_shard.specs.Emptied.{AreUncounted};
 
-use crate::hash::place_of;
+use crate::hash::{Spot, spot_of};
 use crate::row::Row;
 use board_core::Key;
 use notes::{Kept, Seen, Update};
@@ -15,7 +17,8 @@ use pn_numbers::Numbers;
 use std::alloc::{AllocError, Global};
 use std::marker::Model;
 
-/// Rows of eight slots, in which a search keeps what it knows of positions. Which row a position has, its key says.
+/// Rows of eight slots, in which a search keeps what it knows of positions. Which row a position has, its key says: whoever asks of a
+/// position hands in its [`Spot`] among the shard's rows, reckoned once by [`Shard::spot_of`].
 ///
 /// It keeps that it has a row, that each entry is true (its numbers are both from 1 to the cap, its notes are about its position, and
 /// one that holds on every path stands alone), and that no two entries of a row are of one position.
@@ -69,47 +72,69 @@ impl Shard {
         let _kept = &self.rows;
     }
 
-    /// Takes all entries out, for the search of another problem, in the time of the rows that have some. Takes no memory.
-    pub fn empty(&mut self)
-        ensures { self.new ≡ replicate (length self.old) [] }
+    /// Takes all entries out, for the search of another problem, and sets the counts beside each row that had some to zero, in the time of
+    /// the rows that have some. The counts are one of eight for each row, and those beside rows without entries are zero. Takes no memory.
+    pub fn empty(&mut self, pins: &mut [[u64; 8]])
+        requires { AreUncounted self.old pins.old }
+        ensures rows { self.new ≡ replicate (length self.old) [] }
+        ensures pins { pins.new ≡ replicate (length self.old) (replicate 8 0) }
     {
         while let Some(place) = self.used.pop() {
             let row = &mut self.rows[place];
             row.clear();
+            pins[place] = [0; 8];
         }
     }
 
+    /// Where it has the position of a key: in the row that a hash of the key's words, modulo its rows, names. Whoever keeps counts beside its
+    /// rows keeps them at these places. Takes no memory.
+    pub fn spot_of(&self, key: &Key) -> Spot
+        ensures spot { result ≡ spot_of key.now (length self.now) }
+        ensures there { result.place < length self.now }
+    {
+        spot_of(key, self.rows.len())
+    }
+
     /// The slot of the key's entry; none where its row has none. Takes no memory.
-    pub fn slot_of(&self, key: &Key) -> Option<usize>
+    pub fn slot_of(&self, spot: Spot, key: &Key) -> Option<usize>
+        requires { spot ≡ spot_of key.now (length self.now) }
         ensures there { IfSome result (λ slot. slot < 8) }
         ensures some { IfSome result (λ slot. HoldsAt (row_of self.now key.now) slot key.now) }
         ensures none { IfNone result (Lacks (row_of self.now key.now) key.now) }
     {
-        self.rows[place_of(key, self.rows.len())].slot_of(key)
+        self.rows[spot.place].slot_of(spot.mark, key)
     }
 
     /// What the table shows of a position to a worker on the path: New exactly where it has no entry of the key; Solved with the first
     /// note that holds on the path, where one does; else Open with the numbers and how many workers are below. The note is shared.
     /// Errors: want of memory alone.
-    pub fn look(&self, key: &Key, path: &Path, pins: &[u64; 8]) -> Result<Seen, AllocError>
+    pub fn look(
+        &self,
+        spot: Spot,
+        key: &Key,
+        path: &Path,
+        pins: &[u64; 8],
+    ) -> Result<Seen, AllocError>
+        requires { spot ≡ spot_of key.now (length self.now) }
         ensures { IfOk result (λ seen. Looks (row_of self.now key.now) pins.now key.now path.now seen) }
     {
-        self.rows[place_of(key, self.rows.len())].look(key, path, pins)
+        self.rows[spot.place].look(spot.mark, key, path, pins)
     }
 
     /// Enters a position: answers the slot of its entry. Where it has none, it gets one with these numbers, both from 1 to the cap, in
     /// the row's first free slot, else in that of an entry that no worker is below, which is given up: the first without a note that
     /// holds on every path, else the first. Unkept exactly where eight other entries have workers below. Takes no memory.
-    pub fn enter(&mut self, key: &Key, numbers: Numbers, pins: &[u64; 8]) -> Kept
-        requires { IsOpen numbers }
+    pub fn enter(&mut self, spot: Spot, key: &Key, numbers: Numbers, pins: &[u64; 8]) -> Kept
+        requires spot { spot ≡ spot_of key.now (length self.old) }
+        requires open { IsOpen numbers }
         ensures entered { EntersIn self.old pins.now key.now numbers result self.new }
         ensures kept { IsKeptAt (row_of self.new key.now) key.now result }
         ensures pinned { KeepsPinned self.old pins.now key.now self.new }
     {
-        let place = place_of(key, self.rows.len());
+        let place = spot.place;
         let is_new = self.rows[place].is_empty();
         let row = &mut self.rows[place];
-        let kept = row.enter(key, numbers, pins);
+        let kept = row.enter(spot.mark, key, numbers, pins);
         row.laws();
         if is_new {
             // There is room for the place of each row.
@@ -121,14 +146,14 @@ impl Shard {
     /// Leaves a position whose entry is in the slot, with what was found out. A note that holds on every path replaces all notes; any
     /// other goes last, unless one that holds on every path is there or it depends on more than 32 positions, and where there are four
     /// the first goes. A note leaves the numbers as they are. Takes no memory.
-    pub fn leave(&mut self, slot: u8, key: &Key, update: Update)
+    pub fn leave(&mut self, spot: Spot, slot: u8, key: &Key, update: Update)
+        requires spot { spot ≡ spot_of key.now (length self.old) }
         requires there { HoldsAt (row_of self.old key.now) slot key.now }
         requires fits { FitsKey key.now update }
         ensures left { self.new ≡ with_row self.old key.now (left (row_of self.old key.now) slot update) }
         ensures stays { (other : Key) (place : ℕ) → StaysAt self.old self.new other place }
     {
-        let place = place_of(key, self.rows.len());
-        let row = &mut self.rows[place];
+        let row = &mut self.rows[spot.place];
         row.leave(slot as usize, update);
         row.laws();
     }

@@ -1,13 +1,14 @@
-// Rows that fill, numbers and notes that are left, and a shard that is emptied.
+// Rows that fill, and numbers and notes that are left.
 mod escapes;
 
 ghost use Rattle.std.specs.Prelude.{IfSome};
+ghost use Rattle.pn_numbers.specs.Numbers.{IsOpen};
 ghost use Rattle.table_shard.specs.Entry.{IsAbout};
 ghost use Rattle.table_shard.specs.Row.{HoldsAt};
 ghost use Rattle.table_shard.specs.Shard.{row_of};
 
 use super::Shard;
-use super::hash::place_of;
+use super::hash::spot_of;
 use board_core::{Key, key as key_of};
 use escapes::{Leaving, checked, evasions, note_of, path_through};
 use notes::{Kept, Note, Rule, Seen, Update};
@@ -27,11 +28,20 @@ fn looked(
     path: &Path,
     pins: &[u64; 8],
 ) -> Result<Option<(u32, u32, u64)>, AllocError> {
-    Ok(match shard.look(&key(word), path, pins)? {
+    let key = key(word);
+    Ok(match shard.look(shard.spot_of(&key), &key, path, pins)? {
         Seen::New => None,
         Seen::Open { numbers, below } => Some((numbers.pn, numbers.dn, below)),
         Seen::Solved(_) => Some((0, 0, 0)),
     })
+}
+
+// What entering a key answers.
+fn entered(shard: &mut Shard, word: u64, numbers: Numbers, pins: &[u64; 8]) -> Kept
+    requires { IsOpen numbers }
+{
+    let key = key(word);
+    shard.enter(shard.spot_of(&key), &key, numbers, pins)
 }
 
 // Eight entries in the one row, and a ninth for each count of workers.
@@ -42,7 +52,7 @@ fn a_full_row_gives_up_an_entry_that_no_worker_is_below(rt: HostRuntime) -> Resu
     // The rows of one key, among many and among few.
     let board = Key([0, 0, 0, 1046, 0, 0, 0, 16384]);
     assert_eq!(rt;
-        (place_of(&board, 16_384), place_of(&board, 16)),
+        (spot_of(&board, 16_384).place, spot_of(&board, 16).place),
         (7515, 11)
     );
     let all = [1, 1, 1, 1, 1, 1, 1, 1];
@@ -55,10 +65,10 @@ fn a_full_row_gives_up_an_entry_that_no_worker_is_below(rt: HostRuntime) -> Resu
     for (pins, kept, given_up) in table {
         let mut shard = Shard::make(rt.alloc(), 1)?;
         for word in 0..8 {
-            assert!(rt; shard.enter(&key(word), numbers, &all) == Kept::Slot(word as u8));
+            assert!(rt; entered(&mut shard, word, numbers, &all) == Kept::Slot(word as u8));
         }
-        assert!(rt; shard.enter(&key(5), Numbers::ONE, &all) == Kept::Slot(5));
-        assert!(rt; shard.enter(&key(8), Numbers::ONE, &pins) == kept);
+        assert!(rt; entered(&mut shard, 5, Numbers::ONE, &all) == Kept::Slot(5));
+        assert!(rt; entered(&mut shard, 8, Numbers::ONE, &pins) == kept);
         for word in 0..8 {
             let shown = looked(&shard, word, &path, &pins)?;
             let is_gone = given_up == Some(word);
@@ -68,8 +78,6 @@ fn a_full_row_gives_up_an_entry_that_no_worker_is_below(rt: HostRuntime) -> Resu
         let ninth = looked(&shard, 8, &path, &pins)?;
         assert!(rt; ninth.is_some() == given_up.is_some());
         assert!(rt; ninth.is_none() || ninth == Some((1, 1, 0)));
-        shard.empty();
-        assert!(rt; looked(&shard, 0, &path, &pins)?.is_none());
     }
     Ok(())
 }
@@ -83,7 +91,7 @@ fn leave(shard: &mut Shard, slot: u8, key: &Key, note: Option<Note>) -> bool
     let Some(note) = note else {
         return false;
     };
-    shard.leave(slot, key, Update::Note(note));
+    shard.leave(shard.spot_of(key), slot, key, Update::Note(note));
     true
 }
 
@@ -98,7 +106,7 @@ fn rules_on(shard: &Shard, key: &Key, paths: &[Path; 3]) -> Result<[Option<Rule>
 }
 
 fn rule_on(shard: &Shard, key: &Key, path: &Path) -> Result<Option<Rule>, AllocError> {
-    Ok(match shard.look(key, path, &[0; 8])? {
+    Ok(match shard.look(shard.spot_of(key), key, path, &[0; 8])? {
         Seen::Solved(note) => Some(note.rule()),
         _ => None,
     })
@@ -141,7 +149,8 @@ fn a_note_counts_where_its_position_is_on_the_path(rt: HostRuntime) -> Result<()
     ];
     let key = key_of(&position);
     let mut shard = Shard::make(alloc, 3)?;
-    let Kept::Slot(slot) = shard.enter(&key, Numbers::ONE, &[0; 8]) else {
+    let spot = shard.spot_of(&key);
+    let Kept::Slot(slot) = shard.enter(spot, &key, Numbers::ONE, &[0; 8]) else {
         return Err(Fail::from("no slot"));
     };
     for (leaving, wanted) in table {

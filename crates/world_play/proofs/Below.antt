@@ -14,7 +14,8 @@ use Rattle.notes.specs.declared.words.Kept.{Kept}
 use Rattle.notes.specs.declared.words.Kept.TheVariants.{Slot, Unkept}
 use Rattle.table_shard.specs.Entry.{Held}
 use Rattle.table_shard.specs.Row.{HoldsAt, Lacks, IsRow}
-use Rattle.table_shard.specs.Shard.{row_of, place_of, hash_of}
+use Rattle.table_shard.specs.Shard.{row_of}
+use Rattle.table_shard.specs.Spot.{place_of, hash_of}
 use Rattle.visit_log.specs.Frame.{Visiting}
 use Rattle.visit_log.specs.Run.{Standing}
 use Rattle.visit_log.specs.Counts.{own_slots, slot_of}

@@ -11,7 +11,8 @@ use Rattle.notes.specs.declared.words.Update.{Update}
 use Rattle.notes.specs.declared.words.Update.TheVariants.{Numbers as SetNumbers, Note as AddNote, Nothing as ChangeNothing}
 use Rattle.table_shard.specs.Entry.{Held, updated}
 use Rattle.table_shard.specs.Row.{HoldsAt, Enters, IsGivenUp, fresh, left}
-use Rattle.table_shard.specs.Shard.{row_of, with_row, place_of, hash_of}
+use Rattle.table_shard.specs.Shard.{row_of, with_row}
+use Rattle.table_shard.specs.Spot.{place_of, hash_of}
 use Rattle.visit_log.specs.declared.words.Request.{Request}
 use Rattle.visit_log.specs.declared.words.Request.TheVariants.{Poll, Draw as Draws, Claim as Claims, Look, Enter, Leave, Post}
 use Rattle.visit_log.specs.declared.words.Answer.{Answer}

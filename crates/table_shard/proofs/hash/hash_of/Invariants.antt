@@ -1,5 +1,5 @@
 use Rattle.std.proofs.Common.{◌≡◌, ◌<◌, take}
-use Rattle.table_shard.specs.Shard.{hash_of}
+use Rattle.table_shard.specs.Spot.{hash_of}
 use Rattle.table_shard.specs.declared.hash.TheConstants.{MODULUS}
 use Rattle.table_shard.proofs.hash.hash_of.Given as goal
 

@@ -1,4 +1,4 @@
-use Rattle.std.proofs.Common.{◌≡◌, ℕ, List, length, subst, arith}
+use Rattle.std.proofs.Common.{◌≡◌, ℕ, List, length, subst, sym}
 use Rattle.std.specs.Prelude.{IfOk}
 use Rattle.visit_log.specs.declared.words.Request.TheVariants.{Look}
 use Rattle.visit_log.specs.Round.{MayShow}
@@ -6,15 +6,15 @@ use Rattle.table_shard.specs.Row.{Looks}
 use Rattle.table_shard.specs.Shard.{row_of}
 use Rattle.worker_core.specs.Port.{shown}
 use Rattle.lone_port.specs.Lone.{Lone, Turns}
-use Rattle.lone_port.proofs.Asked.{found, look_turns, look_may}
+use Rattle.lone_port.proofs.Asked.{found, look_turns, look_may, spot_place}
 use Rattle.lone_port.proofs.lone.LonePortPort.look.Goals as goal
 
 pub returns-clause-turn : goal.returns-clause-turn
 returns-clause-turn c =
     let port : Lone = record { rows = c.self.inside.shard; pins = c.self.inside.pins.items; desk = c.self.inside.desk; going = c.self.inside.is_going; stops = c.self.inside.stops } in
     let key = c.args.key.now in
-    let long : c.len.result ≡ length port.pins = (let o = c.self.inside.pins.ok in let l = c.len.ensures in omega (arith, o, l)) in
-    let counts = found port.pins key c.place_of-place.result c.len.result c.index.result.now long c.place_of-place.ensures.place c.place_of-place.ensures.there c.index.ensures in
+    let long : length port.rows ≡ length port.pins = sym c.self.invariant.as_many in
+    let counts = found port.pins key c.spot_of-spot.result.place (length port.rows) c.index.result.now long (spot_place c.spot_of-spot.result c.args.key.now (length port.rows) c.spot_of-spot.ensures.spot) c.spot_of-spot.ensures.there c.index.ensures in
     subst (λ (q : Lone). Turns q c.args.path.now (Look key) (shown c.look.result) q) c.self.view_is
     (look_turns port key c.args.path.now c.look.result
     (subst (λ (n : List ℕ). IfOk c.look.result (Looks (row_of port.rows key) n key c.args.path.now)) counts c.look.ensures))
@@ -23,8 +23,8 @@ pub returns-clause-may : goal.returns-clause-may
 returns-clause-may c =
     let port : Lone = record { rows = c.self.inside.shard; pins = c.self.inside.pins.items; desk = c.self.inside.desk; going = c.self.inside.is_going; stops = c.self.inside.stops } in
     let key = c.args.key.now in
-    let long : c.len.result ≡ length port.pins = (let o = c.self.inside.pins.ok in let l = c.len.ensures in omega (arith, o, l)) in
-    let counts = found port.pins key c.place_of-place.result c.len.result c.index.result.now long c.place_of-place.ensures.place c.place_of-place.ensures.there c.index.ensures in
+    let long : length port.rows ≡ length port.pins = sym c.self.invariant.as_many in
+    let counts = found port.pins key c.spot_of-spot.result.place (length port.rows) c.index.result.now long (spot_place c.spot_of-spot.result c.args.key.now (length port.rows) c.spot_of-spot.ensures.spot) c.spot_of-spot.ensures.there c.index.ensures in
     subst (λ (q : Lone). IfOk c.look.result (MayShow q.desk.position.side key c.args.path.now)) c.self.view_is
     (look_may port key c.args.path.now c.look.result c.self.invariant c.laws.ensures.rows
     (subst (λ (n : List ℕ). IfOk c.look.result (Looks (row_of port.rows key) n key c.args.path.now)) counts c.look.ensures))

@@ -1,13 +1,18 @@
-use Rattle.std.proofs.Common.{◌<◌, List, length, sym, subst}
+use Rattle.std.proofs.Common.{◌≡◌, ◌<◌, ◌++◌, [], ◌∷◌, ℕ, List, length, sym, subst, ◌∙◌}
 use Rattle.table_shard.specs.Entry.{Held}
+use Rattle.table_shard.specs.Marks.{marks_of}
 use Rattle.table_shard.specs.Row.{IsRow, Lacks}
+use Rattle.table_shard.proofs.Marks.{marks_pushed}
 use Rattle.table_shard.proofs.Rows.{row_pushed}
 use Rattle.table_shard.proofs.row.Row.push.Goals as goal
 
 pub invariant_of-self : goal.invariant_of-self
 invariant_of-self c =
-    subst IsRow (sym c.push.ensures.items)
-    (row_pushed c.self.inside.entries.items c.args.entry c.self.invariant
-    (subst (λ (row : List Held). length row < 8) (sym c.self.view_is) c.requires.room)
+    let row = c.self.inside.entries.items in
+    let kept : IsRow (row ++ c.args.entry ∷ []) = row_pushed row c.args.entry c.self.invariant.0
+    (subst (λ (r : List Held). length r < 8) (sym c.self.view_is) c.requires.room)
     c.requires.entry
-    (subst (λ (row : List Held). Lacks row c.args.entry.key) (sym c.self.view_is) c.requires.other))
+    (subst (λ (r : List Held). Lacks r c.args.entry.key) (sym c.self.view_is) c.requires.other) in
+    let marked : c.push.new.self.items ≡ marks_of (row ++ c.args.entry ∷ []) =
+    c.push.ensures.items ∙ marks_pushed row c.args.entry c.args.mark c.self.inside.marks.items c.self.invariant.1 c.requires.mark in
+    subst (λ (r : List Held). IsRow r × (c.push.new.self.items ≡ marks_of r)) (sym c.push-2.ensures.items) (kept, marked)

@@ -2,9 +2,11 @@ use Rattle.std.proofs.Common.{◌≡◌, ◌<◌, ℕ, List, [], ◌∷◌, ◌+
 use Rattle.std.proofs.lemmas.List.{get_or_default}
 use Rattle.std.specs.Vec.{vec_capacity}
 use Rattle.table_shard.specs.Entry.{Held}
-use Rattle.table_shard.specs.Shard.{place_of, row_of, KeepsPinned}
+use Rattle.table_shard.specs.Shard.{row_of, KeepsPinned}
+use Rattle.table_shard.specs.Spot.{place_of, spot_of}
+use Rattle.table_shard.specs.declared.hash.Spot.{Spot}
 use Rattle.table_shard.specs.Used.{IsShard}
-use Rattle.table_shard.proofs.Places.{kept_in, pinned_in}
+use Rattle.table_shard.proofs.Places.{kept_in, pinned_in, spot_within}
 use Rattle.table_shard.proofs.Rows.{enters_some}
 use Rattle.table_shard.proofs.Used.{shard_changed, shard_marked, room_left, free_read, taken_read}
 use Rattle.table_shard.proofs.shard.Shard.enter.Goals as goal
@@ -12,8 +14,8 @@ use Rattle.table_shard.proofs.shard.Shard.enter.Goals as goal
 pub push_reserved-requires : goal.push_reserved-requires
 push_reserved-requires c =
     let rows = c.self.inside.rows.items in
-    let place = c.place_of-place.result in
-    let there : place < length rows = (let t = c.place_of-place.ensures.there in let o = c.self.inside.rows.ok in let l = c.len.ensures in omega (arith, t, o, l)) in
+    let place = c.args.spot.place in
+    let there : place < length rows = spot_within rows c.args.spot c.args.key.now c.self.invariant.some (subst (λ (n : ℕ). c.args.spot ≡ spot_of c.args.key.now n) (sym (ap length c.self.view_is)) c.requires.spot) in
     let free : length (get_or rows place []) ≡ 0 = free_read rows place c.index.result.now c.is_empty-is_new.result there c.index.ensures c.is_empty-is_new.ensures c.if-is_new.true in
     let left : length c.self.inside.used.items < vec_capacity c.self.inside.used = room_left rows c.self.inside.used.items (vec_capacity c.self.inside.used) place c.self.invariant there free in
     let o = c.self.inside.used.ok in omega (arith, left, o)
@@ -22,10 +24,10 @@ pub invariant_of-self : goal.invariant_of-self
 invariant_of-self c =
     let rows = c.self.inside.rows.items in
     let used = c.self.inside.used.items in
-    let place = c.place_of-place.result in
+    let place = c.args.spot.place in
     let row = c.enter-kept.new.self in
     let room = vec_capacity c.self.inside.used in
-    let there : place < length rows = (let t = c.place_of-place.ensures.there in let o = c.self.inside.rows.ok in let l = c.len.ensures in omega (arith, t, o, l)) in
+    let there : place < length rows = spot_within rows c.args.spot c.args.key.now c.self.invariant.some (subst (λ (n : ℕ). c.args.spot ≡ spot_of c.args.key.now n) (sym (ap length c.self.view_is)) c.requires.spot) in
     let free : length (get_or rows place []) ≡ 0 = free_read rows place c.index.result.now c.is_empty-is_new.result there c.index.ensures c.is_empty-is_new.ensures c.if-is_new.true in
     let some = enters_some c.index_mut-row.result.now c.args.pins.now c.args.key.now c.args.numbers c.enter-kept.result row c.enter-kept.ensures in
     let marked : IsShard (set rows place row) (used ++ place ∷ []) room = shard_marked rows used room place row c.self.invariant there c.laws.ensures free some in
@@ -35,8 +37,8 @@ invariant_of-self c =
 pub invariant_of-self-else-is_new : goal.invariant_of-self-else-is_new
 invariant_of-self-else-is_new c =
     let rows = c.self.inside.rows.items in
-    let place = c.place_of-place.result in
-    let there : place < length rows = (let t = c.place_of-place.ensures.there in let o = c.self.inside.rows.ok in let l = c.len.ensures in omega (arith, t, o, l)) in
+    let place = c.args.spot.place in
+    let there : place < length rows = spot_within rows c.args.spot c.args.key.now c.self.invariant.some (subst (λ (n : ℕ). c.args.spot ≡ spot_of c.args.key.now n) (sym (ap length c.self.view_is)) c.requires.spot) in
     shard_changed rows c.self.inside.used.items (vec_capacity c.self.inside.used) place c.enter-kept.new.self c.self.invariant there c.laws.ensures
     (taken_read rows place c.index.result.now c.is_empty-is_new.result there c.index.ensures c.is_empty-is_new.ensures c.if-is_new.false)
     (enters_some c.index_mut-row.result.now c.args.pins.now c.args.key.now c.args.numbers c.enter-kept.result c.enter-kept.new.self c.enter-kept.ensures)
@@ -44,27 +46,27 @@ invariant_of-self-else-is_new c =
 pub returns-then-is_new-clause-kept : goal.returns-then-is_new-clause-kept
 returns-then-is_new-clause-kept c =
     let rows = c.self.inside.rows.items in
-    let long : c.len.result ≡ length rows = (let o = c.self.inside.rows.ok in let l = c.len.ensures in omega (arith, o, l)) in
-    let is : c.place_of-place.result ≡ place_of c.args.key.now (length rows) = c.place_of-place.ensures.place ∙ ap (place_of c.args.key.now) long in
-    kept_in rows c.place_of-place.result c.args.pins.now c.args.key.now c.args.numbers c.enter-kept.result c.index_mut-row.result.now c.enter-kept.new.self
+    let is_spot : c.args.spot ≡ spot_of c.args.key.now (length rows) = subst (λ (n : ℕ). c.args.spot ≡ spot_of c.args.key.now n) (sym (ap length c.self.view_is)) c.requires.spot in
+    let is : c.args.spot.place ≡ place_of c.args.key.now (length rows) = ap (λ (s : Spot). s.place) is_spot in
+    kept_in rows c.args.spot.place c.args.pins.now c.args.key.now c.args.numbers c.enter-kept.result c.index_mut-row.result.now c.enter-kept.new.self
     c.self.invariant.some is c.enter-kept.ensures
 
 pub returns-else-is_new-clause-kept : goal.returns-else-is_new-clause-kept
 returns-else-is_new-clause-kept c =
     let rows = c.self.inside.rows.items in
-    let long : c.len.result ≡ length rows = (let o = c.self.inside.rows.ok in let l = c.len.ensures in omega (arith, o, l)) in
-    let is : c.place_of-place.result ≡ place_of c.args.key.now (length rows) = c.place_of-place.ensures.place ∙ ap (place_of c.args.key.now) long in
-    kept_in rows c.place_of-place.result c.args.pins.now c.args.key.now c.args.numbers c.enter-kept.result c.index_mut-row.result.now c.enter-kept.new.self
+    let is_spot : c.args.spot ≡ spot_of c.args.key.now (length rows) = subst (λ (n : ℕ). c.args.spot ≡ spot_of c.args.key.now n) (sym (ap length c.self.view_is)) c.requires.spot in
+    let is : c.args.spot.place ≡ place_of c.args.key.now (length rows) = ap (λ (s : Spot). s.place) is_spot in
+    kept_in rows c.args.spot.place c.args.pins.now c.args.key.now c.args.numbers c.enter-kept.result c.index_mut-row.result.now c.enter-kept.new.self
     c.self.invariant.some is c.enter-kept.ensures
 
 pub returns-else-is_new-clause-pinned : goal.returns-else-is_new-clause-pinned
 returns-else-is_new-clause-pinned c =
     let rows = c.self.inside.rows.items in
     let key = c.args.key.now in
-    let place = c.place_of-place.result in
-    let long : c.len.result ≡ length rows = (let o = c.self.inside.rows.ok in let l = c.len.ensures in omega (arith, o, l)) in
-    let there : place < length rows = (let t = c.place_of-place.ensures.there in omega (arith, t, long)) in
-    let is : place ≡ place_of key (length rows) = c.place_of-place.ensures.place ∙ ap (place_of key) long in
+    let place = c.args.spot.place in
+    let is_spot : c.args.spot ≡ spot_of c.args.key.now (length rows) = subst (λ (n : ℕ). c.args.spot ≡ spot_of c.args.key.now n) (sym (ap length c.self.view_is)) c.requires.spot in
+    let there : place < length rows = spot_within rows c.args.spot key c.self.invariant.some is_spot in
+    let is : place ≡ place_of key (length rows) = ap (λ (s : Spot). s.place) is_spot in
     let old : c.index_mut-row.result.now ≡ row_of rows key = c.index_mut-row.ensures.value ∙ (get_or_default rows place c.index_mut-row.result.now [] there ∙ ap (λ (n : ℕ). get_or rows n []) is) in
     subst (λ (rs : List (List Held)). KeepsPinned rs c.args.pins.now key (set rows place c.enter-kept.new.self)) c.self.view_is
     (pinned_in rows place c.args.pins.now key c.args.numbers c.enter-kept.result c.index_mut-row.result.now c.enter-kept.new.self c.self.invariant.some is old c.enter-kept.ensures)

@@ -1,25 +1,25 @@
-use Rattle.std.proofs.Common.{sym, ◌∙◌}
+use Rattle.std.proofs.Common.{Some, sym, ap, ◌∙◌}
 use Rattle.unit_desk.specs.Settings.{settings_in}
 use Rattle.search_pool.proofs.Ends.{begun, ends_solved, ends_unknown, ends_stopped}
-use Rattle.search_pool.proofs.alone.search_alone_until.Goals as goal
+use Rattle.search_pool.proofs.alone.search_over.Goals as goal
 
 pub work_alone-end-requires-after_bounds : goal.work_alone-end-requires-after_bounds
 work_alone-end-requires-after_bounds g c = λ lifetimes bounds.
-    begun c.args.problem.now.position (settings_in c.args.settings.now) (g.T.Stop.signal c.args.stop.now) c.in_ok-port.port c.make-worker.result
-    c.in_ok-port.ensures.made c.make-worker.ensures c.in_ok-port.ensures.suits
+    begun c.args.problem.now.position (settings_in c.args.settings.now) (g.T.Stop.signal c.args.stop.now) c.args.port.now c.make-worker.result
+    c.requires.made c.make-worker.ensures c.requires.suits
 
 pub returns-in-Some-clause-alone : goal.returns-in-Some-clause-alone
 returns-in-Some-clause-alone g c =
     ends_solved c.args.problem.now.position (settings_in c.args.settings.now) (g.T.Stop.signal c.args.stop.now) (g.T.Stop.signal c.work_alone-end.new.stop)
-    c.work_alone-end.new.port c.work_alone-end.new.worker c.work_alone-end.result c.in-Some.note c.work_alone-end.ensures.way c.work_alone-end.ensures.ended
-    c.in-Some.ensures
+    c.work_alone-end.new.port c.work_alone-end.new.worker c.work_alone-end.result c.in_ok-note.note c.work_alone-end.ensures.way c.work_alone-end.ensures.ended
+    (ap Some c.in_ok-note.ensures ∙ c.in-Some.ensures)
 
 pub returns-clause-alone : goal.returns-clause-alone
 returns-clause-alone g c =
     ends_unknown c.args.problem.now.position (settings_in c.args.settings.now) (g.T.Stop.signal c.args.stop.now) (g.T.Stop.signal c.work_alone-end.new.stop)
     c.work_alone-end.new.port c.work_alone-end.new.worker c.work_alone-end.result c.in-Some-cause_of.cause c.new.result c.work_alone-end.ensures.way c.work_alone-end.ensures.ended
     c.visit_laws.ensures.causes c.laws-2.ensures.whole c.in-Some-cause_of.ensures.cause
-    (sym c.into_note.ensures ∙ c.in_default.is) (c.new.ensures ∙ c.in_ok-vec.ensures.items)
+    (sym c.in_default.ensures) (c.new.ensures ∙ c.in_ok-vec.ensures.items)
 
 pub returns-clause-stopped : goal.returns-clause-stopped
 returns-clause-stopped g c =

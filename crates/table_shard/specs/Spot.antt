@@ -1,0 +1,25 @@
+-- Where a table has a position.
+use Rattle.std.specs.Prelude.{◌+◌, ◌*◌, ◌/◌, ◌%◌, ◌^◌, ℕ, List, fold}
+use Rattle.board_core.specs.declared.keys.Key.{Key}
+use Rattle.table_shard.specs.declared.hash.Spot.{Spot}
+use Rattle.table_shard.specs.declared.hash.TheConstants.{MULTIPLIER, MODULUS}
+
+-- The hash after another word.
+abbrev pub hashed : ℕ → ℕ → ℕ
+hashed hash word = (hash + word) * MULTIPLIER % MODULUS
+
+-- The hash of a key's words, the first first.
+abbrev pub hash_of : List ℕ → ℕ
+hash_of words = fold hashed 0 words
+
+-- Which of so many rows a key has.
+abbrev pub place_of : Key → ℕ → ℕ
+place_of key rows = hash_of key.0 % rows
+
+-- The mark of a key's entry: the hash without its 32 lowest bits.
+abbrev pub mark_of : Key → ℕ
+mark_of key = hash_of key.0 / 2 ^ 32
+
+-- Where a table of so many rows has a key's position.
+abbrev pub spot_of : Key → ℕ → Spot
+spot_of key rows = record { place = place_of key rows; mark = mark_of key }
