@@ -226,6 +226,102 @@ fn no_note_is_higher_than_the_limit_and_the_highest_is_dropped(
     Ok(())
 }
 
+// A check of the first position, the king's step after it, and what a bishop has there: a check after which the king takes it, and one after
+// which he steps back to the first position, with the bishop where it was.
+#[derive(Drop)]
+struct Detour {
+    checked: Position,
+    step: Move,
+    next: Position,
+    taken: Note,
+    checked_again: Position,
+    back: Move,
+}
+
+// The escape after a check where the king takes the bishop, which leaves no check.
+fn bishop_taken(
+    rt: &impl Abort,
+    alloc: Global,
+    problem: &Problem,
+    position: &Position,
+    check: &str,
+    evasion: &str,
+) -> Result<Note, Fail> {
+    let checked = moved(rt, position, check);
+    let end = ended_escape(alloc, problem, &moved(rt, &checked, evasion))?;
+    Ok(escaped_by(alloc, problem, &checked, by(rt, evasion), &end)?)
+}
+
+impl Detour {
+    fn begun(
+        rt: &impl Abort,
+        alloc: Global,
+        problem: &Problem,
+        there: [&str; 2],
+        lost: [&str; 2],
+        back: [&str; 2],
+    ) -> Result<Detour, Fail> {
+        let checked = moved(rt, &problem.position, there[0]);
+        let next = moved(rt, &checked, there[1]);
+        Ok(Detour {
+            checked,
+            step: by(rt, there[1]),
+            next,
+            taken: bishop_taken(rt, alloc, problem, &next, lost[0], lost[1])?,
+            checked_again: moved(rt, &next, back[0]),
+            back: by(rt, back[1]),
+        })
+    }
+
+    // The escape after the check, over one from the first position.
+    fn over(&self, alloc: Global, problem: &Problem, first: &Note) -> Result<Note, Unmade> {
+        let mut notes = Vec::new(alloc);
+        notes.push(self.taken.share()?)?;
+        notes.push(escaped_by(alloc, problem, &self.checked_again, self.back, first)?)?;
+        let next = escaped_all(alloc, problem, &self.next, &notes)?;
+        escaped_by(alloc, problem, &self.checked, self.step, &next)
+    }
+}
+
+// Each escape from the first position stands on the one before it twice, so that the last one's tree has more than 2 ^ 1023 paths.
+#[test]
+fn a_note_that_the_next_holds_twice_is_one_note(rt: HostRuntime) -> Result<(), Fail> {
+    let alloc = rt.alloc();
+    let problem = problem(&rt, "9/9/9/9/9/2B1k4/9/9/9 b -");
+    let one = Detour::begun(
+        &rt,
+        alloc,
+        &problem,
+        ["7f6e", "5f6g"],
+        ["6e5f", "6g5f"],
+        ["6e7f", "6g5f"],
+    )?;
+    let other = Detour::begun(
+        &rt,
+        alloc,
+        &problem,
+        ["7f6g", "5f6e"],
+        ["6g5f", "6e5f"],
+        ["6g7f", "6e5f"],
+    )?;
+    let mut notes = Vec::new(alloc);
+    for (check, evasion) in [("7f6e", "5f6e"), ("7f6g", "5f6g")] {
+        notes.push(bishop_taken(&rt, alloc, &problem, &problem.position, check, evasion)?)?;
+    }
+    let mut first = escaped_all(alloc, &problem, &problem.position, &notes)?;
+    assert_eq!(rt; first.height(), 3);
+    for _ in 0..1023 {
+        let mut notes = Vec::new(alloc);
+        notes.push(one.over(alloc, &problem, &first)?)?;
+        notes.push(other.over(alloc, &problem, &first)?)?;
+        first = escaped_all(alloc, &problem, &problem.position, &notes)?;
+    }
+    assert_eq!(rt; first.height(), HEIGHT_LIMIT - 1);
+    assert!(rt; first.is_closed());
+    drop(first);
+    Ok(())
+}
+
 // The note of a mate by a check after which there is no evasion.
 fn mate_in_one(
     rt: &impl Abort,

@@ -51,7 +51,8 @@ fn filled(alloc: Global, rows: usize) -> Result<(Shard, Numbering), AllocError>
     let mut shard = Shard::make(alloc, rows)?;
     let limit = (rows as u64).saturating_mul(4);
     for number in 0..limit.saturating_mul(4) {
-        shard.enter(&key(number), NUMBERS, &NOBODY);
+        let key = key(number);
+        shard.enter(shard.spot_of(&key), &key, NUMBERS, &NOBODY);
     }
     Ok((shard, Numbering { state: 1, limit }))
 }
@@ -64,7 +65,8 @@ fn look_each(
 ) -> Result<Done, AllocError> {
     let mut sum: u64 = 0;
     for _ in 0..rounds {
-        if let Seen::Open { numbers, .. } = shard.look(&key(keys.next()), path, &NOBODY)? {
+        let key = key(keys.next());
+        if let Seen::Open { numbers, .. } = shard.look(shard.spot_of(&key), &key, path, &NOBODY)? {
             sum = sum.wrapping_add(u64::from(numbers.pn));
         }
     }
@@ -75,8 +77,9 @@ fn enter_each(shard: &mut Shard, keys: &mut Numbering, rounds: u64) -> Done {
     let mut sum: u64 = 0;
     for _ in 0..rounds {
         let key = key(keys.next());
-        if let Kept::Slot(slot) = shard.enter(&key, NUMBERS, &NOBODY) {
-            shard.leave(slot, &key, Update::Numbers(NUMBERS));
+        let spot = shard.spot_of(&key);
+        if let Kept::Slot(slot) = shard.enter(spot, &key, NUMBERS, &NOBODY) {
+            shard.leave(spot, slot, &key, Update::Numbers(NUMBERS));
             sum = sum.wrapping_add(u64::from(slot));
         }
     }
