@@ -6,6 +6,8 @@ use Rattle.cert_text.specs.FaultText.{certificate_fault_text}
 use Rattle.tsume_words.specs.FaultText.{word_fault_text}
 use Rattle.app_texts.specs.declared.fault.ProblemFault.{ProblemFault}
 use Rattle.app_texts.specs.declared.fault.ProblemFault.TheVariants.{Text, Diagram, DefenderInCheck}
+use Rattle.app_texts.specs.declared.report.LineFault.{LineFault}
+use Rattle.app_texts.specs.declared.report.LineFault.TheVariants as line_faults
 use Rattle.app_texts.specs.declared.fault.Fault.{Fault}
 use Rattle.app_texts.specs.declared.fault.Fault.TheVariants.{NotUtf8, Words, Asked, TooLong, Problem, Cert, Read, NoMemory}
 
@@ -14,6 +16,11 @@ abbrev pub problem_fault_text : ProblemFault → List ℕ
 problem_fault_text (Text fault) = fault_text fault
 problem_fault_text (Diagram fault) = diagram_fault_text fault
 problem_fault_text DefenderInCheck = codes "defender in check"
+
+-- What is wrong with a line of a collection, in words: that it is too long, or the fault of its problem.
+abbrev pub line_fault_text : LineFault → List ℕ
+line_fault_text line_faults.TooLong = codes "too long"
+line_fault_text (line_faults.Problem fault) = problem_fault_text fault
 
 -- Why a run failed, in words, with the place of the input's fault.
 abbrev pub failure_text : Fault → List ℕ

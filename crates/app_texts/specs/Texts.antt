@@ -10,12 +10,14 @@ use Rattle.cert_check.specs.declared.verdict.Why.{Why}
 use Rattle.cert_check.specs.declared.verdict.Why.TheVariants.{RootMissing, NotACheck, EvasionOutside, RankNotLower, CheckUnanswered}
 use Rattle.unit_desk.specs.declared.cause.Cause.{Cause}
 use Rattle.unit_desk.specs.declared.cause.Cause.TheVariants.{Expansions, Room, Height, Stopped}
+use Rattle.app_texts.specs.Counts.{counts_text}
+use Rattle.app_texts.specs.Survey.{summary_text}
 use Rattle.app_texts.specs.declared.answer.Solution.{Solution}
 use Rattle.app_texts.specs.declared.answer.Solution.TheVariants.{Mate, NoMate, Unknown}
 use Rattle.app_texts.specs.declared.answer.Judgement.{Judgement}
 use Rattle.app_texts.specs.declared.answer.Judgement.TheVariants.{Accepted, Refused}
 use Rattle.app_texts.specs.declared.answer.Answer.{Answer}
-use Rattle.app_texts.specs.declared.answer.Answer.TheVariants.{Solved, Judged, Help}
+use Rattle.app_texts.specs.declared.answer.Answer.TheVariants.{Solved, Judged, Surveyed, Collected, Help}
 use Rattle.usi_text.specs.Lines.{AllHaveText}
 
 -- A reason against a certificate: a word, and the move that it names.
@@ -50,6 +52,8 @@ judgement_text (Refused entry why) = line (codes "refused " ++ decimal entry ++ 
 abbrev pub answer_text : Answer → List ℕ
 answer_text (Solved solution) = solution_text solution
 answer_text (Judged judgement) = judgement_text judgement
+answer_text (Surveyed summary) = summary_text summary
+answer_text (Collected counts) = counts_text counts
 answer_text (Help text) = string_bytes text
 
 -- Every move of a solution's line has a text.
@@ -62,4 +66,6 @@ HasLine (Unknown cause crew) = Unit {0}
 abbrev pub HasTexts : Answer → Type 0
 HasTexts (Solved solution) = HasLine solution
 HasTexts (Judged judgement) = Unit {0}
+HasTexts (Surveyed summary) = Unit {0}
+HasTexts (Collected counts) = Unit {0}
 HasTexts (Help text) = Unit {0}

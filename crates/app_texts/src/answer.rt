@@ -1,4 +1,5 @@
 // What the program answers.
+use crate::{Counts, Summary};
 use board_core::Move;
 use cert_check::Why;
 use cert_text::{Claim, EscapeCertificate, MateCertificate};
@@ -76,6 +77,10 @@ pub enum Answer {
     Solved(Solution),
     /// To `check`.
     Judged(Judgement),
+    /// To `survey`.
+    Surveyed(Summary),
+    /// To `collection`: what is told behind the reports of its lines.
+    Collected(Counts),
     /// To a request for help or for the version: the text, as clap made it.
     Help(String),
 }

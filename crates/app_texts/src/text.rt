@@ -7,8 +7,11 @@ ghost use Rattle.cert_text.specs.Entries.{line};
 ghost use Rattle.cert_text.specs.Text.{claim_word};
 ghost use Rattle.app_texts.specs.Texts.{answer_text, solution_text, judgement_text, why_text, cause_text};
 ghost use Rattle.app_texts.specs.Texts.{HasLine, HasTexts};
+ghost use Rattle.app_texts.specs.Counts.{counts_text};
+ghost use Rattle.app_texts.specs.Survey.{summary_text};
 
-use crate::{Answer, Judgement, Solution};
+use crate::survey::{mates, no_mates, unknowns};
+use crate::{Answer, Counts, Judgement, Solution, Summary};
 use board_core::Move;
 use cert_check::Why;
 use cert_text::{
@@ -101,7 +104,8 @@ fn append_counted(out: &mut Vec<u8>, word: &[u8], number: u64) -> Result<(), All
     Ok(())
 }
 
-fn append_cause(out: &mut Vec<u8>, cause: Cause) -> Result<(), AllocError>
+/// Writes what was used up, or that it was stopped.
+pub(crate) fn append_cause(out: &mut Vec<u8>, cause: Cause) -> Result<(), AllocError>
     ensures { OnOk result (out.new.items ≡ out.old.items ++ cause_text cause) }
 {
     match cause {
@@ -136,6 +140,35 @@ fn append_solution(out: &mut Vec<u8>, solution: &Solution) -> Result<(), AllocEr
     }
 }
 
+fn append_line(out: &mut Vec<u8>, word: &[u8], number: u64) -> Result<(), AllocError>
+    ensures { OnOk result (out.new.items ≡ out.old.items ++ line (word.now ++ decimal number)) }
+{
+    append_counted(out, word, number)?;
+    out.push(b'\n')?;
+    Ok(())
+}
+
+fn append_summary(out: &mut Vec<u8>, summary: &Summary) -> Result<(), AllocError>
+    ensures { OnOk result (out.new.items ≡ out.old.items ++ summary_text summary.now) }
+{
+    let tallies = summary.tallies.in_order();
+    append_counted(out, b"survey ", summary.seed)?;
+    append_line(out, b" ", tallies.len() as u64)?;
+    append_line(out, b"mate ", mates(tallies) as u64)?;
+    append_line(out, b"nomate ", no_mates(tallies) as u64)?;
+    append_line(out, b"unknown ", unknowns(tallies) as u64)
+}
+
+fn append_counts(out: &mut Vec<u8>, counts: &Counts) -> Result<(), AllocError>
+    ensures { OnOk result (out.new.items ≡ out.old.items ++ counts_text counts.now) }
+{
+    append_counted(out, b"problems ", counts.problems())?;
+    append_counted(out, b" mate ", counts.mates)?;
+    append_counted(out, b" nomate ", counts.no_mates)?;
+    append_counted(out, b" unknown ", counts.unknowns)?;
+    append_line(out, b" fault ", counts.faults)
+}
+
 fn append_answer(out: &mut Vec<u8>, answer: &Answer) -> Result<(), AllocError>
     requires { HasTexts answer.now }
     ensures { OnOk result (out.new.items ≡ out.old.items ++ answer_text answer.now) }
@@ -143,6 +176,8 @@ fn append_answer(out: &mut Vec<u8>, answer: &Answer) -> Result<(), AllocError>
     match answer {
         Answer::Solved(solution) => append_solution(out, solution),
         Answer::Judged(judgement) => append_judgement(out, judgement),
+        Answer::Surveyed(summary) => append_summary(out, summary),
+        Answer::Collected(counts) => append_counts(out, counts),
         Answer::Help(text) => {
             out.extend_from_slice(text.as_bytes())?;
             Ok(())

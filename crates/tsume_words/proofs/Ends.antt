@@ -8,7 +8,7 @@ use Rattle.clap.specs.Kinds.{IsAmong, Kinds}
 use Rattle.clap.specs.declared.error.kind.ErrorKind.{ErrorKind}
 use Rattle.clap.specs.Simple.{subcommand_of}
 use Rattle.tsume_words.specs.Given.{AsksForHelp, IsForCommand, IsTakenByClap, SettingsView, Wish, all_words, clap_faults, given_of, unless_faulty, wish_named}
-use Rattle.tsume_words.specs.Given.Wish.{to_solve, to_check}
+use Rattle.tsume_words.specs.Given.Wish.{to_solve, to_check, to_survey, to_collect}
 use Rattle.tsume_words.specs.Line.{tsume_line}
 use Rattle.tsume_words.specs.Meaning.{IsOutcomeFor, FailFirst, FailsFirst, IsClapsEnd, IsEndFor, IsHelp, IsStoppedBy, IsRefusalOf, are_sound, command_of, sound_wish, wish_of}
 use Rattle.tsume_words.specs.declared.command.Asked.{Asked}
@@ -57,14 +57,20 @@ unsound (NotPowerOfTwo Shards) n fails sound = fails.1 (sound_parts n sound).1
 unsound MoreShardsThanRows n fails sound = (sound_parts n sound).2 fails.2
 unsound (Clap text) n fails sound = fails
 
+-- nothing is asked for with numbers that a test stops
+unsound_none : (f : WordFault) (n : SettingsView) (w v : Wish) → FailFirst f n → (if are_sound n then Some w else None) ≡ Some v → ⊥
+unsound_none f n w v fails e = go (are_sound n) refl e
+  where
+    go : (b : Bool) → are_sound n ≡ b → (if b then Some w else None) ≡ Some v → ⊥
+    go true is e = unsound f n fails is
+    go false is e = absurd cc
+
 -- a wish that a test stops asks for nothing
 stopped_none : (f : WordFault) (w : Wish) (v : Wish) → IsStoppedBy f w → sound_wish w ≡ Some v → ⊥
 stopped_none f (to_check n p) v stopped e = stopped
-stopped_none f (to_solve n form watch) v stopped e = go (are_sound n) refl e
-  where
-    go : (b : Bool) → are_sound n ≡ b → (if b then Some (to_solve n form watch) else None) ≡ Some v → ⊥
-    go true is e = unsound f n stopped is
-    go false is e = absurd cc
+stopped_none f (to_survey range) v stopped e = stopped
+stopped_none f (to_solve n form watch) v stopped e = unsound_none f n (to_solve n form watch) v stopped e
+stopped_none f (to_collect n form) v stopped e = unsound_none f n (to_collect n form) v stopped e
 
 -- only one test is the first to fail
 one_first : (f g : WordFault) (n : SettingsView) → FailFirst f n → FailFirst g n → g ≡ f
@@ -82,7 +88,9 @@ one_first MoreShardsThanRows (NotPowerOfTwo Shards) n a b = absurd (b.1 a.1)
 
 one_stop : (f g : WordFault) (w : Wish) → IsStoppedBy f w → IsStoppedBy g w → g ≡ f
 one_stop f g (to_check n p) a b = absurd a
+one_stop f g (to_survey range) a b = absurd a
 one_stop f g (to_solve n form watch) a b = one_first f g n a b
+one_stop f g (to_collect n form) a b = one_first f g n a b
 
 -- all that the reading of the words promises
 pub record Promises (words : List Text) (r : Result Asked WordsEnd) : Type 0 where
@@ -134,6 +142,8 @@ promised_by_outcome words r taken h = go (given_of words) refl h
             by_clap None x = x
             by_clap (Some (to_solve n form watch)) x = x
             by_clap (Some (to_check n p)) x = x
+            by_clap (Some (to_survey range)) x = x
+            by_clap (Some (to_collect n form)) x = x
         refuses (NotPowerOfTwo size) fails = fails
         refuses MoreShardsThanRows fails = fails
 

@@ -1,4 +1,4 @@
--- What clap gives where it takes the words: one of the two commands, with each number in its range.
+-- What clap gives where it takes the words: one of the four commands, with each number in its range.
 use Rattle.std.proofs.Common.{◌≡◌, ◌∙◌, ◌&&◌, ◌||◌, not, inl, inr, ◌⊎◌, ℕ, Bool, true, false, List, [], ◌∷◌, Option, Some, None, refl, sym, ap, subst, is_some, codes}
 use Rattle.std.specs.Prelude.{slice_get, unwrap_or, IsSomeAnd, find, IfSome, option_map, if◌then◌else◌}
 use Rattle.std.specs.Option.{option_map_or}
@@ -17,12 +17,13 @@ use Rattle.clap.specs.Kinds.{check_kinds}
 use Rattle.clap.specs.Simple.{App, Shape, argument_words, built, entered, label_of, names_of, rows_at, subcommand_of, is_simple}
 use Rattle.clap.specs.Walk.{Row, Rule, Text, answers_to, finished, is_empty, nothing_held, one_of, reading_by, rows_after, settled, walk, walk_from}
 use Rattle.clap.proofs.OnLiterals.{clap_on_literals}
+use Rattle.tsume_words.specs.declared.many.TheConstants.{MOST_SEED, MOST_COUNT, MOST_THREADS}
 use Rattle.tsume_words.specs.declared.settings.TheConstants.{MOST_WORKERS, MOST_ROOM, LEAST_ROWS, MOST_ROWS, MOST_SHARDS}
 use Rattle.tsume_words.specs.declared.watch.TheConstants.{MOST_DEADLINE}
 use Rattle.search_gate.specs.declared.expansions.TheConstants.{MOST_EXPANSIONS}
 use Rattle.tsume_words.proofs.NoHelp.{IsNotHelp, walk_not_help}
 use Rattle.tsume_words.proofs.Rows.{Each, each_found, HasRowIfDefault, IsFirst, RowIsRight, keeps_values, level_each, one_value, value_if_any, or_else_nil, rows_made}
-use Rattle.tsume_words.specs.Given.{HasFlag, HasNumber, HasNumberIfAny, IsForCommand, IsForSolve, IsTakenByClap, all_words}
+use Rattle.tsume_words.specs.Given.{HasFlag, HasNumber, HasNumberIfAny, IsForCollection, IsForCommand, IsForSolve, IsForSurvey, IsTakenByClap, all_words}
 use Rattle.tsume_words.specs.Line.{tsume_line}
 
 -- the command line is one of which clap's meaning says all
@@ -30,12 +31,18 @@ pub is_simple_line : is_simple_and_free tsume_line ≡ true
 unfolding tsume_line clap_on_literals
 is_simple_line = refl
 
--- the two commands as clap builds them
+-- the four commands as clap builds them
 abbrev solve_shape : Shape
 solve_shape = unwrap_or (slice_get (built tsume_line).subs 0) (built tsume_line).top
 
 abbrev check_shape : Shape
 check_shape = unwrap_or (slice_get (built tsume_line).subs 1) (built tsume_line).top
+
+abbrev survey_shape : Shape
+survey_shape = unwrap_or (slice_get (built tsume_line).subs 2) (built tsume_line).top
+
+abbrev collection_shape : Shape
+collection_shape = unwrap_or (slice_get (built tsume_line).subs 3) (built tsume_line).top
 
 -- what holds of the subcommand that is entered without a fault
 pub record IsEntered (s : Shape) (p : Text × List Row) (stop : Option (Text × List Text)) (word : Text) (words : List Text) : Type 0 where
@@ -132,22 +139,30 @@ flag_given a rows gives parser kept some =
 abbrev GivesIfFaultless : Shape → Type 0
 GivesIfFaultless s = (words : List Text) → level_fault s [] nothing_held words false [] ≡ [] → IsForCommand (s.name, rows_after s.rules [] words)
 
--- the rules of the two commands are each the first of its id
+-- the rules of the four commands are each the first of its id
 firsts : Each (λ s. Each (IsFirst s.rules) s.rules) (built tsume_line).subs
 unfolding tsume_line
 firsts = (
   (refl, (refl, (refl, (refl, (refl, (refl, (refl, (refl, (refl, (refl, (refl, tt))))))))))),
-  ((refl, (refl, (refl, (refl, tt)))), ((refl, tt), tt)),
+  (
+    (refl, (refl, (refl, (refl, tt)))),
+    (
+      (refl, (refl, (refl, (refl, tt)))),
+      ((refl, (refl, (refl, (refl, (refl, (refl, (refl, (refl, (refl, tt))))))))), ((refl, tt), tt)),
+    ),
+  ),
 )
 
 solve_given : (words : List Text) → Each (GivesValue (rows_after solve_shape.rules [] words)) solve_shape.rules → IsForSolve (rows_after solve_shape.rules [] words)
 unfolding tsume_line
 solve_given words all = record {
   workers = number_given _ 1 MOST_WORKERS _ all.0 refl refl refl;
-  expansions = number_given _ 1 MOST_EXPANSIONS _ all.1.0 refl refl refl;
-  room = number_given _ 1 MOST_ROOM _ all.1.1.0 refl refl refl;
-  rows = number_given _ LEAST_ROWS MOST_ROWS _ all.1.1.1.0 refl refl refl;
-  shards = number_given _ 1 MOST_SHARDS _ all.1.1.1.1.0 refl refl refl;
+  numbers = record {
+    expansions = number_given _ 1 MOST_EXPANSIONS _ all.1.0 refl refl refl;
+    room = number_given _ 1 MOST_ROOM _ all.1.1.0 refl refl refl;
+    rows = number_given _ LEAST_ROWS MOST_ROWS _ all.1.1.1.0 refl refl refl;
+    shards = number_given _ 1 MOST_SHARDS _ all.1.1.1.1.0 refl refl refl;
+  };
   deadline = number_if_any _ 1 MOST_DEADLINE _ all.1.1.1.1.1.0 refl refl;
   kif = flag_given _ _ all.1.1.1.1.1.1.0 refl refl refl;
   rest = flag_given _ _ all.1.1.1.1.1.1.1.0 refl refl refl;
@@ -158,6 +173,29 @@ check_given : (words : List Text) → Each (GivesValue (rows_after check_shape.r
     → HasNumber (codes "workers") 1 MOST_WORKERS (rows_after check_shape.rules [] words)
 unfolding tsume_line
 check_given words all = number_given _ 1 MOST_WORKERS _ all.0 refl refl refl
+
+survey_given : (words : List Text) → Each (GivesValue (rows_after survey_shape.rules [] words)) survey_shape.rules → IsForSurvey (rows_after survey_shape.rules [] words)
+unfolding tsume_line
+survey_given words all = record {
+  seed = number_given _ 0 MOST_SEED _ all.0 refl refl refl;
+  count = number_given _ 1 MOST_COUNT _ all.1.0 refl refl refl;
+  expansions = number_given _ 1 MOST_EXPANSIONS _ all.1.1.0 refl refl refl;
+}
+
+collection_given : (words : List Text) → Each (GivesValue (rows_after collection_shape.rules [] words)) collection_shape.rules
+    → IsForCollection (rows_after collection_shape.rules [] words)
+unfolding tsume_line
+collection_given words all = record {
+  numbers = record {
+    expansions = number_given _ 1 MOST_EXPANSIONS _ all.0 refl refl refl;
+    room = number_given _ 1 MOST_ROOM _ all.1.0 refl refl refl;
+    rows = number_given _ LEAST_ROWS MOST_ROWS _ all.1.1.0 refl refl refl;
+    shards = number_given _ 1 MOST_SHARDS _ all.1.1.1.0 refl refl refl;
+  };
+  threads = number_if_any _ 1 MOST_THREADS _ all.1.1.1.1.0 refl refl;
+  rest = flag_given _ _ all.1.1.1.1.1.0 refl refl refl;
+  certificates = flag_given _ _ all.1.1.1.1.1.1.0 refl refl refl;
+}
 
 -- a subcommand that a word names, and that isn't `help`, gives what a command gives
 abbrev GivesIfNamed : Shape → Type 0
@@ -179,8 +217,14 @@ unfolding tsume_line
 each_command = (
   λ word answers other words e. inl (refl, solve_given words (level_gives solve_shape words firsts.0 e)),
   (
-    λ word answers other words e. inr (refl, check_given words (level_gives check_shape words firsts.1.0 e)),
-    (λ word answers other words e. absurd (help_alone word answers other), tt),
+    λ word answers other words e. inr (inl (refl, check_given words (level_gives check_shape words firsts.1.0 e))),
+    (
+      λ word answers other words e. inr (inr (inl (refl, survey_given words (level_gives survey_shape words firsts.1.1.0 e)))),
+      (
+        λ word answers other words e. inr (inr (inr (refl, collection_given words (level_gives collection_shape words firsts.1.1.1.0 e)))),
+        (λ word answers other words e. absurd (help_alone word answers other), tt),
+      ),
+    ),
   ),
 )
 
@@ -233,7 +277,7 @@ faultless a words want helped each e =
         let given = gives got.1 answers (other stop got.1 got.2 got.4.stopped not_help) got.2 got.4.faultless in
         (p, is, subst IsForCommand (pair _ _ p got.4.name got.4.rows) given)
 
--- where clap takes the words it gives one of the two commands
+-- where clap takes the words it gives one of the four commands
 pub taken_gives : (words : List Text) → IsTakenByClap words
     → (p : Text × List Row) × (subcommand_of tsume_line (all_words words) ≡ Some p) × IsForCommand p
 taken_gives words taken = faultless (built tsume_line) (argument_words tsume_line (all_words words)) wants helps each_command taken

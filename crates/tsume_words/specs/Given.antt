@@ -11,6 +11,7 @@ use Rattle.clap.specs.Words.{IsUnsignedIn, Row, Text, fault_of, first_of, one_of
 use Rattle.tsume_words.specs.declared.form.Format.{Format}
 use Rattle.tsume_words.specs.declared.form.Format.TheVariants.{Sfen, Kif}
 use Rattle.tsume_words.specs.declared.form.ProblemForm.{ProblemForm}
+use Rattle.tsume_words.specs.declared.many.TheConstants.{MOST_SEED, MOST_COUNT, MOST_THREADS}
 use Rattle.tsume_words.specs.declared.settings.TheConstants.{MOST_WORKERS, MOST_ROOM, LEAST_ROWS, MOST_ROWS, MOST_SHARDS}
 use Rattle.tsume_words.specs.declared.watch.TheConstants.{MOST_DEADLINE}
 use Rattle.search_gate.specs.declared.expansions.TheConstants.{MOST_EXPANSIONS}
@@ -77,21 +78,41 @@ pub record WatchView : Type 0 where
   pub deadline : Option ℕ
   pub progress : Bool
 
--- What a command asks for: to solve, with its numbers, the form of the problem and how the search is watched; or to check, with its workers
--- and, where the certificate has to be for a given problem, its text.
+-- Which of the problems that the generator makes are solved: from which number on, how many, and with how many expansions each.
+pub record SurveyView : Type 0 where
+  pub seed : ℕ
+  pub count : ℕ
+  pub expansions : ℕ
+
+-- How the problems of a collection are decided: whether the defender is given the rest of the pieces, whether certificates are told,
+-- and how many problems are decided side by side, where that is said.
+pub record CollectionView : Type 0 where
+  pub rest : Bool
+  pub certificates : Bool
+  pub threads : Option ℕ
+
+-- What a command asks for: to solve, with its numbers, the form of the problem and how the search is watched; to check, with its workers
+-- and, where the certificate has to be for a given problem, its text; to survey, with its numbers; or to decide a collection, with the
+-- numbers of each search and how the problems are decided.
 pub data Wish : Type 0 where
   to_solve : SettingsView → ProblemForm → WatchView → Wish
   to_check : ℕ → Option Text → Wish
+  to_survey : SurveyView → Wish
+  to_collect : SettingsView → CollectionView → Wish
 
--- The five numbers that clap gives for `solve`.
-abbrev pub settings_of : List Row → SettingsView
-settings_of found = record {
-  workers = number_of (codes "workers") found;
+-- The five numbers of a search by so many workers; clap gives the other four.
+abbrev pub settings_by : ℕ → List Row → SettingsView
+settings_by workers found = record {
+  workers = workers;
   expansions = number_of (codes "expansions") found;
   room = number_of (codes "room") found;
   rows = number_of (codes "rows") found;
   shards = number_of (codes "shards") found;
 }
+
+-- The five numbers that clap gives for `solve`.
+abbrev pub settings_of : List Row → SettingsView
+settings_of found = settings_by (number_of (codes "workers") found) found
 
 -- A problem is written as KIF where that is said, or else as SFEN.
 abbrev pub format_where : Bool → Format
@@ -112,11 +133,29 @@ watch_of found = record {
   progress = is_flagged (codes "progress") found;
 }
 
--- What a command of this name asks for, by what clap found for it.
+-- The numbers that clap gives for `survey`.
+abbrev pub survey_of : List Row → SurveyView
+survey_of found = record {
+  seed = number_of (codes "seed") found;
+  count = number_of (codes "count") found;
+  expansions = number_of (codes "expansions") found;
+}
+
+-- How the problems of a collection are decided, by what clap found for `collection`.
+abbrev pub collection_of : List Row → CollectionView
+collection_of found = record {
+  rest = is_flagged (codes "rest") found;
+  certificates = is_flagged (codes "certificates") found;
+  threads = number_if_given (codes "threads") found;
+}
+
+-- What a command of this name asks for, by what clap found for it. Each search of a collection has one worker.
 abbrev pub wish_named : Text × List Row → Option Wish
 wish_named p =
     if bytes_eq p.0 (codes "solve") then Some (to_solve (settings_of p.1) (form_of p.1) (watch_of p.1))
-    else (if bytes_eq p.0 (codes "check") then Some (to_check (number_of (codes "workers") p.1) (text_of (codes "problem") p.1)) else None)
+    else (if bytes_eq p.0 (codes "check") then Some (to_check (number_of (codes "workers") p.1) (text_of (codes "problem") p.1))
+    else (if bytes_eq p.0 (codes "survey") then Some (to_survey (survey_of p.1))
+    else (if bytes_eq p.0 (codes "collection") then Some (to_collect (settings_by 1 p.1) (collection_of p.1)) else None)))
 
 -- A wish stands where clap found no fault.
 abbrev pub unless_faulty : Kinds → Option Wish → Option Wish
@@ -133,11 +172,11 @@ abbrev pub but_dash : Option Text → Option Text
 but_dash None = None
 but_dash (Some word) = if bytes_eq word (codes "-") then None else Some word
 
--- The file that a command reads, by what clap found for it: none for the standard input.
+-- The file that a command reads, by what clap found for it: none for the standard input, and none for a survey, which reads nothing.
 abbrev pub file_named : Text × List Row → Option Text
-file_named p = but_dash (text_of (codes "file") p.1)
+file_named p = if bytes_eq p.0 (codes "survey") then None else but_dash (text_of (codes "file") p.1)
 
--- The file that the words name: none for the standard input.
+-- The file that the words name: none for the standard input, or where nothing is read.
 abbrev pub file_of : List Text → Option Text
 file_of words = option_and_then file_named (subcommand_of tsume_line (all_words words))
 
@@ -163,18 +202,38 @@ IsNumberGiven name found = IsSomeAnd (one_of name found) (λ text. IsNumeral 10 
 abbrev pub HasFlag : Text → List Row → Type 0
 HasFlag name found = (one_of name found ≡ Some (codes "true")) ⊎ (one_of name found ≡ Some (codes "false"))
 
--- What clap gives for `solve`, each number in its range.
-pub record IsForSolve (found : List Row) : Type 0 where
-  pub workers : HasNumber (codes "workers") 1 MOST_WORKERS found
+-- What clap gives for a search, each number in its range.
+pub record IsForSearch (found : List Row) : Type 0 where
   pub expansions : HasNumber (codes "expansions") 1 MOST_EXPANSIONS found
   pub room : HasNumber (codes "room") 1 MOST_ROOM found
   pub rows : HasNumber (codes "rows") LEAST_ROWS MOST_ROWS found
   pub shards : HasNumber (codes "shards") 1 MOST_SHARDS found
+
+-- What clap gives for `solve`, each number in its range.
+pub record IsForSolve (found : List Row) : Type 0 where
+  pub workers : HasNumber (codes "workers") 1 MOST_WORKERS found
+  pub numbers : IsForSearch found
   pub deadline : HasNumberIfAny (codes "deadline") 1 MOST_DEADLINE found
   pub kif : HasFlag (codes "kif") found
   pub rest : HasFlag (codes "rest") found
   pub progress : HasFlag (codes "progress") found
 
--- What clap gives for one of the two commands, each number in its range.
+-- What clap gives for `survey`, each number in its range.
+pub record IsForSurvey (found : List Row) : Type 0 where
+  pub seed : HasNumber (codes "seed") 0 MOST_SEED found
+  pub count : HasNumber (codes "count") 1 MOST_COUNT found
+  pub expansions : HasNumber (codes "expansions") 1 MOST_EXPANSIONS found
+
+-- What clap gives for `collection`, each number in its range.
+pub record IsForCollection (found : List Row) : Type 0 where
+  pub numbers : IsForSearch found
+  pub threads : HasNumberIfAny (codes "threads") 1 MOST_THREADS found
+  pub rest : HasFlag (codes "rest") found
+  pub certificates : HasFlag (codes "certificates") found
+
+-- What clap gives for one of the four commands, each number in its range.
 abbrev pub IsForCommand : Text × List Row → Type 0
-IsForCommand p = ((p.0 ≡ codes "solve") × IsForSolve p.1) ⊎ ((p.0 ≡ codes "check") × HasNumber (codes "workers") 1 MOST_WORKERS p.1)
+IsForCommand p = ((p.0 ≡ codes "solve") × IsForSolve p.1)
+    ⊎ (((p.0 ≡ codes "check") × HasNumber (codes "workers") 1 MOST_WORKERS p.1)
+    ⊎ (((p.0 ≡ codes "survey") × IsForSurvey p.1)
+    ⊎ ((p.0 ≡ codes "collection") × IsForCollection p.1)))

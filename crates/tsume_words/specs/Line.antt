@@ -1,4 +1,5 @@
 -- The command line that clap is given, in clap's own terms.
+use Rattle.tsume_words.specs.declared.many.TheConstants.{MOST_SEED, MOST_COUNT, MOST_THREADS}
 use Rattle.tsume_words.specs.declared.settings.TheConstants.{MOST_WORKERS, MOST_ROOM, LEAST_ROWS, MOST_ROWS, MOST_SHARDS}
 use Rattle.tsume_words.specs.declared.watch.TheConstants.{MOST_DEADLINE}
 use Rattle.search_gate.specs.declared.expansions.TheConstants.{MOST_EXPANSIONS}
@@ -21,9 +22,9 @@ number_option name low high default = record (new_rule name) {
 abbrev pub workers_option : Rule
 workers_option = number_option (codes "workers") 1 MOST_WORKERS (codes "1")
 
--- The expansions are 1 to 1,000,000,000, and 1,000,000 where nothing is said.
-abbrev pub expansions_option : Rule
-expansions_option = number_option (codes "expansions") 1 MOST_EXPANSIONS (codes "1000000")
+-- The expansions are 1 to 1,000,000,000, and each command has a default of its own.
+abbrev pub expansions_option : Text → Rule
+expansions_option default = number_option (codes "expansions") 1 MOST_EXPANSIONS default
 
 -- The room is 1 to 1,400,000 facts, and 1,048,576 where nothing is said.
 abbrev pub room_option : Rule
@@ -36,6 +37,23 @@ rows_option = number_option (codes "rows") LEAST_ROWS MOST_ROWS (codes "65536")
 -- The shards are 1 to 64, and 16 where nothing is said.
 abbrev pub shards_option : Rule
 shards_option = number_option (codes "shards") 1 MOST_SHARDS (codes "16")
+
+-- The seed is 0 to 1,000,000,000, and 0 where nothing is said.
+abbrev pub seed_option : Rule
+seed_option = number_option (codes "seed") 0 MOST_SEED (codes "0")
+
+-- The count is 1 to 10,000, and 100 where nothing is said.
+abbrev pub count_option : Rule
+count_option = number_option (codes "count") 1 MOST_COUNT (codes "100")
+
+-- The option `--threads N` takes a number, 1 to 64, and has no default.
+abbrev pub threads_option : Rule
+threads_option = record (new_rule (codes "threads")) {
+  long = Some (codes "threads");
+  action = Some Set;
+  value_names = 1;
+  parser = Some (Unsigned 1 MOST_THREADS);
+}
 
 -- The option `--deadline MS` takes a number of milliseconds, 1 to 86,400,000, and has no default.
 abbrev pub deadline_option : Rule
@@ -68,6 +86,13 @@ rest_flag = record (new_rule (codes "rest")) {
   action = Some SetTrue;
 }
 
+-- The flag `--certificates` takes no value.
+abbrev pub certificates_flag : Rule
+certificates_flag = record (new_rule (codes "certificates")) {
+  long = Some (codes "certificates");
+  action = Some SetTrue;
+}
+
 -- The flag `--progress` takes no value.
 abbrev pub progress_flag : Rule
 progress_flag = record (new_rule (codes "progress")) {
@@ -82,7 +107,7 @@ file_word = record (new_rule (codes "file")) {
   value_names = 1;
 }
 
--- `solve` has the five numbers, the deadline, the three flags and the file.
+-- `solve` has the five numbers, of them 1,000,000 expansions where nothing is said, the deadline, the three flags and the file.
 abbrev pub solve_line : App
 solve_line = with_rule
     (with_rule
@@ -92,7 +117,7 @@ solve_line = with_rule
     (with_rule
     (with_rule
     (with_rule
-    (with_rule (with_rule (new_app (codes "solve")) workers_option) expansions_option)
+    (with_rule (with_rule (new_app (codes "solve")) workers_option) (expansions_option (codes "1000000")))
     room_option)
     rows_option)
     shards_option)
@@ -106,7 +131,27 @@ solve_line = with_rule
 abbrev pub check_line : App
 check_line = with_rule (with_rule (with_rule (new_app (codes "check")) workers_option) problem_option) file_word
 
--- The program has a version, wants one of its two commands, and shows its help where there are no words.
+-- `survey` has the seed, the count, and the expansions, 10,000 where nothing is said. It reads no file.
+abbrev pub survey_line : App
+survey_line = with_rule (with_rule (with_rule (new_app (codes "survey")) seed_option) count_option) (expansions_option (codes "10000"))
+
+-- `collection` has four numbers, of them 100,000 expansions where nothing is said, the threads, its two flags and the file.
+abbrev pub collection_line : App
+collection_line = with_rule
+    (with_rule
+    (with_rule
+    (with_rule
+    (with_rule
+    (with_rule
+    (with_rule (with_rule (new_app (codes "collection")) (expansions_option (codes "100000"))) room_option)
+    rows_option)
+    shards_option)
+    threads_option)
+    rest_flag)
+    certificates_flag)
+    file_word
+
+-- The program has a version, wants one of its commands, and shows its help where there are no words.
 abbrev pub bare_line : App
 bare_line = let made = new_app (codes "tsume") in record made {
   top = record made.top {
@@ -116,6 +161,8 @@ bare_line = let made = new_app (codes "tsume") in record made {
   };
 }
 
--- The whole command line: the program and its two commands.
+-- The whole command line: the program and its four commands.
 unfoldable pub tsume_line : App
-tsume_line = with_subcommand (with_subcommand bare_line solve_line.top) check_line.top
+tsume_line = with_subcommand
+    (with_subcommand (with_subcommand (with_subcommand bare_line solve_line.top) check_line.top) survey_line.top)
+    collection_line.top

@@ -3,17 +3,19 @@ use Rattle.std.specs.Prelude.{◌≡◌, ◌<◌, ℕ, Result, Ok, Err, String, 
 use Rattle.std.specs.Prelude.{if◌then◌else◌, nat_le, IsSomeAnd, ⊤}
 use Rattle.std.specs.Int.{IsPowerOfTwo, is_power_of_two}
 use Rattle.clap.specs.Words.{Text}
-use Rattle.tsume_words.specs.Given.{SettingsView, WatchView, Wish, given_of, is_help, MayAskForHelp, MayBeRefused}
-use Rattle.tsume_words.specs.Given.Wish.{to_solve, to_check}
+use Rattle.tsume_words.specs.Given.{CollectionView, SettingsView, SurveyView, WatchView, Wish, given_of, is_help, MayAskForHelp, MayBeRefused}
+use Rattle.tsume_words.specs.Given.Wish.{to_solve, to_check, to_survey, to_collect}
 use Rattle.tsume_words.specs.declared.command.Command.{Command}
 use Rattle.tsume_words.specs.declared.command.Asked.{Asked}
-use Rattle.tsume_words.specs.declared.command.Command.TheVariants.{Solve, Check}
+use Rattle.tsume_words.specs.declared.command.Command.TheVariants.{Solve, Check, Survey, Collection}
 use Rattle.tsume_words.specs.declared.faults.Size.TheVariants.{Rows, Shards}
 use Rattle.tsume_words.specs.declared.faults.WordFault.{WordFault}
 use Rattle.tsume_words.specs.declared.faults.WordFault.TheVariants.{Clap, NotPowerOfTwo, MoreShardsThanRows}
 use Rattle.tsume_words.specs.declared.faults.WordsEnd.{WordsEnd}
 use Rattle.tsume_words.specs.declared.faults.WordsEnd.TheVariants.{Help, Fault, NoMemory}
 use Rattle.clap.specs.declared.error.kind.ErrorKind.{ErrorKind}
+use Rattle.tsume_words.specs.declared.many.CollectionForm.{CollectionForm}
+use Rattle.tsume_words.specs.declared.many.SurveyRange.{SurveyRange}
 use Rattle.tsume_words.specs.declared.settings.Settings.{Settings}
 use Rattle.tsume_words.specs.declared.watch.Watch.{Watch}
 
@@ -21,10 +23,12 @@ use Rattle.tsume_words.specs.declared.watch.Watch.{Watch}
 abbrev pub are_sound : SettingsView → Bool
 are_sound n = is_power_of_two n.rows && (is_power_of_two n.shards && nat_le n.shards n.rows)
 
--- A wish to solve stands where its numbers are sound, a wish to check always.
+-- A wish to solve or to decide a collection stands where its numbers are sound, a wish to check or to survey always.
 abbrev pub sound_wish : Wish → Option Wish
 sound_wish (to_solve settings form watch) = if are_sound settings then Some (to_solve settings form watch) else None
 sound_wish (to_check workers problem) = Some (to_check workers problem)
+sound_wish (to_survey range) = Some (to_survey range)
+sound_wish (to_collect settings form) = if are_sound settings then Some (to_collect settings form) else None
 
 -- What the words ask for: none where clap refuses them or one of the three tests after it fails.
 abbrev pub command_of : List Text → Option Wish
@@ -44,15 +48,34 @@ settings_in s = record {
 abbrev pub watch_in : Watch → WatchView
 watch_in w = record { deadline = w.deadline; progress = w.progress }
 
+-- Which problems are surveyed.
+abbrev pub survey_in : SurveyRange → SurveyView
+survey_in r = record { seed = r.seed; count = r.count; expansions = r.expansions.count }
+
+-- How the problems of a collection are decided.
+abbrev pub collection_in : CollectionForm → CollectionView
+collection_in f = record { rest = f.rest; certificates = f.certificates; threads = f.threads }
+
 -- What a command asks for.
 abbrev pub wish_of : Command → Wish
 wish_of (Solve settings form watch) = to_solve (settings_in settings) form (watch_in watch)
 wish_of (Check workers problem) = to_check workers (option_map string_bytes problem)
+wish_of (Survey range) = to_survey (survey_in range)
+wish_of (Collection settings form) = to_collect (settings_in settings) (collection_in form)
 
--- By how many workers a command is to be done.
+-- By how many workers a command is to be done, or each of its searches.
 abbrev pub workers_of : Command → ℕ
 workers_of (Solve settings form watch) = settings.workers
 workers_of (Check workers problem) = workers
+workers_of (Survey range) = 1
+workers_of (Collection settings form) = settings.workers
+
+-- A collection's searches have one worker each.
+abbrev pub HasLoneSearches : Command → Type 0
+HasLoneSearches (Collection settings form) = settings.workers ≡ 1
+HasLoneSearches (Solve settings form watch) = ⊤
+HasLoneSearches (Check workers problem) = ⊤
+HasLoneSearches (Survey range) = ⊤
 
 -- The numbers fail this test and pass those before it: the rows are a power of two, then the shards, and then there are
 -- no more shards than rows.
@@ -62,10 +85,17 @@ FailFirst (NotPowerOfTwo Shards) n = IsPowerOfTwo n.rows × (¬ IsPowerOfTwo n.s
 FailFirst MoreShardsThanRows n = IsPowerOfTwo n.rows × IsPowerOfTwo n.shards × (n.rows < n.shards)
 FailFirst (Clap text) n = ⊥
 
--- The wish is to solve with numbers of which this test is the first to fail.
+-- The wish is to solve, or to decide a collection, with numbers of which this test is the first to fail.
 abbrev pub IsStoppedBy : WordFault → Wish → Type 0
 IsStoppedBy fault (to_solve settings form watch) = FailFirst fault settings
 IsStoppedBy fault (to_check workers problem) = ⊥
+IsStoppedBy fault (to_survey range) = ⊥
+IsStoppedBy fault (to_collect settings form) = FailFirst fault settings
+
+-- The outcome of the tests after clap, on these numbers: they are sound and stand in the settings, or else the first test that fails.
+abbrev pub AreTested : SettingsView → Result Settings WordFault → Type 0
+AreTested n (Ok settings) = (settings_in settings ≡ n) × (are_sound n ≡ true)
+AreTested n (Err fault) = FailFirst fault n
 
 -- Clap takes the words, and this test after it is the first to fail.
 abbrev pub FailsFirst : List Text → WordFault → Type 0

@@ -1,5 +1,5 @@
 // The commands of the program.
-use crate::{ProblemForm, Settings, Watch};
+use crate::{CollectionForm, ProblemForm, Settings, SurveyRange, Watch};
 
 /// What the words of the command line ask for.
 #[derive(Debug, Drop)]
@@ -16,6 +16,15 @@ pub enum Command {
         workers: u32,
         problem: Option<String>,
     },
+    /// Solve the problems of this range, as the generator makes them, and count how they end; nothing is read.
+    Survey {
+        range: SurveyRange,
+    },
+    /// Decide each problem of the text that is read, by a search with these settings, which have one worker.
+    Collection {
+        settings: Settings,
+        form: CollectionForm,
+    },
 }
 
 /// All that the words ask for.
@@ -23,6 +32,6 @@ pub enum Command {
 pub struct Asked {
     /// The command.
     pub command: Command,
-    /// The file that it reads, as the words have its path; none for the standard input.
+    /// The file that it reads, as the words have its path; none for the standard input, and for a survey, which reads nothing.
     pub file: Option<String>,
 }

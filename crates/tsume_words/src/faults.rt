@@ -54,6 +54,16 @@ pub enum WordsEnd {
     NoMemory,
 }
 
+impl From<WordFault> for WordsEnd {
+    ghost use Rattle.tsume_words.specs.declared.faults.WordsEnd.TheVariants.{Fault};
+
+    ghost from_gives = { λ fault end. end ≡ Fault fault };
+
+    fn from(fault: WordFault) -> WordsEnd {
+        WordsEnd::Fault(fault)
+    }
+}
+
 impl From<AllocError> for WordsEnd {
     ghost use Rattle.tsume_words.specs.declared.faults.WordsEnd.TheVariants.{NoMemory};
 

@@ -3,8 +3,10 @@ ghost use Rattle.std.specs.Prelude.{◌≡◌, IfOk, false};
 ghost use Rattle.clap.specs.Words.{app_of, rule_of};
 ghost use Rattle.clap.specs.declared.builder.command.Command.TheViews.{out-Command as fields_of};
 ghost use Rattle.tsume_words.specs.Line.{number_option, workers_option, expansions_option, room_option, rows_option, shards_option, deadline_option, problem_option, kif_flag, rest_flag, progress_flag, file_word, solve_line};
-ghost use Rattle.tsume_words.specs.Line.{check_line, tsume_line};
+ghost use Rattle.tsume_words.specs.Line.{seed_option, count_option, threads_option, certificates_flag};
+ghost use Rattle.tsume_words.specs.Line.{check_line, survey_line, collection_line, tsume_line};
 
+use crate::many::{MOST_COUNT, MOST_SEED, MOST_THREADS};
 use crate::settings::{LEAST_ROWS, MOST_ROOM, MOST_ROWS, MOST_SHARDS, MOST_WORKERS};
 use crate::watch::MOST_DEADLINE;
 use clap::builder::ValueParser;
@@ -44,8 +46,8 @@ fn workers_option<'a>(alloc: Global) -> Arg<'a>
     number_option(alloc, "workers", 1, MOST_WORKERS, "1", "Threads (1 to 64)").hide(true)
 }
 
-fn expansions_option<'a>(alloc: Global) -> Arg<'a>
-    ensures rule { rule_of result ≡ expansions_option }
+fn expansions_option<'a>(alloc: Global, default: &'a str) -> Arg<'a>
+    ensures rule { rule_of result ≡ expansions_option default.entry.now }
     ensures local { result.global ≡ false }
 {
     number_option(
@@ -53,7 +55,7 @@ fn expansions_option<'a>(alloc: Global) -> Arg<'a>
         "expansions",
         1,
         MOST_EXPANSIONS,
-        "1000000",
+        default,
         "Visits of positions, of both sides, before it gives up,\n\
          1 to 1000000000; a position is visited as often as the\n\
          search comes back to it",
@@ -107,6 +109,69 @@ fn shards_option<'a>(alloc: Global) -> Arg<'a>
         "Parts of the table, a power of two (1 to 64), at most the rows",
     )
     .hide(true)
+}
+
+fn seed_option<'a>(alloc: Global) -> Arg<'a>
+    ensures rule { rule_of result ≡ seed_option }
+    ensures local { result.global ≡ false }
+{
+    number_option(
+        alloc,
+        "seed",
+        0,
+        MOST_SEED,
+        "0",
+        "Number of the first problem, 0 to 1000000000. A number\n\
+         stands for the same problem on every machine. It costs\n\
+         nothing",
+    )
+}
+
+fn count_option<'a>(alloc: Global) -> Arg<'a>
+    ensures rule { rule_of result ≡ count_option }
+    ensures local { result.global ≡ false }
+{
+    number_option(
+        alloc,
+        "count",
+        1,
+        MOST_COUNT,
+        "100",
+        "How many problems, 1 to 10000, by rising number. Each\n\
+         is one more search",
+    )
+}
+
+fn threads_option<'a>(alloc: Global) -> Arg<'a>
+    ensures rule { rule_of result ≡ threads_option }
+    ensures local { result.global ≡ false }
+{
+    Arg::new(alloc, "threads")
+        .long("threads")
+        .action(ArgAction::Set)
+        .value_name("N")
+        .value_parser(ValueParser::unsigned(1, MOST_THREADS))
+        .help(
+            "Problems that are decided side by side, 1 to 64. It\n\
+             changes no byte of the output. Each thread takes a\n\
+             table of its own, 1 KB a row: 64 MB at 65536 rows;\n\
+             and 64 MB or so more for notes in hard problems.\n\
+             Default: as many as the system has processors",
+        )
+}
+
+fn certificates_flag<'a>(alloc: Global) -> Arg<'a>
+    ensures rule { rule_of result ≡ certificates_flag }
+    ensures local { result.global ≡ false }
+{
+    Arg::new(alloc, "certificates")
+        .long("certificates")
+        .action(ArgAction::SetTrue)
+        .help(
+            "Print the certificate of each mate and each no mate\n\
+             behind its line. Off unless given; the output may be\n\
+             many times longer, the search isn't",
+        )
 }
 
 fn deadline_option<'a>(alloc: Global) -> Arg<'a>
@@ -200,7 +265,7 @@ fn solve_command<'a>(alloc: Global) -> Result<Command<'a>, AllocError>
     ensures local { IfOk result (λ command. (fields_of command).has_globals ≡ false) }
 {
     Command::new(alloc, "solve")
-        .about("Solves a problem (SFEN or KIF); prints its mate, or that there is none")
+        .about("Solves a problem (SFEN or KIF): its mate, or that there is none")
         .after_help(
             "It prints a certificate too, which `tsume check` accepts. Every interposition\n\
              counts, also one that only delays (the convention that leaves out useless ones\n\
@@ -211,7 +276,7 @@ fn solve_command<'a>(alloc: Global) -> Result<Command<'a>, AllocError>
              Example:\n  echo '4k4/9/4P4/9/9/9/9/9/9 b G 1' | tsume solve --expansions 100000",
         )
         .arg(workers_option(alloc))?
-        .arg(expansions_option(alloc))?
+        .arg(expansions_option(alloc, "1000000"))?
         .arg(room_option(alloc))?
         .arg(rows_option(alloc))?
         .arg(shards_option(alloc))?
@@ -230,7 +295,7 @@ fn check_command<'a>(alloc: Global) -> Result<Command<'a>, AllocError>
     ensures local { IfOk result (λ command. (fields_of command).has_globals ≡ false) }
 {
     Command::new(alloc, "check")
-        .about("Checks a certificate, alone or behind the line that `solve` prints")
+        .about("Checks a certificate, alone or behind the line `solve` prints")
         .after_help(
             "The moves of that first line aren't compared with the certificate.\n\n\
              Status: 0 accepted, 7 refused, 2 words refused, 3 no certificate, 4 reading\n\
@@ -245,21 +310,72 @@ fn check_command<'a>(alloc: Global) -> Result<Command<'a>, AllocError>
         ))
 }
 
+fn survey_command<'a>(alloc: Global) -> Result<Command<'a>, AllocError>
+    ensures app { IfOk result (λ command. app_of command ≡ survey_line) }
+    ensures local { IfOk result (λ command. (fields_of command).has_globals ≡ false) }
+{
+    Command::new(alloc, "survey")
+        .about("Solves problems that it makes by number; counts how they end")
+        .after_help(
+            "It reads nothing. The expansions count for each problem by itself; each has a\n\
+             table of 1024 rows, 1 MB. The same words print the same four lines everywhere.\n\n\
+             Status: 0 counted, 2 words refused, 5 writing failed, 6 out of memory.\n\n\
+             Example:\n  tsume survey --seed 1000 --count 50",
+        )
+        .arg(seed_option(alloc))?
+        .arg(count_option(alloc))?
+        .arg(expansions_option(alloc, "10000"))
+}
+
+fn collection_command<'a>(alloc: Global) -> Result<Command<'a>, AllocError>
+    ensures app { IfOk result (λ command. app_of command ≡ collection_line) }
+    ensures local { IfOk result (λ command. (fields_of command).has_globals ≡ false) }
+{
+    Command::new(alloc, "collection")
+        .about("Decides every problem of a text, an SFEN a line; a line for each")
+        .after_help(
+            "What follows a tab in a line is a note. A line that is empty then, or of spaces\n\
+             alone, or that begins with #, is skipped. A line of the output begins with the\n\
+             number of the input's line; the last line has the counts. The expansions, the\n\
+             room and the rows count for each problem by itself. As with `solve`, every\n\
+             interposition counts, and a mate need not be the shortest.\n\n\
+             Status: 0 a verdict for each, 1 gave up on one, 3 a line is no problem or the\n\
+             text is too long, 2 words refused, 4 reading failed, 5 writing failed, 6 out of\n\
+             memory.\n\n\
+             Example:\n  tsume collection problems.txt --rest --threads 4",
+        )
+        .arg(expansions_option(alloc, "100000"))?
+        .arg(room_option(alloc))?
+        .arg(rows_option(alloc))?
+        .arg(shards_option(alloc))?
+        .arg(threads_option(alloc))?
+        .arg(rest_flag(alloc))?
+        .arg(certificates_flag(alloc))?
+        .arg(file_word(
+            alloc,
+            "The text's file, 16777216 bytes at most; - or none: standard input",
+        ))
+}
+
 /// The command line of the program.
 pub(crate) fn command_line<'a>(alloc: Global) -> Result<Command<'a>, AllocError>
     ensures { IfOk result (λ command. app_of command ≡ tsume_line) }
 {
     let solve = solve_command(alloc)?;
     let check = check_command(alloc)?;
+    let survey = survey_command(alloc)?;
+    let collection = collection_command(alloc)?;
     Command::new(alloc, "tsume")
         .about(
             "Solves tsume-shogi problems: every verdict comes with a certificate that can be\n\
              checked, by this program or by one of your own",
         )
-        .after_help("`tsume solve --help` and `tsume check --help` have the options.")
+        .after_help("`tsume solve --help`, and so on for each command, has its options.")
         .version(VERSION)
         .subcommand_required(true)
         .arg_required_else_help(true)
         .subcommand(solve)?
-        .subcommand(check)
+        .subcommand(check)?
+        .subcommand(survey)?
+        .subcommand(collection)
 }

@@ -1,21 +1,27 @@
 // The reading of the words.
 ghost use Rattle.std.specs.Prelude.{◌≡◌, ◌⊎◌, ◌↔◌, IfOk, IfErr, IsOkAnd, IsSomeAnd, IsTrue, codes, map, option_map, string_bytes};
 ghost use Rattle.std.specs.Prelude.{option_and_then};
+ghost use Rattle.std.specs.Option.{ForSome};
 ghost use Rattle.std.specs.Int.{IsPowerOfTwo, is_power_of_two};
 ghost use Rattle.clap.specs.Words.{found_of, kind_of, rows_of, subcommand_rows_of};
-ghost use Rattle.tsume_words.specs.Given.{AsksForHelp, HasFlag, HasNumber, IsForCommand, IsForSolve, IsNumberGiven, Wish, file_named, file_of, is_help};
-ghost use Rattle.tsume_words.specs.Given.{HasNumberIfAny, IsNumberIfAny, all_words, form_of, is_flagged, number_of, number_if_given, settings_of, but_dash, text_of, watch_of, wish_named};
-ghost use Rattle.tsume_words.specs.Given.Wish.{to_solve, to_check};
-ghost use Rattle.tsume_words.specs.Meaning.{IsOutcomeFor, FailsFirst, IsClapsEnd, IsEndFor, IsHelp, command_of};
-ghost use Rattle.tsume_words.specs.Meaning.{texts_of, watch_in, wish_of, workers_of};
+ghost use Rattle.tsume_words.specs.Given.{AsksForHelp, HasFlag, HasNumber, IsForCollection, IsForCommand, IsForSearch, IsForSolve, IsForSurvey, IsNumberGiven, Wish};
+ghost use Rattle.tsume_words.specs.Given.{HasNumberIfAny, IsNumberIfAny, all_words, collection_of, file_named, file_of, form_of, is_flagged, is_help, number_of, number_if_given};
+ghost use Rattle.tsume_words.specs.Given.{but_dash, settings_by, settings_of, survey_of, text_of, watch_of, wish_named};
+ghost use Rattle.tsume_words.specs.Given.Wish.{to_solve, to_check, to_survey, to_collect};
+ghost use Rattle.tsume_words.specs.Meaning.{AreTested, HasLoneSearches, IsOutcomeFor, FailsFirst, IsClapsEnd, IsEndFor, IsHelp, collection_in, command_of};
+ghost use Rattle.tsume_words.specs.Meaning.{survey_in, texts_of, watch_in, wish_of, workers_of};
 ghost use Rattle.tsume_words.specs.Sizes.{IsFromTo};
 ghost use Rattle.tsume_words.specs.declared.faults.WordFault.{WordFault};
+ghost use Rattle.tsume_words.specs.declared.many.TheConstants.{MOST_COUNT, MOST_THREADS};
 ghost use Rattle.tsume_words.specs.declared.settings.TheConstants.{MOST_WORKERS, MOST_ROOM};
 ghost use Rattle.tsume_words.specs.declared.watch.TheConstants.{MOST_DEADLINE};
 ghost use Rattle.search_gate.specs.declared.expansions.TheConstants.{MOST_EXPANSIONS};
 
 use crate::line::command_line;
-use crate::{Asked, Command, Format, ProblemForm, Settings, Size, Watch, WordFault, WordsEnd};
+use crate::{
+    Asked, CollectionForm, Command, Format, ProblemForm, Settings, Size, SurveyRange, Watch,
+    WordFault, WordsEnd,
+};
 use clap::ArgMatches;
 use clap::error::ErrorKind;
 use search_gate::Expansions;
@@ -29,11 +35,12 @@ use std::alloc::{AllocError, Global};
 pub fn read_words(alloc: Global, words: &[String]) -> Result<Asked, WordsEnd>
     ensures command { IfOk result (λ asked. command_of (texts_of words.now) ≡ Some (wish_of asked.command)) }
 
-    // The word FILE, where there is one and it isn't `-`.
+    // The word FILE, where there is one and it isn't `-`; a survey has none.
     ensures file { IfOk result (λ asked. option_map string_bytes asked.file ≡ file_of (texts_of words.now)) }
 
-    // By 1 to 64 workers, to check as to solve.
+    // By 1 to 64 workers, to check as to solve; by one for each problem of a collection.
     ensures workers { IfOk result (λ asked. IsFromTo 1 MOST_WORKERS (workers_of asked.command)) }
+    ensures alone { IfOk result (λ asked. HasLoneSearches asked.command) }
 
     // Help comes only where clap's first fault is a request for it or for the version, clap's refusal only where it is none, and each
     // other fault only where its test is the first to fail.
@@ -103,11 +110,18 @@ fn asked(alloc: Global, matches: &ArgMatches<'_>) -> Result<Asked, WordsEnd>
         (λ wish. IsOutcomeFor wish result) }
     ensures file { IfOk result (λ asked. option_map string_bytes asked.file ≡ option_and_then file_named (subcommand_rows_of matches.now)) }
     ensures workers { IfOk result (λ asked. IsFromTo 1 MOST_WORKERS (workers_of asked.command)) }
+    ensures alone { IfOk result (λ asked. HasLoneSearches asked.command) }
 {
-    match matches.subcommand_matches("solve") {
-        Some(given) => solve(alloc, given),
-        None => check(alloc, matches.subcommand_matches("check").unwrap()),
+    if let Some(given) = matches.subcommand_matches("solve") {
+        return solve(alloc, given);
     }
+    if let Some(given) = matches.subcommand_matches("check") {
+        return check(alloc, given);
+    }
+    if let Some(given) = matches.subcommand_matches("survey") {
+        return Ok(survey(given));
+    }
+    collection(alloc, matches.subcommand_matches("collection").unwrap())
 }
 
 // The number that clap gives for the option of this name.
@@ -215,19 +229,32 @@ fn file(alloc: Global, given: &ArgMatches<'_>) -> Result<Option<String>, AllocEr
     Ok(Some(word))
 }
 
-// What clap gives for `check`.
-fn check(alloc: Global, given: &ArgMatches<'_>) -> Result<Asked, WordsEnd>
-    requires { HasNumber (codes "workers") 1 MOST_WORKERS (rows_of (found_of given.now)) }
-    ensures outcome { let found = rows_of (found_of given.now) in
-        IsOutcomeFor (to_check (number_of (codes "workers") found) (text_of (codes "problem") found)) result }
-    ensures file { IfOk result (λ asked. option_map string_bytes asked.file ≡ but_dash (text_of (codes "file") (rows_of (found_of given.now)))) }
-    ensures workers { IfOk result (λ asked. IsFromTo 1 MOST_WORKERS (workers_of asked.command)) }
+// The numbers that clap gives for a search by so many workers, tested.
+fn settings(given: &ArgMatches<'_>, workers: u32) -> Result<Settings, WordFault>
+    requires workers { IsFromTo 1 MOST_WORKERS workers }
+    requires given { IsForSearch (rows_of (found_of given.now)) }
+    ensures { AreTested (settings_by workers (rows_of (found_of given.now))) result }
 {
-    let workers = workers(given);
-    let problem = text(alloc, given, "problem")?;
-    let command = Command::Check { workers, problem };
-    let file = file(alloc, given)?;
-    Ok(Asked { command, file })
+    let expansions = expansions(given);
+    let room = room(given);
+    let rows = number(given, "rows");
+    let shards = number(given, "shards");
+    if !is_power_of_two(rows) {
+        return Err(WordFault::NotPowerOfTwo(Size::Rows));
+    }
+    if !is_power_of_two(shards) {
+        return Err(WordFault::NotPowerOfTwo(Size::Shards));
+    }
+    if shards > rows {
+        return Err(WordFault::MoreShardsThanRows);
+    }
+    Ok(Settings {
+        workers,
+        expansions,
+        room,
+        rows,
+        shards,
+    })
 }
 
 // What clap gives for `solve`, tested.
@@ -237,35 +264,114 @@ fn solve(alloc: Global, given: &ArgMatches<'_>) -> Result<Asked, WordsEnd>
         IsOutcomeFor (to_solve (settings_of found) (form_of found) (watch_of found)) result }
     ensures file { IfOk result (λ asked. option_map string_bytes asked.file ≡ but_dash (text_of (codes "file") (rows_of (found_of given.now)))) }
     ensures workers { IfOk result (λ asked. IsFromTo 1 MOST_WORKERS (workers_of asked.command)) }
+    ensures alone { IfOk result (λ asked. HasLoneSearches asked.command) }
 {
-    let workers = workers(given);
-    let expansions = expansions(given);
-    let room = room(given);
-    let rows = number(given, "rows");
-    let shards = number(given, "shards");
     let form = form(given);
     let watch = watch(given);
-    if !is_power_of_two(rows) {
-        return Err(WordsEnd::Fault(WordFault::NotPowerOfTwo(Size::Rows)));
-    }
-    if !is_power_of_two(shards) {
-        return Err(WordsEnd::Fault(WordFault::NotPowerOfTwo(Size::Shards)));
-    }
-    if shards > rows {
-        return Err(WordsEnd::Fault(WordFault::MoreShardsThanRows));
-    }
-    let settings = Settings {
-        workers,
-        expansions,
-        room,
-        rows,
-        shards,
-    };
+    let settings = settings(given, workers(given))?;
     let command = Command::Solve {
         settings,
         form,
         watch,
     };
+    let file = file(alloc, given)?;
+    Ok(Asked { command, file })
+}
+
+// What clap gives for `check`.
+fn check(alloc: Global, given: &ArgMatches<'_>) -> Result<Asked, WordsEnd>
+    requires { HasNumber (codes "workers") 1 MOST_WORKERS (rows_of (found_of given.now)) }
+    ensures outcome { let found = rows_of (found_of given.now) in
+        IsOutcomeFor (to_check (number_of (codes "workers") found) (text_of (codes "problem") found)) result }
+    ensures file { IfOk result (λ asked. option_map string_bytes asked.file ≡ but_dash (text_of (codes "file") (rows_of (found_of given.now)))) }
+    ensures workers { IfOk result (λ asked. IsFromTo 1 MOST_WORKERS (workers_of asked.command)) }
+    ensures alone { IfOk result (λ asked. HasLoneSearches asked.command) }
+{
+    let workers = workers(given);
+    let problem = text(alloc, given, "problem")?;
+    let command = Command::Check { workers, problem };
+    let file = file(alloc, given)?;
+    Ok(Asked { command, file })
+}
+
+fn count(given: &ArgMatches<'_>) -> u32
+    requires { HasNumber (codes "count") 1 MOST_COUNT (rows_of (found_of given.now)) }
+    ensures number { result ≡ number_of (codes "count") (rows_of (found_of given.now)) }
+    ensures range { IsFromTo 1 MOST_COUNT result }
+{
+    number(given, "count") as u32
+}
+
+// Which problems clap gives for `survey`.
+fn survey_range(given: &ArgMatches<'_>) -> SurveyRange
+    requires { IsForSurvey (rows_of (found_of given.now)) }
+    ensures { survey_in result ≡ survey_of (rows_of (found_of given.now)) }
+{
+    let seed = number(given, "seed");
+    let count = count(given);
+    let expansions = expansions(given);
+    SurveyRange {
+        seed,
+        count,
+        expansions,
+    }
+}
+
+// What clap gives for `survey`.
+fn survey(given: &ArgMatches<'_>) -> Asked
+    requires { IsForSurvey (rows_of (found_of given.now)) }
+    ensures wish { wish_of result.command ≡ to_survey (survey_of (rows_of (found_of given.now))) }
+    ensures file { result.file ≡ None }
+    ensures workers { IsFromTo 1 MOST_WORKERS (workers_of result.command) }
+    ensures alone { HasLoneSearches result.command }
+{
+    let range = survey_range(given);
+    let command = Command::Survey { range };
+    Asked {
+        command,
+        file: None,
+    }
+}
+
+// How many problems of a collection clap says are decided side by side.
+fn threads(given: &ArgMatches<'_>) -> Option<u32>
+    requires { HasNumberIfAny (codes "threads") 1 MOST_THREADS (rows_of (found_of given.now)) }
+    ensures number { result ≡ number_if_given (codes "threads") (rows_of (found_of given.now)) }
+    ensures range { ForSome result (IsFromTo 1 MOST_THREADS) }
+{
+    match number_if_given(given, "threads") {
+        Some(threads) => Some(threads as u32),
+        None => None,
+    }
+}
+
+// How the words say that the problems of a collection are decided.
+fn collection_form(given: &ArgMatches<'_>) -> CollectionForm
+    requires { IsForCollection (rows_of (found_of given.now)) }
+    ensures { collection_in result ≡ collection_of (rows_of (found_of given.now)) }
+{
+    let rest = is_flagged(given, "rest");
+    let certificates = is_flagged(given, "certificates");
+    let threads = threads(given);
+    CollectionForm {
+        rest,
+        certificates,
+        threads,
+    }
+}
+
+// What clap gives for `collection`, tested.
+fn collection(alloc: Global, given: &ArgMatches<'_>) -> Result<Asked, WordsEnd>
+    requires { IsForCollection (rows_of (found_of given.now)) }
+    ensures outcome { let found = rows_of (found_of given.now) in
+        IsOutcomeFor (to_collect (settings_by 1 found) (collection_of found)) result }
+    ensures file { IfOk result (λ asked. option_map string_bytes asked.file ≡ but_dash (text_of (codes "file") (rows_of (found_of given.now)))) }
+    ensures workers { IfOk result (λ asked. IsFromTo 1 MOST_WORKERS (workers_of asked.command)) }
+    ensures alone { IfOk result (λ asked. HasLoneSearches asked.command) }
+{
+    let form = collection_form(given);
+    let settings = settings(given, 1)?;
+    let command = Command::Collection { settings, form };
     let file = file(alloc, given)?;
     Ok(Asked { command, file })
 }

@@ -77,6 +77,87 @@ static ASKED: [(&str, &str); 30] = [
     ("solve --shards 24", "shards is no power of two"),
 ];
 
+// The same of the commands over many problems: the seed, the count and the expansions; or the settings, whether `--rest` stands,
+// `told` where `--certificates` does, and `by` the threads.
+static MANY_ASKED: [(&str, &str); 28] = [
+    ("survey", "survey 0 100 10000"),
+    ("survey --seed 1000000000", "survey 1000000000 100 10000"),
+    ("survey --count 1", "survey 0 1 10000"),
+    ("survey --count=10000", "survey 0 10000 10000"),
+    ("survey --expansions 1", "survey 0 100 1"),
+    ("survey --expansions 1000000000", "survey 0 100 1000000000"),
+    ("survey --count 7 --seed 05 --expansions +9", "survey 5 7 9"),
+    ("collection", "collection 1 100000 1048576 65536 16 false"),
+    (
+        "collection --rest",
+        "collection 1 100000 1048576 65536 16 true",
+    ),
+    (
+        "collection --certificates",
+        "collection 1 100000 1048576 65536 16 false told",
+    ),
+    (
+        "collection --threads 1",
+        "collection 1 100000 1048576 65536 16 false by 1",
+    ),
+    (
+        "collection --threads 64",
+        "collection 1 100000 1048576 65536 16 false by 64",
+    ),
+    (
+        "collection --expansions 1",
+        "collection 1 1 1048576 65536 16 false",
+    ),
+    (
+        "collection --expansions 1000000000",
+        "collection 1 1000000000 1048576 65536 16 false",
+    ),
+    (
+        "collection --room 1",
+        "collection 1 100000 1 65536 16 false",
+    ),
+    (
+        "collection --room 1400000",
+        "collection 1 100000 1400000 65536 16 false",
+    ),
+    (
+        "collection --rows 16",
+        "collection 1 100000 1048576 16 16 false",
+    ),
+    (
+        "collection --rows 1048576",
+        "collection 1 100000 1048576 1048576 16 false",
+    ),
+    (
+        "collection --shards 64",
+        "collection 1 100000 1048576 65536 64 false",
+    ),
+    (
+        "collection --threads 3 --shards 2 --rows 32 --room 4 --expansions 5 --certificates --rest",
+        "collection 1 5 4 32 2 true told by 3",
+    ),
+    (
+        "collection a.sfen",
+        "collection 1 100000 1048576 65536 16 false of a.sfen",
+    ),
+    ("collection -", "collection 1 100000 1048576 65536 16 false"),
+    (
+        "collection --rest - --threads 2",
+        "collection 1 100000 1048576 65536 16 true by 2",
+    ),
+    (
+        "collection -- --rest",
+        "collection 1 100000 1048576 65536 16 false of --rest",
+    ),
+    ("collection --rows 24 --shards 3", "rows is no power of two"),
+    ("collection --shards 24", "shards is no power of two"),
+    ("collection --rows 16 --shards 32", "more shards than rows"),
+    (
+        "collection --rows 32 --shards 32",
+        "collection 1 100000 1048576 32 32 false",
+    ),
+];
+
 // A line that is refused, and how its text begins.
 static REFUSED: [(&str, &str); 24] = [
     ("solve --rows 16 --shards 32", "more shards than rows"),
@@ -159,16 +240,74 @@ static REFUSED: [(&str, &str); 24] = [
     ),
 ];
 
+// The same of the commands over many problems.
+static MANY_REFUSED: [(&str, &str); 15] = [
+    (
+        "survey --seed 1000000001",
+        "error: invalid value '1000000001' for '--seed <N>': 1000000001 is not in 0..=1000000000",
+    ),
+    ("survey --seed -1", "error: unexpected argument '-1' found"),
+    (
+        "survey --count 0",
+        "error: invalid value '0' for '--count <N>': 0 is not in 1..=10000",
+    ),
+    (
+        "survey --count 10001",
+        "error: invalid value '10001' for '--count <N>': 10001 is not in 1..=10000",
+    ),
+    (
+        "survey --expansions 0",
+        "error: invalid value '0' for '--expansions <N>'",
+    ),
+    ("survey a.sfen", "error: unexpected argument 'a.sfen' found"),
+    ("survey --kif", "error: unexpected argument '--kif' found"),
+    (
+        "survey --rows 16",
+        "error: unexpected argument '--rows' found",
+    ),
+    (
+        "collection --threads 0",
+        "error: invalid value '0' for '--threads <N>': 0 is not in 1..=64",
+    ),
+    (
+        "collection --threads 65",
+        "error: invalid value '65' for '--threads <N>': 65 is not in 1..=64",
+    ),
+    (
+        "collection --workers 2",
+        "error: unexpected argument '--workers' found",
+    ),
+    (
+        "collection --kif",
+        "error: unexpected argument '--kif' found",
+    ),
+    (
+        "collection --deadline 5",
+        "error: unexpected argument '--deadline' found",
+    ),
+    (
+        "collection --progress",
+        "error: unexpected argument '--progress' found",
+    ),
+    (
+        "solve --threads 2",
+        "error: unexpected argument '--threads' found",
+    ),
+];
+
 // A request for help or for the version, and a part of its text.
-static HELPED: [(&str, &str); 17] = [
+static HELPED: [(&str, &str); 27] = [
     ("--version", "tsume 0.1.0\n"),
     ("-V --help", "tsume 0.1.0\n"),
     ("--help", "Usage: tsume <COMMAND>\n"),
     (
         "-h",
-        "\n  solve  Solves a problem (SFEN or KIF); prints its mate",
+        "\n  solve       Solves a problem (SFEN or KIF): its mate",
     ),
-    ("help", "\n  check  Checks a certificate, alone or behind"),
+    (
+        "help",
+        "\n  check       Checks a certificate, alone or behind",
+    ),
     (
         "solve --help",
         "\n      --expansions <N>  Visits of positions, of both sides, before it gives up,\n",
@@ -204,6 +343,40 @@ static HELPED: [(&str, &str); 17] = [
         "\n      --problem <SFEN>  Accept the certificate for this problem alone",
     ),
     ("check --help", " Default: the certificate's own problem."),
+    (
+        "-h",
+        "\n  collection  Decides every problem of a text, an SFEN a line",
+    ),
+    (
+        "-h",
+        "\n  survey      Solves problems that it makes by number",
+    ),
+    ("help survey", "Usage: tsume survey [OPTIONS]\n"),
+    ("survey -h", "is one more search [default: 100]\n"),
+    (
+        "survey --help",
+        " search comes back to it [default: 10000]\n",
+    ),
+    (
+        "collection -h",
+        "Usage: tsume collection [OPTIONS] [FILE]\n",
+    ),
+    (
+        "collection --help",
+        "\n      --threads <N>     Problems that are decided side by side, 1 to 64. It\n",
+    ),
+    (
+        "collection --rows 24 -h",
+        "64 MB at 65536 rows;\n                        and 64 MB or so more for notes in hard problems.\n",
+    ),
+    (
+        "help collection",
+        " Default: as many as the system has processors\n",
+    ),
+    (
+        "collection -h",
+        "\n      --certificates    Print the certificate of each mate and each no mate\n",
+    ),
     ("check --help", "-h, --help            Print help\n"),
 ];
 
@@ -251,6 +424,42 @@ fn command_text(alloc: Global, command: &Command) -> Result<String, AllocError> 
             Some(problem) => format!(in alloc; "check {workers} {problem}"),
             None => format!(in alloc; "check {workers}"),
         },
+        Command::Survey { range } => survey_text(alloc, range),
+        Command::Collection { settings, form } => collection_text(alloc, settings, form),
+    }
+}
+
+fn survey_text(alloc: Global, range: &SurveyRange) -> Result<String, AllocError> {
+    let SurveyRange {
+        seed,
+        count,
+        expansions,
+    } = *range;
+    let expansions = expansions.count;
+    format!(in alloc; "survey {seed} {count} {expansions}")
+}
+
+fn collection_text(
+    alloc: Global,
+    settings: &Settings,
+    form: &CollectionForm,
+) -> Result<String, AllocError> {
+    let Settings {
+        workers,
+        expansions,
+        room,
+        rows,
+        shards,
+    } = *settings;
+    let expansions = expansions.count;
+    let rest = form.rest;
+    let told = if form.certificates { " told" } else { "" };
+    let collection = format!(in alloc;
+        "collection {workers} {expansions} {room} {rows} {shards} {rest}{told}"
+    )?;
+    match form.threads {
+        Some(threads) => format!(in alloc; "{collection} by {threads}"),
+        None => Ok(collection),
     }
 }
 
@@ -275,6 +484,10 @@ fn lines_ask_for_what_they_say(rt: HostRuntime) -> Result<(), Fail> {
         let text = meaning(rt.alloc(), line)?;
         assert_eq!(rt; text.as_str(), asked);
     }
+    for (line, asked) in MANY_ASKED {
+        let text = meaning(rt.alloc(), line)?;
+        assert_eq!(rt; text.as_str(), asked);
+    }
     Ok(())
 }
 
@@ -284,6 +497,10 @@ fn refusals_say_why(rt: HostRuntime) -> Result<(), Fail> {
         let text = meaning(rt.alloc(), line)?;
         assert!(rt; text.as_str().starts_with(beginning), "{line}: {text}");
         assert!(rt; !text.as_str().ends_with("\n"), "{line}");
+    }
+    for (line, beginning) in MANY_REFUSED {
+        let text = meaning(rt.alloc(), line)?;
+        assert!(rt; text.as_str().starts_with(beginning), "{line}: {text}");
     }
     Ok(())
 }

@@ -26,7 +26,7 @@ returns-in-Ok c =
     let rows = (c.in-Ok.ensures.matches (ap is_simple app ∙ is_simple_alone)).1 ∙ ap₂ subcommand_of app texts in
     let promises = promised_by_outcome words c.asked.result taken (given_where_taken words _ c.asked.result taken rows c.asked.ensures.outcome) in
     let file = subst (λ (o : Option (Text × List Row)). IfOk c.asked.result (λ asked. option_map string_bytes asked.file ≡ option_and_then file_named o)) rows c.asked.ensures.file in
-    record { command = promises.command; file = file; workers = c.asked.ensures.workers; ended = promises.ended; help = promises.help; stopped = promises.stopped; complete = promises.complete }
+    record { command = promises.command; file = file; workers = c.asked.ensures.workers; alone = c.asked.ensures.alone; ended = promises.ended; help = promises.help; stopped = promises.stopped; complete = promises.complete }
 
 pub returns : goal.returns
 returns c =
@@ -39,4 +39,4 @@ returns c =
       | inr among ↦ inr (subst (λ (k : Kinds). IsAmong (kind_of c.in-Err.error) k) (ap₂ fault_of app texts) among)
     ] in
     let promises = promised_by_clap words c.end_of.result (kind_of c.in-Err.error) c.end_of.ensures.text why in
-    record { command = promises.command; file = tt; workers = tt; ended = promises.ended; help = promises.help; stopped = promises.stopped; complete = promises.complete }
+    record { command = promises.command; file = tt; workers = tt; alone = tt; ended = promises.ended; help = promises.help; stopped = promises.stopped; complete = promises.complete }

@@ -1,0 +1,86 @@
+// The text of a report. Each part is appended to the one text.
+ghost use Rattle.std.specs.Prelude.{◌≡◌, ◌++◌, OnOk, codes};
+ghost use Rattle.std.specs.List.{flat_map};
+ghost use Rattle.usi_text.specs.Lines.{spaced_move};
+ghost use Rattle.app_texts.specs.FaultText.{line_fault_text};
+ghost use Rattle.app_texts.specs.Reports.{HasReportLine, ending_text, proof_text, report_text};
+
+use crate::text::append_cause;
+use crate::{LineFault, Report, Solution};
+use board_core::Move;
+use cert_text::{append_escape_cert, append_mate_cert, append_number};
+use std::alloc::AllocError;
+use usi_text::write_move;
+
+fn append_moves(out: &mut Vec<u8>, moves: &[Move]) -> Result<(), AllocError>
+    ensures { OnOk result (out.new.items ≡ out.old.items ++ flat_map spaced_move moves.now) }
+{
+    for m in moves {
+        out.push(b' ')?;
+        out.extend_from_slice(write_move(*m).as_bytes())?;
+    }
+    Ok(())
+}
+
+fn append_fault(out: &mut Vec<u8>, fault: LineFault) -> Result<(), AllocError>
+    ensures { OnOk result (out.new.items ≡ out.old.items ++ line_fault_text fault) }
+{
+    let alloc = *out.allocator();
+    let text = format!(in alloc; "{fault}")?;
+    out.extend_from_slice(text.as_bytes())?;
+    Ok(())
+}
+
+fn append_ending(out: &mut Vec<u8>, report: &Report) -> Result<(), AllocError>
+    ensures { OnOk result (out.new.items ≡ out.old.items ++ ending_text report.now) }
+{
+    match report {
+        Report::Solved(Solution::Mate(_, moves)) => {
+            out.extend_from_slice(b" mate")?;
+            append_moves(out, moves.moves())
+        }
+        Report::Solved(Solution::NoMate(_)) => {
+            out.extend_from_slice(b" nomate")?;
+            Ok(())
+        }
+        Report::Solved(Solution::Unknown(cause, _)) => {
+            out.extend_from_slice(b" unknown ")?;
+            append_cause(out, *cause)
+        }
+        Report::Fault(fault) => {
+            out.extend_from_slice(b" fault ")?;
+            append_fault(out, *fault)
+        }
+    }
+}
+
+fn append_proof(out: &mut Vec<u8>, report: &Report) -> Result<(), AllocError>
+    ensures { OnOk result (out.new.items ≡ out.old.items ++ proof_text report.now) }
+{
+    match report {
+        Report::Solved(Solution::Mate(certificate, _)) => append_mate_cert(out, certificate),
+        Report::Solved(Solution::NoMate(certificate)) => append_escape_cert(out, certificate),
+        Report::Solved(Solution::Unknown(_, _)) | Report::Fault(_) => Ok(()),
+    }
+}
+
+/// Writes what is told of a collection's line of this number behind what stands there already: the number and how its problem
+/// ended, and behind a verdict its certificate where `certificates` says so. The moves of a mate have texts. Where memory is wanted,
+/// a part of it may stand there. Errors: want of memory alone.
+pub fn append_report(
+    out: &mut Vec<u8>,
+    number: u64,
+    report: &Report,
+    certificates: bool,
+) -> Result<(), AllocError>
+    requires { HasReportLine report.now }
+    ensures { OnOk result (out.new.items ≡ out.old.items ++ report_text certificates number report.now) }
+{
+    append_number(out, number)?;
+    append_ending(out, report)?;
+    out.push(b'\n')?;
+    if certificates {
+        append_proof(out, report)?;
+    }
+    Ok(())
+}
