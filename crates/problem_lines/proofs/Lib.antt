@@ -1,0 +1,5 @@
+pub mod Among
+pub mod Cutting
+pub mod Lacking
+pub mod Listed
+pub mod Written

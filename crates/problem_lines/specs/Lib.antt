@@ -1,0 +1,3 @@
+-- Collections of problems: their lines.
+pub mod Lines
+pub mod Written

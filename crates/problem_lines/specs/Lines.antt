@@ -1,0 +1,44 @@
+-- The lines of a collection of problems, and which of them hold one.
+use Rattle.std.specs.Prelude.{ℕ, ◌==◌, ◌||◌, nat_eq, nat_lt, Bool, not, List, [], ◌∷◌, length, filter, map}
+use Rattle.std.specs.List.{before_first, enumerate_from, list_all, starts_with}
+use Rattle.std.specs.Str.Lines.{lines}
+use Rattle.problem_lines.specs.declared.line.Line.{Line}
+
+-- A line that holds a problem: its number, the bytes of the problem, and whether the line is too long.
+pub record NumberedLine : Type 0 where
+  pub number : ℕ
+  pub content : List ℕ
+  pub is_too_long : Bool
+
+-- A line without its note, which begins with the first tab.
+abbrev pub without_note : List ℕ → List ℕ
+without_note line = before_first (λ byte. byte == 9) line
+
+-- Whether a line without its note is skipped: it is empty or holds spaces alone, or it begins with `#`.
+abbrev pub is_skipped : List ℕ → Bool
+is_skipped content = list_all (λ byte. byte == 32) content || starts_with nat_eq content (35 ∷ [])
+
+-- Whether a line, which stands behind its number, holds a problem.
+abbrev pub holds_problem : ℕ × List ℕ → Bool
+holds_problem line = not (is_skipped (without_note line.1))
+
+-- A line that holds a problem, with its number. It is too long where it has more than 65,536 bytes, its note among them.
+abbrev pub numbered_line : ℕ × List ℕ → NumberedLine
+numbered_line line = record {
+  number = line.0;
+  content = without_note line.1;
+  is_too_long = nat_lt 65536 (length line.1);
+}
+
+-- Those of some lines that hold a problem, where the lines are numbered from here on.
+unfoldable pub problems_among : ℕ → List (List ℕ) → List NumberedLine
+problems_among first all = map numbered_line (filter holds_problem (enumerate_from first all))
+
+-- The lines of a text that hold a problem. A line feed ends a line, and a carriage return before it doesn't count; the last line
+-- may end with the text. Lines count from 1.
+abbrev pub problem_lines : List ℕ → List NumberedLine
+problem_lines text = problems_among 1 (lines text)
+
+-- A line as it is given to the caller.
+abbrev pub seen : Line → NumberedLine
+seen line = record { number = line.number; content = line.content.now; is_too_long = line.is_too_long }

@@ -1,0 +1,15 @@
+// A line that holds a problem.
+
+/// The most bytes that a line with a problem may have, its note among them, and its end not.
+pub const MOST_BYTES: usize = 65_536;
+
+/// A line of a collection that holds a problem.
+#[derive(Clone, Copy, Debug)]
+pub struct Line<'a> {
+    /// Its number in the text, from 1; skipped lines count, too.
+    pub number: u64,
+    /// The bytes of the problem: the line without its end and without its note.
+    pub content: &'a [u8],
+    /// Whether the line has more than [`MOST_BYTES`] bytes.
+    pub is_too_long: bool,
+}
