@@ -86,7 +86,7 @@ impl Row {
         ensures some { IfSome result (λ slot. HoldsAt self.now slot key.now) }
         ensures none { IfNone result (Lacks self.now key.now) }
     {
-        slot_of(self.marks.as_slice(), self.entries.as_slice(), mark, key)
+        slot_of(self.marks.as_slice(), &self.entries, mark, key)
     }
 
     // What a look for the key shows. Errors: want of memory alone.
@@ -100,7 +100,7 @@ impl Row {
         requires { mark ≡ mark_of key.now }
         ensures { IfOk result (λ seen. Looks self.now pins.now key.now path.now seen) }
     {
-        let Some(slot) = slot_of(self.marks.as_slice(), self.entries.as_slice(), mark, key) else {
+        let Some(slot) = slot_of(self.marks.as_slice(), &self.entries, mark, key) else {
             return Ok(Seen::New);
         };
         self.entries.as_slice()[slot].show(path, pins[slot])
@@ -163,25 +163,25 @@ impl Row {
     }
 }
 
-// Whether an entry with its mark is the key's. Where the marks differ, the entry isn't read.
-fn is_there(known: u32, entry: &Entry, mark: u32, key: &Key) -> bool
-    requires known { known ≡ mark_of entry.now.key }
+// Whether the entry in a slot, which has this mark, is the key's. Where the marks differ, nothing of the entries is read.
+fn is_there(known: u32, entries: &ArrayVec<Entry, SLOTS>, slot: usize, mark: u32, key: &Key) -> bool
+    requires known { IsSomeAnd (slice_get entries.now.items slot) (λ entry. known ≡ mark_of entry.key) }
     requires mark { mark ≡ mark_of key.now }
-    ensures { IsTrue result ↔ (entry.now.key ≡ key.now) }
+    ensures { IsTrue result ↔ HoldsAt entries.now.items slot key.now }
 {
-    known == mark && entry.is_of(key)
+    known == mark && entries.as_slice()[slot].is_of(key)
 }
 
 // The slot with the key's entry, by the marks of the entries.
-fn slot_of(marks: &[u32], entries: &[Entry], mark: u32, key: &Key) -> Option<usize>
-    requires marks { marks.now ≡ marks_of entries.now }
+fn slot_of(marks: &[u32], entries: &ArrayVec<Entry, SLOTS>, mark: u32, key: &Key) -> Option<usize>
+    requires marks { marks.now ≡ marks_of entries.now.items }
     requires mark { mark ≡ mark_of key.now }
-    ensures there { IfSome result (λ slot. slot < length entries.now) }
-    ensures some { IfSome result (λ slot. HoldsAt entries.now slot key.now) }
-    ensures none { IfNone result (Lacks entries.now key.now) }
+    ensures there { IfSome result (λ slot. slot < length entries.now.items) }
+    ensures some { IfSome result (λ slot. HoldsAt entries.now.items slot key.now) }
+    ensures none { IfNone result (Lacks entries.now.items key.now) }
 {
     for (slot, known) in marks.iter().enumerate() {
-        if is_there(*known, &entries[slot], mark, key) {
+        if is_there(*known, entries, slot, mark, key) {
             return Some(slot);
         }
     }
