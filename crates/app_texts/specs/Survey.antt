@@ -2,9 +2,9 @@
 use Rattle.std.specs.Prelude.{Bool, true, false, ℕ, List, ◌∷◌, ◌++◌, codes, count_by, length}
 use Rattle.std.specs.Fmt.{decimal}
 use Rattle.cert_text.specs.Entries.{line}
-use Rattle.app_texts.specs.declared.survey.Tally.{Tally}
-use Rattle.app_texts.specs.declared.survey.Tally.TheVariants.{Mate, NoMate, Unknown}
-use Rattle.app_texts.specs.declared.survey.Summary.{Summary}
+use Rattle.survey.specs.declared.tally.Tally.{Tally}
+use Rattle.survey.specs.declared.tally.Tally.TheVariants.{Mate, NoMate, Unknown}
+use Rattle.app_texts.specs.declared.tallies.Summary.{Summary}
 
 -- The problem is a mate.
 abbrev pub is_mate : Tally → Bool

@@ -11,7 +11,7 @@ mod counts;
 mod fault;
 mod report;
 mod report_text;
-mod survey;
+mod tallies;
 #[cfg(test)]
 mod tests;
 mod text;
@@ -21,5 +21,5 @@ pub use counts::Counts;
 pub use fault::{Fault, ProblemFault};
 pub use report::{LineFault, Report};
 pub use report_text::append_report;
-pub use survey::{Summary, Tallies, Tally};
+pub use tallies::{Summary, Tallies};
 pub use text::answer_text;

@@ -5,13 +5,14 @@ ghost use Rattle.app_texts.specs.Reports.{HasReportLine};
 
 use crate::{
     Answer, Counts, Judgement, LineFault, MainLine, ProblemFault, Report, Solution, Summary,
-    Tallies, Tally, answer_text, append_report,
+    Tallies, answer_text, append_report,
 };
 use cert_text::{Certificate, Claim, read_cert};
 use search_pool::Crew;
 use sfen_text::TextFault;
 use std::alloc::{AllocError, Global};
 use std::test::Fail;
+use survey::Tally;
 use unit_desk::Cause;
 use usi_text::read_move;
 

@@ -10,7 +10,7 @@ ghost use Rattle.app_texts.specs.Texts.{HasLine, HasTexts};
 ghost use Rattle.app_texts.specs.Counts.{counts_text};
 ghost use Rattle.app_texts.specs.Survey.{summary_text};
 
-use crate::survey::{mates, no_mates, unknowns};
+use crate::tallies::{mates, no_mates, unknowns};
 use crate::{Answer, Counts, Judgement, Solution, Summary};
 use board_core::Move;
 use cert_check::Why;

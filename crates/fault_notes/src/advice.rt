@@ -186,7 +186,7 @@ pub(crate) fn advice_on_certificate(fault: CertFault) -> &'static str {
 
 /// What is said of an input with too many bytes.
 pub(crate) const ON_LENGTH: &str =
-    "A problem has at most 65,536 bytes, and a certificate 268,435,456. Is this the\nright input?\n";
+    "A problem has at most 65,536 bytes, a collection 16,777,216, and a certificate\n268,435,456. Is this the right input?\n";
 
 /// What is said where the answer couldn't be written.
 pub(crate) const ON_WRITE: &str =

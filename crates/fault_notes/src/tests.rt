@@ -267,7 +267,7 @@ fn each_fault_is_explained(rt: HostRuntime) {
         ),
         (
             Trouble::TooLong,
-            "A problem has at most 65,536 bytes, and a certificate 268,435,456. Is this the\nright input?\n",
+            "A problem has at most 65,536 bytes, a collection 16,777,216, and a certificate\n268,435,456. Is this the right input?\n",
         ),
         (
             Trouble::Write,

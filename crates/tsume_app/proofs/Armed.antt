@@ -3,16 +3,17 @@ use Rattle.std.proofs.Common.{◌≡◌, ◌<◌, inl, inr, ℕ, List, [], ◌�
 use Rattle.std.specs.Prelude.{IfOk, MatchResult}
 use Rattle.clap.specs.Words.{Text as Word}
 use Rattle.search_gate.specs.Stop.{Signal, armed_with}
+use Rattle.tsume_words.specs.Given.{SettingsView, SurveyView, CollectionView}
 use Rattle.tsume_words.specs.Given.Wish.{to_check}
 use Rattle.app_texts.specs.declared.answer.Answer.{Answer}
-use Rattle.app_texts.specs.declared.answer.Answer.TheVariants.{Solved, Judged, Help}
+use Rattle.app_texts.specs.declared.answer.Answer.TheVariants.{Solved, Judged, Surveyed, Collected, Help}
 use Rattle.tsume_app.specs.declared.ended.Ended.{Ended}
 use Rattle.tsume_app.specs.declared.ended.Ended.TheVariants.{Answered, CutShort, Failed}
 use Rattle.app_texts.specs.declared.fault.Fault.{Fault}
 use Rattle.app_texts.specs.declared.fault.Fault.TheVariants.{NotUtf8, Words, Asked, TooLong, Problem, Cert, Read, NoMemory}
 use Rattle.tsume_app.specs.Inside.{HasWritten}
 use Rattle.tsume_app.specs.Outside.{Shown}
-use Rattle.tsume_app.specs.Run.{IsTrueOfInput}
+use Rattle.tsume_app.specs.Run.{IsTrueOfInput, IsSurveyEnded, IsCollectionEnded}
 use Rattle.tsume_app.specs.Stops.{Signals, AreUsed, AreUnused, AreUsedBefore, AreUsedFor, AreUsedTill, first_of, signals}
 
 -- What holds of a stop after it is armed, and after a search, holds of the first, where arming it doesn't matter.
@@ -63,6 +64,8 @@ pub unused_where_judged : (result : Result Answer Fault) (workers : ℕ) (proble
     → MatchResult result (AreUsedFor deadline stops) (AreUsedBefore deadline stops)
 unused_where_judged (Ok (Solved solution)) workers problem deadline stops input true_of unused = absurd true_of
 unused_where_judged (Ok (Judged judgement)) workers problem deadline stops input true_of unused = unused
+unused_where_judged (Ok (Surveyed summary)) workers problem deadline stops input true_of unused = absurd true_of
+unused_where_judged (Ok (Collected counts)) workers problem deadline stops input true_of unused = absurd true_of
 unused_where_judged (Ok (Help text)) workers problem deadline stops input true_of unused = absurd true_of
 unused_where_judged (Err fault) workers problem deadline stops input true_of unused = unused_before deadline stops fault unused
 
@@ -77,4 +80,35 @@ used_till deadline stops sink answer (Failed fault input) w used =
     wanted : (answer : Answer) → AreUsedFor deadline stops answer → AreUsedBefore deadline stops NoMemory
     wanted (Solved solution) used = inl used
     wanted (Judged judgement) unused = inr unused
+    wanted (Surveyed summary) unused = inr unused
+    wanted (Collected counts) unused = inr unused
     wanted (Help text) unused = inr unused
+
+-- A survey, and a collection, use no stop.
+pub unused_survey : (deadline : Option ℕ) (stops : Signals) (range : SurveyView) (source sink : Shown) (ended : Ended) → IsSurveyEnded range source sink ended → AreUnused stops
+    → AreUsedTill deadline stops ended
+unused_survey deadline stops range source sink (Answered (Solved x)) is unused = absurd is
+unused_survey deadline stops range source sink (Answered (Judged x)) is unused = absurd is
+unused_survey deadline stops range source sink (Answered (Surveyed x)) is unused = unused
+unused_survey deadline stops range source sink (Answered (Collected x)) is unused = absurd is
+unused_survey deadline stops range source sink (Answered (Help x)) is unused = absurd is
+unused_survey deadline stops range source sink (CutShort (Solved x)) is unused = absurd is
+unused_survey deadline stops range source sink (CutShort (Judged x)) is unused = absurd is
+unused_survey deadline stops range source sink (CutShort (Surveyed x)) is unused = unused
+unused_survey deadline stops range source sink (CutShort (Collected x)) is unused = absurd is
+unused_survey deadline stops range source sink (CutShort (Help x)) is unused = absurd is
+unused_survey deadline stops range source sink (Failed fault input) is unused = unused_before deadline stops fault unused
+
+pub unused_collection : (deadline : Option ℕ) (stops : Signals) (settings : SettingsView) (form : CollectionView) (source sink : Shown) (ended : Ended) → IsCollectionEnded settings form source sink ended → AreUnused stops
+    → AreUsedTill deadline stops ended
+unused_collection deadline stops settings form source sink (Answered (Solved x)) is unused = absurd is
+unused_collection deadline stops settings form source sink (Answered (Judged x)) is unused = absurd is
+unused_collection deadline stops settings form source sink (Answered (Surveyed x)) is unused = absurd is
+unused_collection deadline stops settings form source sink (Answered (Collected x)) is unused = unused
+unused_collection deadline stops settings form source sink (Answered (Help x)) is unused = absurd is
+unused_collection deadline stops settings form source sink (CutShort (Solved x)) is unused = absurd is
+unused_collection deadline stops settings form source sink (CutShort (Judged x)) is unused = absurd is
+unused_collection deadline stops settings form source sink (CutShort (Surveyed x)) is unused = absurd is
+unused_collection deadline stops settings form source sink (CutShort (Collected x)) is unused = unused
+unused_collection deadline stops settings form source sink (CutShort (Help x)) is unused = absurd is
+unused_collection deadline stops settings form source sink (Failed fault input) is unused = unused_before deadline stops fault unused

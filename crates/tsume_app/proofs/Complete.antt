@@ -14,8 +14,8 @@ use Rattle.clap.specs.Words.{Text as Word}
 use Rattle.cert_text.specs.declared.certificate.Certificate.{Certificate}
 use Rattle.cert_text.specs.Kinds.{problem_of}
 use Rattle.cert_text.specs.Reading.{IsTextOf}
-use Rattle.tsume_words.specs.Given.{Wish}
-use Rattle.tsume_words.specs.Given.Wish.{to_solve, to_check}
+use Rattle.tsume_words.specs.Given.{Wish, SettingsView, SurveyView, CollectionView}
+use Rattle.tsume_words.specs.Given.Wish.{to_solve, to_check, to_survey, to_collect}
 use Rattle.sfen_text.specs.declared.fault.TextFault.{TextFault}
 use Rattle.kif_text.specs.declared.fault.KifFault.{KifFault}
 use Rattle.tsume_app.specs.declared.ended.Ended.{Ended}
@@ -25,11 +25,12 @@ use Rattle.app_texts.specs.declared.fault.ProblemFault.TheVariants as problems
 use Rattle.app_texts.specs.declared.fault.Fault.TheVariants.{NotUtf8, Words, Asked, TooLong, Problem, Cert, Read, NoMemory}
 use Rattle.std.specs.Prelude.{MatchResult}
 use Rattle.shogi_rules.specs.declared.problem.Problem.{Problem as GivenProblem}
-use Rattle.tsume_app.specs.Inside.{IsAskedProblem, OneOutcome}
-use Rattle.tsume_app.specs.Input.{IsPositionRead, StandsFor, given_form, searched_board, IsAskedFault, IsJudgedFor}
+use Rattle.app_texts.specs.declared.answer.Answer.TheVariants.{Solved, Judged, Surveyed, Collected, Help}
+use Rattle.tsume_app.specs.Inside.{IsAskedProblem, OneOutcome, ReadsOne}
+use Rattle.tsume_app.specs.Input.{limit_of, IsPositionRead, StandsFor, given_form, searched_board, IsAskedFault, IsJudgedFor}
 use Rattle.tsume_app.specs.Stops.{Signals}
 use Rattle.tsume_app.specs.Outside.{Shown}
-use Rattle.tsume_app.specs.Run.{IsEnded, IsWellPosed, IsAnswered, WantsMemory}
+use Rattle.tsume_app.specs.Run.{IsEnded, IsReadEnded, IsSurveyEnded, IsCollectionEnded, IsShortEnough, IsWellPosed, IsAnswered, WantsMemory}
 
 -- the laws of the two formats are one
 pub one_of_each : OneReadingOutcome → OneDiagramOutcome → OneOutcome
@@ -105,6 +106,8 @@ stopped_is one (to_check workers None) r found fault s = absurd s
 stopped_is one (to_check workers (Some text)) (Ok None) found fault s = absurd found
 stopped_is one (to_check workers (Some text)) (Ok (Some p)) found fault s = absurd (problem_has_no_fault one given_form text p.position fault found s)
 stopped_is one (to_check workers (Some text)) (Err f) found fault s = ap Err (one_problem_fault one given_form text f fault found s)
+stopped_is one (to_survey range) r found fault s = absurd s
+stopped_is one (to_collect settings form) r found fault s = absurd s
 
 -- what was taken is what was left
 pub took_it : (left left_after : Option (List ℕ)) (input told : List ℕ) → left ≡ Some told → TookAll left left_after input → input ≡ told
@@ -112,28 +115,82 @@ took_it None left_after input told is took = absurd (cc)
 took_it (Some before) None input told is took = absurd took
 took_it (Some before) (Some after) input told is took = let same : before ≡ told = cc in took.0 ∙ same
 
-pub complete_of : OneOutcome → (wish : Wish) (stops : Signals) (source sink : Shown) (ended : Ended) → IsEnded wish stops source sink ended → IsWellPosed wish source.told
+complete_read : OneOutcome → (wish : Wish) (stops : Signals) (source sink : Shown) (ended : Ended) → ReadsOne wish → IsReadEnded wish stops source sink ended → IsWellPosed wish source.told
     → ¬ Rose source.faults source.faults_after → ¬ Rose sink.faults sink.faults_after → IsAnswered ended ⊎ WantsMemory ended
-complete_of one wish stops source sink (Answered a) ended posed sound kept = inl (a, refl)
-complete_of one wish stops source sink (CutShort a) ended posed sound kept = absurd (kept ended.rose)
-complete_of one wish stops source sink (Failed NotUtf8 i) ended posed sound kept = absurd ended.0
-complete_of one wish stops source sink (Failed (Words w) i) ended posed sound kept = absurd ended.0
-complete_of one (to_solve settings form watch) stops source sink (Failed (Asked f) i) ended posed sound kept = absurd ended.0.0
-complete_of one (to_check workers None) stops source sink (Failed (Asked f) i) ended posed sound kept = absurd ended.0.0
-complete_of one (to_check workers (Some text)) stops source sink (Failed (Asked f) i) ended posed sound kept =
+complete_read one wish stops source sink (Answered a) reads ended posed sound kept = inl (a, refl)
+complete_read one wish stops source sink (CutShort a) reads ended posed sound kept = absurd (kept ended.rose)
+complete_read one wish stops source sink (Failed NotUtf8 i) reads ended posed sound kept = absurd ended.0
+complete_read one wish stops source sink (Failed (Words w) i) reads ended posed sound kept = absurd ended.0
+complete_read one (to_solve settings form watch) stops source sink (Failed (Asked f) i) reads ended posed sound kept = absurd ended.0.0
+complete_read one (to_check workers None) stops source sink (Failed (Asked f) i) reads ended posed sound kept = absurd ended.0.0
+complete_read one (to_check workers (Some text)) stops source sink (Failed (Asked f) i) reads ended posed sound kept =
     absurd (problem_has_no_fault one given_form text posed.1.0 f posed.1.1 ended.0.0)
-complete_of one wish stops source sink (Failed NoMemory i) ended posed sound kept = inr (i, refl)
-complete_of one wish stops source sink (Failed Read i) ended posed sound kept = absurd (sound ended.0.0)
-complete_of one (to_solve settings form watch) stops source sink (Failed TooLong i) ended posed sound kept =
+complete_read one wish stops source sink (Failed NoMemory i) reads ended posed sound kept = inr (i, refl)
+complete_read one wish stops source sink (Failed Read i) reads ended posed sound kept = absurd (sound ended.0.0)
+complete_read one (to_solve settings form watch) stops source sink (Failed TooLong i) reads ended posed sound kept =
     let more = rw posed.told at ended.0.0 in let short = posed.short in absurd (omega arith)
-complete_of one (to_check workers problem) stops source sink (Failed TooLong i) ended posed sound kept =
+complete_read one (to_check workers problem) stops source sink (Failed TooLong i) reads ended posed sound kept =
     let more = rw posed.0.told at ended.0.0 in let short = posed.0.short in absurd (omega arith)
-complete_of one (to_solve settings form watch) stops source sink (Failed (Problem f) i) ended posed sound kept =
+complete_read one (to_solve settings form watch) stops source sink (Failed (Problem f) i) reads ended posed sound kept =
     let same = took_it source.told source.told_after i posed.input posed.told ended.0.0.took in
     absurd (problem_has_no_fault one form posed.input posed.problem f posed.stands_for (subst (λ (x : List ℕ). StandsFor form x (Err f)) same ended.0.1))
-complete_of one (to_check workers problem) stops source sink (Failed (Problem f) i) ended posed sound kept = absurd (ended.0.1)
-complete_of one (to_solve settings form watch) stops source sink (Failed (Cert f) i) ended posed sound kept = absurd (ended.0.1)
-complete_of one (to_check workers problem) stops source sink (Failed (Cert f) i) ended posed sound kept =
+complete_read one (to_check workers problem) stops source sink (Failed (Problem f) i) reads ended posed sound kept = absurd (ended.0.1)
+complete_read one (to_solve settings form watch) stops source sink (Failed (Cert f) i) reads ended posed sound kept = absurd (ended.0.1)
+complete_read one (to_check workers problem) stops source sink (Failed (Cert f) i) reads ended posed sound kept =
     let given = posed.0 in
     let same = took_it source.told source.told_after i given.input given.told ended.0.0.took in
     absurd (ended.0.1.1 given.certificate given.readable (subst (λ (x : List ℕ). IsTextOf given.certificate x) (sym same) given.text))
+complete_read one (to_survey range) stops source sink (Failed TooLong i) reads ended posed sound kept = absurd reads
+complete_read one (to_collect settings form) stops source sink (Failed TooLong i) reads ended posed sound kept = absurd reads
+complete_read one (to_survey range) stops source sink (Failed (Problem f) i) reads ended posed sound kept = absurd reads
+complete_read one (to_collect settings form) stops source sink (Failed (Problem f) i) reads ended posed sound kept = absurd reads
+complete_read one (to_survey range) stops source sink (Failed (Cert f) i) reads ended posed sound kept = absurd reads
+complete_read one (to_collect settings form) stops source sink (Failed (Cert f) i) reads ended posed sound kept = absurd reads
+complete_read one (to_survey range) stops source sink (Failed (Asked f) i) reads ended posed sound kept = absurd reads
+complete_read one (to_collect settings form) stops source sink (Failed (Asked f) i) reads ended posed sound kept = absurd reads
+
+complete_survey : (range : SurveyView) (source sink : Shown) (ended : Ended) → IsSurveyEnded range source sink ended → ¬ Rose sink.faults sink.faults_after
+    → IsAnswered ended ⊎ WantsMemory ended
+complete_survey range source sink (Answered a) ended kept = inl (a, refl)
+complete_survey range source sink (CutShort (Solved solution)) ended kept = absurd ended
+complete_survey range source sink (CutShort (Judged judgement)) ended kept = absurd ended
+complete_survey range source sink (CutShort (Surveyed summary)) ended kept = absurd (kept ended.3)
+complete_survey range source sink (CutShort (Collected counts)) ended kept = absurd ended
+complete_survey range source sink (CutShort (Help text)) ended kept = absurd ended
+complete_survey range source sink (Failed NotUtf8 i) ended kept = absurd ended
+complete_survey range source sink (Failed (Words w) i) ended kept = absurd ended
+complete_survey range source sink (Failed (Asked f) i) ended kept = absurd ended
+complete_survey range source sink (Failed TooLong i) ended kept = absurd ended
+complete_survey range source sink (Failed (Problem f) i) ended kept = absurd ended
+complete_survey range source sink (Failed (Cert f) i) ended kept = absurd ended
+complete_survey range source sink (Failed Read i) ended kept = absurd ended
+complete_survey range source sink (Failed NoMemory i) ended kept = inr (i, refl)
+
+complete_collection : (settings : SettingsView) (form : CollectionView) (source sink : Shown) (ended : Ended) → IsCollectionEnded settings form source sink ended
+    → IsShortEnough (limit_of (to_collect settings form)) source.told → ¬ Rose source.faults source.faults_after → ¬ Rose sink.faults sink.faults_after
+    → IsAnswered ended ⊎ WantsMemory ended
+complete_collection settings form source sink (Answered a) ended posed sound kept = inl (a, refl)
+complete_collection settings form source sink (CutShort (Solved solution)) ended posed sound kept = absurd ended
+complete_collection settings form source sink (CutShort (Judged judgement)) ended posed sound kept = absurd ended
+complete_collection settings form source sink (CutShort (Surveyed summary)) ended posed sound kept = absurd ended
+complete_collection settings form source sink (CutShort (Collected counts)) ended posed sound kept = absurd (kept ended.rose)
+complete_collection settings form source sink (CutShort (Help text)) ended posed sound kept = absurd ended
+complete_collection settings form source sink (Failed NotUtf8 i) ended posed sound kept = absurd ended
+complete_collection settings form source sink (Failed (Words w) i) ended posed sound kept = absurd ended
+complete_collection settings form source sink (Failed (Asked f) i) ended posed sound kept = absurd ended
+complete_collection settings form source sink (Failed TooLong i) ended posed sound kept =
+    let more = rw posed.told at ended.0.0 in let short = posed.short in absurd (omega arith)
+complete_collection settings form source sink (Failed (Problem f) i) ended posed sound kept = absurd ended
+complete_collection settings form source sink (Failed (Cert f) i) ended posed sound kept = absurd ended
+complete_collection settings form source sink (Failed Read i) ended posed sound kept = absurd (sound ended.0.0)
+complete_collection settings form source sink (Failed NoMemory i) ended posed sound kept = inr (i, refl)
+
+pub complete_of : OneOutcome → (wish : Wish) (stops : Signals) (source sink : Shown) (ended : Ended) → IsEnded wish stops source sink ended → IsWellPosed wish source.told
+    → ¬ Rose source.faults source.faults_after → ¬ Rose sink.faults sink.faults_after → IsAnswered ended ⊎ WantsMemory ended
+complete_of one (to_solve settings form watch) stops source sink ended is posed sound kept =
+    complete_read one (to_solve settings form watch) stops source sink ended tt is posed sound kept
+complete_of one (to_check workers problem) stops source sink ended is posed sound kept =
+    complete_read one (to_check workers problem) stops source sink ended tt is posed sound kept
+complete_of one (to_survey range) stops source sink ended is posed sound kept = complete_survey range source sink ended is kept
+complete_of one (to_collect settings form) stops source sink ended is posed sound kept =
+    complete_collection settings form source sink ended is posed sound kept

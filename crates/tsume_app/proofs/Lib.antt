@@ -3,3 +3,4 @@ pub mod Complete
 pub mod Promises
 pub mod Armed
 pub mod Verdict
+pub mod SoFar

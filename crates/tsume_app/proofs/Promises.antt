@@ -13,13 +13,13 @@ use Rattle.cert_text.specs.Kinds.{claim_of, positions_in}
 use Rattle.cert_check.specs.Valid.{IsValid, ValidMate, ValidEscape}
 use Rattle.tsume_words.specs.declared.form.ProblemForm.{ProblemForm}
 use Rattle.tsume_words.specs.Given.{SettingsView, WatchView, Wish}
-use Rattle.tsume_words.specs.Given.Wish.{to_solve, to_check}
+use Rattle.tsume_words.specs.Given.Wish.{to_solve, to_check, to_survey, to_collect}
 use Rattle.tsume_words.specs.Meaning.{command_of}
 use Rattle.unit_desk.specs.declared.cause.Cause.{Cause}
 use Rattle.visit_log.specs.Run.{Standing}
 use Rattle.app_texts.specs.declared.answer.Solution.TheVariants.{Mate, NoMate, Unknown}
 use Rattle.app_texts.specs.declared.answer.Judgement.TheVariants.{Accepted, Refused}
-use Rattle.app_texts.specs.declared.answer.Answer.TheVariants.{Solved, Judged, Help}
+use Rattle.app_texts.specs.declared.answer.Answer.TheVariants.{Solved, Judged, Surveyed, Collected, Help}
 use Rattle.tsume_app.specs.declared.ended.Ended.{Ended}
 use Rattle.tsume_app.specs.declared.ended.Ended.TheVariants.{Answered, CutShort, Failed}
 use Rattle.app_texts.specs.declared.fault.Fault.TheVariants.{NotUtf8, Words, Asked, TooLong, Problem, Cert, Read, NoMemory}
@@ -74,6 +74,8 @@ own_mate_of words stops source sink ended c moves does refuses is = go (command_
   go None e = absurd (subst (IsEndedUnasked words source sink) is (refuses e))
   go (Some (to_check workers problem)) e =
       let d = subst (IsEnded (to_check workers problem) stops source sink) is (does (to_check workers problem) e) in absurd d.decided.true_of
+  go (Some (to_survey range)) e = absurd (subst (IsEnded (to_survey range) stops source sink) is (does (to_survey range) e))
+  go (Some (to_collect settings form)) e = absurd (subst (IsEnded (to_collect settings form) stops source sink) is (does (to_collect settings form) e))
   go (Some (to_solve settings form watch)) e =
       let d = subst (IsEnded (to_solve settings form watch) stops source sink) is (does (to_solve settings form watch) e) in
       let shown = d.decided.true_of.true_of.verdict.shown.1 in
@@ -93,6 +95,8 @@ own_no_mate_of words stops source sink ended c does refuses is = go (command_of 
   go None e = absurd (subst (IsEndedUnasked words source sink) is (refuses e))
   go (Some (to_check workers problem)) e =
       let d = subst (IsEnded (to_check workers problem) stops source sink) is (does (to_check workers problem) e) in absurd d.decided.true_of
+  go (Some (to_survey range)) e = absurd (subst (IsEnded (to_survey range) stops source sink) is (does (to_survey range) e))
+  go (Some (to_collect settings form)) e = absurd (subst (IsEnded (to_collect settings form) stops source sink) is (does (to_collect settings form) e))
   go (Some (to_solve settings form watch)) e =
       let d = subst (IsEnded (to_solve settings form watch) stops source sink) is (does (to_solve settings form watch) e) in
       let shown = d.decided.true_of.true_of.verdict.shown.1 in
@@ -135,6 +139,8 @@ valid_is_accepted one workers problem stops source sink input claim entries (Ans
     let same = d.true_of.only valid.certificate valid.readable text in
     let one_board = one_judged_for one problem valid.certificate d.true_of.certificate valid.board d.true_of.board same valid.judged_for d.true_of.judged_for in
     absurd (d.true_of.true_of.invalid (subst (λ (c : Certificate). IsValid c d.true_of.board) same (subst (λ (p : Board). IsValid valid.certificate p) one_board valid.valid)))
+valid_is_accepted one workers problem stops source sink input claim entries (Answered (Surveyed a)) ended told whole valid = absurd (ended.decided.true_of)
+valid_is_accepted one workers problem stops source sink input claim entries (Answered (Collected a)) ended told whole valid = absurd (ended.decided.true_of)
 valid_is_accepted one workers problem stops source sink input claim entries (Answered (Help t)) ended told whole valid = absurd (ended.decided.true_of)
 valid_is_accepted one workers problem stops source sink input claim entries (CutShort a) ended told whole valid = absurd (whole tt)
 valid_is_accepted one workers problem stops source sink input claim entries (Failed NotUtf8 i) ended told whole valid = absurd ended.0

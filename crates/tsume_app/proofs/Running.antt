@@ -5,18 +5,19 @@ use Rattle.board_core.specs.Board.{Board, HasDefender}
 use Rattle.tsume_io.specs.Source.{Took, TookAll, TookAtMost}
 use Rattle.clap.specs.Words.{Text as Word}
 use Rattle.tsume_io.specs.Faults.{Rose}
-use Rattle.tsume_words.specs.Given.{Wish, MayAskForHelp}
+use Rattle.tsume_words.specs.Given.{Wish, SettingsView, CollectionView, MayAskForHelp}
 use Rattle.app_texts.specs.declared.answer.Answer.{Answer}
-use Rattle.app_texts.specs.declared.answer.Answer.TheVariants.{Solved, Judged, Help}
+use Rattle.app_texts.specs.declared.answer.Answer.TheVariants.{Solved, Judged, Surveyed, Collected, Help}
 use Rattle.tsume_app.specs.declared.ended.Ended.{Ended}
 use Rattle.tsume_app.specs.declared.ended.Ended.TheVariants.{Answered, CutShort, Failed}
 use Rattle.app_texts.specs.declared.fault.Fault.{Fault}
-use Rattle.app_texts.specs.declared.fault.Fault.TheVariants.{NoMemory}
+use Rattle.app_texts.specs.declared.fault.Fault.TheVariants.{NotUtf8, Words, Asked, TooLong, Problem, Cert, Read, NoMemory}
 use Rattle.tsume_app.specs.Input.{searched_board}
-use Rattle.tsume_app.specs.Inside.{HasWritten}
+use Rattle.tsume_words.specs.Given.Wish.{to_solve, to_check, to_survey, to_collect}
+use Rattle.tsume_app.specs.Inside.{HasWritten, IsReadFault, ReadsOne}
 use Rattle.tsume_app.specs.Stops.{Signals}
 use Rattle.tsume_app.specs.Outside.{Shown, IsUntouched}
-use Rattle.tsume_app.specs.Run.{IsReadWhole, IsDecided, HasCause, IsEnded, IsEndedUnasked, GivesHelp, WantsMemory}
+use Rattle.tsume_app.specs.Run.{IsReadWhole, IsDecided, HasCause, IsCollectionEnded, IsEnded, IsReadEnded, IsEndedUnasked, GivesHelp, WantsMemory}
 
 -- the side not to move has a king still with the rest in hand
 pub searched_has_king : (rest : Bool) (p : Board) → HasDefender p → HasDefender (searched_board rest p)
@@ -47,7 +48,7 @@ read_then_wanted_more wish source input read =
 
 -- what was decided, and then written, is how the command ended
 pub ended_of : (wish : Wish) (stops : Signals) (source sink : Shown) (answer : Answer) (ended : Ended) → IsDecided wish stops source answer → HasWritten sink answer ended
-    → IsEnded wish stops source sink ended
+    → IsReadEnded wish stops source sink ended
 ended_of wish stops source sink answer (Answered told) d w =
     record { decided = subst (λ (a : Answer). IsDecided wish stops source a) (sym w.0) d; grew = rw w.0 w.1 }
 ended_of wish stops source sink answer (CutShort told) d w =
@@ -62,6 +63,8 @@ ended_of wish stops source sink answer (Failed fault input) d w = (
 abbrev pub IsHelpText : Answer → Type 0
 IsHelpText (Solved solution) = ⊥
 IsHelpText (Judged judgement) = ⊥
+IsHelpText (Surveyed summary) = ⊥
+IsHelpText (Collected counts) = ⊥
 IsHelpText (Help text) = Unit {0}
 
 -- help that was written, or cut short, or wanted memory, is how words ended that may ask for it
@@ -69,6 +72,8 @@ pub unasked_of : (words : List Word) (source sink : Shown) (answer : Answer) (en
     → MayAskForHelp words → IsUntouched source → HasWritten sink answer ended → IsEndedUnasked words source sink ended
 unasked_of words source sink (Solved solution) ended is may unread w = absurd is
 unasked_of words source sink (Judged judgement) ended is may unread w = absurd is
+unasked_of words source sink (Surveyed summary) ended is may unread w = absurd is
+unasked_of words source sink (Collected counts) ended is may unread w = absurd is
 unasked_of words source sink (Help text) (Answered told) is may unread w =
     subst (λ (a : Answer). IsEndedUnasked words source sink (Answered a)) (sym w.0) (may, unread, w.1)
 unasked_of words source sink (Help text) (CutShort told) is may unread w =
@@ -81,6 +86,28 @@ pub help_of : (sink : Shown) (answer : Answer) (ended : Ended) → IsHelpText an
     → HasWritten sink answer ended → ¬ Rose sink.faults sink.faults_after → GivesHelp ended ⊎ WantsMemory ended
 help_of sink (Solved solution) ended is w kept = absurd is
 help_of sink (Judged judgement) ended is w kept = absurd is
+help_of sink (Surveyed summary) ended is w kept = absurd is
+help_of sink (Collected counts) ended is w kept = absurd is
 help_of sink (Help text) (Answered told) is w kept = inl (subst (λ (a : Answer). GivesHelp (Answered a)) (sym w.0) tt)
 help_of sink answer (CutShort told) is w kept = absurd (kept w.2)
 help_of sink answer (Failed fault input) is w kept = inr (input, ap (λ (f : Fault). Failed f input) w.0)
+
+-- a command that reads one text ended as that text was answered
+pub read_is_ended : (wish : Wish) (stops : Signals) (source sink : Shown) (ended : Ended) → ReadsOne wish → IsReadEnded wish stops source sink ended
+    → IsEnded wish stops source sink ended
+read_is_ended (to_solve settings form watch) stops source sink ended one is = is
+read_is_ended (to_check workers problem) stops source sink ended one is = is
+read_is_ended (to_survey range) stops source sink ended one is = absurd one
+read_is_ended (to_collect settings form) stops source sink ended one is = absurd one
+
+-- a collection that couldn't be read ended so
+pub read_failed : (settings : SettingsView) (form : CollectionView) (source sink : Shown) (fault : Fault) (input : List ℕ) → IsReadFault fault
+    → HasCause (to_collect settings form) source fault input → IsUntouched sink → IsCollectionEnded settings form source sink (Failed fault input)
+read_failed settings form source sink NotUtf8 input is cause untouched = absurd is
+read_failed settings form source sink (Words f) input is cause untouched = absurd is
+read_failed settings form source sink (Asked f) input is cause untouched = absurd is
+read_failed settings form source sink TooLong input is cause untouched = (cause, untouched)
+read_failed settings form source sink (Problem f) input is cause untouched = absurd is
+read_failed settings form source sink (Cert f) input is cause untouched = absurd is
+read_failed settings form source sink Read input is cause untouched = (cause, untouched)
+read_failed settings form source sink NoMemory input is cause untouched = (cause, inl untouched)

@@ -9,10 +9,11 @@ use Rattle.cert_extract.specs.Extracted.{claim_by, ComesFrom}
 use Rattle.app_texts.specs.declared.answer.Solution.{Solution}
 use Rattle.app_texts.specs.declared.answer.Solution.TheVariants.{Mate, NoMate, Unknown}
 use Rattle.unit_desk.specs.Sizes.{SettingsView}
-use Rattle.search_pool.specs.End.{IsAloneUntil}
+use Rattle.search_pool.specs.End.{IsAlone, IsAloneUntil}
 use Rattle.search_pool.specs.declared.end.SearchEnd.TheVariants.{Solved}
 use Rattle.tsume_app.specs.Stops.{Signals, first_of}
 use Rattle.tsume_app.specs.Answer.{IsShown, IsVerdictOf, IsTrueOf}
+use Rattle.tsume_app.specs.Reports.{IsFoundAlone}
 
 -- What shows with the certificate of a note what it says is the note's verdict.
 pub verdict_of : {E : Type 0} (result : Result Solution E) (p : Board) (note : Derivation) (certificate : Certificate)
@@ -27,3 +28,11 @@ found_of (Ok (Mate c moves)) p s stops note alone verdict = record { note = note
 found_of (Ok (NoMate c)) p s stops note alone verdict = record { note = note; alone = alone; verdict = verdict }
 found_of (Ok (Unknown cause crew)) p s stops note alone verdict = absurd (verdict.shown)
 found_of (Err error) p s stops note alone verdict = tt
+
+-- The same of a search alone that nothing stops.
+pub found_alone_of : {E : Type 0} (result : Result Solution E) (p : Board) (s : SettingsView) (note : Derivation) → IsAlone p s (Solved note)
+    → IfOk result (IsVerdictOf p note) → IfOk result (IsFoundAlone p s)
+found_alone_of (Ok (Mate c moves)) p s note alone verdict = record { note = note; alone = alone; verdict = verdict }
+found_alone_of (Ok (NoMate c)) p s note alone verdict = record { note = note; alone = alone; verdict = verdict }
+found_alone_of (Ok (Unknown cause crew)) p s note alone verdict = absurd (verdict.shown)
+found_alone_of (Err error) p s note alone verdict = tt

@@ -15,15 +15,17 @@ use Rattle.tsume_words.specs.declared.form.Format.TheVariants.{Sfen, Kif}
 use Rattle.tsume_words.specs.declared.form.ProblemForm.{ProblemForm}
 use Rattle.tsume_words.specs.Given.{Wish, SettingsView}
 use Rattle.unit_desk.specs.Sizes.{SettingsView as SearchSettings}
-use Rattle.tsume_words.specs.Given.Wish.{to_solve, to_check}
+use Rattle.tsume_words.specs.Given.Wish.{to_solve, to_check, to_survey, to_collect}
 use Rattle.app_texts.specs.declared.fault.ProblemFault.{ProblemFault}
 use Rattle.app_texts.specs.declared.fault.ProblemFault.TheVariants.{Text, Diagram, DefenderInCheck}
-use Rattle.tsume_app.specs.declared.input.TheConstants.{MOST_PROBLEM_BYTES, MOST_CERTIFICATE_BYTES}
+use Rattle.tsume_app.specs.declared.input.TheConstants.{MOST_PROBLEM_BYTES, MOST_CERTIFICATE_BYTES, MOST_COLLECTION_BYTES}
 
--- The most bytes that the input of a command may have.
+-- The most bytes that the input of a command may have; a survey reads nothing.
 abbrev pub limit_of : Wish → ℕ
 limit_of (to_solve settings form watch) = MOST_PROBLEM_BYTES
 limit_of (to_check workers problem) = MOST_CERTIFICATE_BYTES
+limit_of (to_survey range) = 0
+limit_of (to_collect settings form) = MOST_COLLECTION_BYTES
 
 -- The settings of a search, as the words give them.
 abbrev pub search_numbers : SettingsView → SearchSettings
@@ -75,6 +77,8 @@ abbrev pub IsAskedFault : Wish → ProblemFault → Type 0
 IsAskedFault (to_solve settings form watch) fault = ⊥
 IsAskedFault (to_check workers None) fault = ⊥
 IsAskedFault (to_check workers (Some text)) fault = StandsFor given_form text (Err fault)
+IsAskedFault (to_survey range) fault = ⊥
+IsAskedFault (to_collect settings form) fault = ⊥
 
 -- The problem for which a certificate is judged: the one whose text the words give, or its own where they give none.
 abbrev pub IsJudgedFor : Option Word → Certificate → Board → Type 0

@@ -1,5 +1,5 @@
 -- What the private functions of this crate say of one another; no public clause cites these.
-use Rattle.std.specs.Prelude.{◌≡◌, ℕ, List, [], Option, Some, None, Result, Ok}
+use Rattle.std.specs.Prelude.{◌≡◌, ◌++◌, ◌∷◌, ℕ, List, [], Option, Some, None, Result, Ok}
 use Rattle.tsume_io.specs.Faults.{Rose}
 use Rattle.tsume_io.specs.Sink.{GrewBy, GrewByPrefix}
 use Rattle.app_texts.specs.declared.answer.Answer.{Answer}
@@ -8,14 +8,20 @@ use Rattle.app_texts.specs.declared.fault.Fault.TheVariants.{NotUtf8, Words, Ask
 use Rattle.tsume_app.specs.declared.ended.Ended.{Ended}
 use Rattle.tsume_app.specs.declared.ended.Ended.TheVariants.{Answered, CutShort, Failed}
 use Rattle.shogi_rules.specs.declared.problem.Problem.{Problem as GivenProblem}
-use Rattle.tsume_words.specs.Given.{Wish}
-use Rattle.tsume_words.specs.Given.Wish.{to_solve, to_check}
+use Rattle.tsume_words.specs.Given.{Wish, SettingsView, CollectionView}
+use Rattle.tsume_words.specs.Given.Wish.{to_solve, to_check, to_survey, to_collect}
 use Rattle.app_texts.specs.Texts.{answer_text}
 use Rattle.board_core.specs.Board.{Board}
 use Rattle.tsume_words.specs.declared.form.Format.{Format}
 use Rattle.app_texts.specs.declared.fault.ProblemFault.{ProblemFault}
 use Rattle.tsume_app.specs.Input.{given_form, IsPositionRead, StandsFor}
 use Rattle.tsume_app.specs.Outside.{Shown, NeverFailed, IsUntouched}
+use Rattle.app_texts.specs.declared.counts.Counts.{Counts}
+use Rattle.app_texts.specs.declared.report.Report.{Report}
+use Rattle.app_texts.specs.Counts.{AreCountsOf}
+use Rattle.app_texts.specs.Reports.{report_text}
+use Rattle.problem_lines.specs.Lines.{NumberedLine}
+use Rattle.tsume_app.specs.Reports.{AreReported, IsTrueReport}
 
 -- A source's count of faults is as it was, unless reading failed.
 abbrev pub IsReadCounted : Shown → Fault → Type 0
@@ -44,8 +50,46 @@ IsAskedProblem (to_check workers None) None = Unit {0}
 IsAskedProblem (to_check workers None) (Some problem) = ⊥
 IsAskedProblem (to_check workers (Some text)) None = ⊥
 IsAskedProblem (to_check workers (Some text)) (Some problem) = StandsFor given_form text (Ok problem.position)
+IsAskedProblem (to_survey range) None = Unit {0}
+IsAskedProblem (to_survey range) (Some problem) = ⊥
+IsAskedProblem (to_collect settings form) None = Unit {0}
+IsAskedProblem (to_collect settings form) (Some problem) = ⊥
+
+-- The command reads one text and answers it.
+abbrev pub ReadsOne : Wish → Type 0
+ReadsOne (to_solve settings form watch) = Unit {0}
+ReadsOne (to_check workers problem) = Unit {0}
+ReadsOne (to_survey range) = ⊥
+ReadsOne (to_collect settings form) = ⊥
 
 -- A law: no text of a format has two outcomes, be they positions or first faults.
 abbrev pub OneOutcome : Type 0
 OneOutcome = (format : Format) (input : List ℕ) (one other : Result Board ProblemFault) → IsPositionRead format input one
     → IsPositionRead format input other → one ≡ other
+
+-- What is told of a line of a collection: the text of a true report, by which the counts grew.
+pub record IsLineTold (settings : SettingsView) (form : CollectionView) (line : NumberedLine) (before after : Counts) (text : List ℕ) : Type 0 where
+  pub report : Report
+  pub true_of : IsTrueReport settings form line report
+  pub is_text : text ≡ report_text form.certificates line.number report
+  pub counted : (reports : List Report) → AreCountsOf reports before → AreCountsOf (reports ++ report ∷ []) after
+
+-- How far a collection has come, of all whose lines these others are left: those before them are decided and told, and nothing else was written.
+pub record AreSoFar (settings : SettingsView) (form : CollectionView) (all others : List NumberedLine) (sink : Shown) (counts : Counts) : Type 0 where
+  pub decided : List NumberedLine
+  pub parts : all ≡ decided ++ others
+  pub text : List ℕ
+  pub reported : AreReported settings form decided text counts
+  pub grew : GrewBy sink.told sink.told_after text
+  pub kept : NeverFailed sink
+
+-- The faults that reading may have.
+abbrev pub IsReadFault : Fault → Type 0
+IsReadFault NotUtf8 = ⊥
+IsReadFault (Words fault) = ⊥
+IsReadFault (Asked fault) = ⊥
+IsReadFault TooLong = Unit {0}
+IsReadFault (Problem fault) = ⊥
+IsReadFault (Cert fault) = ⊥
+IsReadFault Read = Unit {0}
+IsReadFault NoMemory = Unit {0}

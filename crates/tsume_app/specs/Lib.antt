@@ -6,6 +6,7 @@ pub mod Headline
 pub mod Input
 pub mod Inside
 pub mod Outside
+pub mod Reports
 pub mod Run
 pub mod Status
 pub mod Stops

@@ -1,11 +1,12 @@
 -- The exit status of a run, and whether it was answered.
-use Rattle.std.specs.Prelude.{ℕ, Bool, true, false}
+use Rattle.std.specs.Prelude.{ℕ, Bool, true, false, ◌==◌, if◌then◌else◌}
 use Rattle.app_texts.specs.declared.answer.Solution.{Solution}
 use Rattle.app_texts.specs.declared.answer.Solution.TheVariants.{Mate, NoMate, Unknown}
 use Rattle.app_texts.specs.declared.answer.Judgement.{Judgement}
 use Rattle.app_texts.specs.declared.answer.Judgement.TheVariants.{Accepted, Refused}
+use Rattle.app_texts.specs.declared.counts.Counts.{Counts}
 use Rattle.app_texts.specs.declared.answer.Answer.{Answer}
-use Rattle.app_texts.specs.declared.answer.Answer.TheVariants.{Solved, Judged, Help}
+use Rattle.app_texts.specs.declared.answer.Answer.TheVariants.{Solved, Judged, Surveyed, Collected, Help}
 use Rattle.app_texts.specs.declared.fault.Fault.{Fault}
 use Rattle.app_texts.specs.declared.fault.Fault.TheVariants.{NotUtf8, Words, Asked, TooLong, Problem, Cert, Read, NoMemory}
 use Rattle.tsume_app.specs.declared.ended.Ended.{Ended}
@@ -22,10 +23,16 @@ abbrev pub judgement_status : Judgement → ℕ
 judgement_status (Accepted claim entries) = 0
 judgement_status (Refused entry why) = 7
 
--- The status of an answer; 0 for help.
+-- The status for a collection: 3 where a line is no problem; else 1 where a search gave up; else 0.
+abbrev pub counts_status : Counts → ℕ
+counts_status counts = if 0 == counts.faults then (if 0 == counts.unknowns then 0 else 1) else 3
+
+-- The status of an answer; 0 for a survey, and for help.
 abbrev pub answer_status : Answer → ℕ
 answer_status (Solved solution) = solution_status solution
 answer_status (Judged judgement) = judgement_status judgement
+answer_status (Surveyed summary) = 0
+answer_status (Collected counts) = counts_status counts
 answer_status (Help text) = 0
 
 -- The status of a fault: 2 where the words are refused, 3 where the input is, 4 where the source failed, 6 for want of memory.

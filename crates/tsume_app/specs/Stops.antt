@@ -2,9 +2,9 @@
 use Rattle.std.specs.Prelude.{◌≡◌, ◌⊎◌, ℕ, List, [], ◌∷◌, Option, Some, None, drop, map}
 use Rattle.search_gate.specs.Stop.{Signal, armed_with, one_more}
 use Rattle.tsume_words.specs.Given.{Wish}
-use Rattle.tsume_words.specs.Given.Wish.{to_solve, to_check}
+use Rattle.tsume_words.specs.Given.Wish.{to_solve, to_check, to_survey, to_collect}
 use Rattle.app_texts.specs.declared.answer.Answer.{Answer}
-use Rattle.app_texts.specs.declared.answer.Answer.TheVariants.{Solved, Judged, Help}
+use Rattle.app_texts.specs.declared.answer.Answer.TheVariants.{Solved, Judged, Surveyed, Collected, Help}
 use Rattle.app_texts.specs.declared.fault.Fault.{Fault}
 use Rattle.app_texts.specs.declared.fault.Fault.TheVariants.{NotUtf8, Words, Asked, TooLong, Problem, Cert, Read, NoMemory}
 use Rattle.tsume_app.specs.declared.ended.Ended.{Ended}
@@ -29,6 +29,8 @@ abbrev pub deadline_in : Option Wish → Option ℕ
 deadline_in None = None
 deadline_in (Some (to_solve settings form watch)) = watch.deadline
 deadline_in (Some (to_check workers problem)) = None
+deadline_in (Some (to_survey range)) = None
+deadline_in (Some (to_collect settings form)) = None
 
 -- A search with one worker used the stops: each was armed once, for this deadline or for none, and then only the first was polled.
 pub record AreUsed (deadline : Option ℕ) (stops : Signals) : Type 0 where
@@ -44,6 +46,8 @@ AreUnused stops = stops.after ≡ stops.before
 abbrev pub AreUsedFor : Option ℕ → Signals → Answer → Type 0
 AreUsedFor deadline stops (Solved solution) = AreUsed deadline stops
 AreUsedFor deadline stops (Judged judgement) = AreUnused stops
+AreUsedFor deadline stops (Surveyed summary) = AreUnused stops
+AreUsedFor deadline stops (Collected counts) = AreUnused stops
 AreUsedFor deadline stops (Help text) = AreUnused stops
 
 -- The stops where a run failed: unused. (Memory may be wanted before a problem was accepted, or after it.)

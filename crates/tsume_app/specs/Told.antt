@@ -4,7 +4,7 @@ use Rattle.clap.specs.Words.{Text as Word}
 use Rattle.tsume_io.specs.Faults.{Rose}
 use Rattle.tsume_io.specs.Sink.{GrewBy, GrewByPrefix}
 use Rattle.tsume_words.specs.Given.{Wish}
-use Rattle.tsume_words.specs.Given.Wish.{to_solve, to_check}
+use Rattle.tsume_words.specs.Given.Wish.{to_solve, to_check, to_survey, to_collect}
 use Rattle.tsume_words.specs.Meaning.{command_of}
 use Rattle.tsume_app.specs.declared.ended.Ended.{Ended}
 use Rattle.tsume_app.specs.declared.ended.Ended.TheVariants.{Answered, CutShort, Failed}
@@ -20,6 +20,8 @@ use Rattle.tsume_app.specs.Status.{status_of, is_answered}
 abbrev pub limit_told : Wish → Option ℕ
 limit_told (to_solve settings form watch) = if watch.progress then Some settings.expansions else None
 limit_told (to_check workers problem) = None
+limit_told (to_survey range) = None
+limit_told (to_collect settings form) = None
 
 -- A line for the user: `tsume: `, a text, and a line feed.
 abbrev pub told_line : List ℕ → List ℕ

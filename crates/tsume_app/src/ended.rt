@@ -1,9 +1,9 @@
 // How a run ended.
 ghost use Rattle.std.specs.Prelude.{◌≡◌, Some};
-ghost use Rattle.tsume_app.specs.Status.{solution_status, judgement_status, answer_status, fault_status, status_of, is_answered};
+ghost use Rattle.tsume_app.specs.Status.{solution_status, judgement_status, counts_status, answer_status, fault_status, status_of, is_answered};
 
 use crate::input::Input;
-use app_texts::{Answer, Fault, Judgement, Solution};
+use app_texts::{Answer, Counts, Fault, Judgement, Solution};
 use std::fmt::{self, Write};
 
 /// How a run ended. It prints as what the user is told of it beside the answer: nothing where it was answered, `write fault` where
@@ -37,13 +37,23 @@ fn judgement_status(judgement: &Judgement) -> u8
     }
 }
 
+fn counts_status(counts: &Counts) -> u8
+    ensures { result ≡ counts_status counts.now }
+{
+    if counts.faults > 0 {
+        return 3;
+    }
+    if counts.unknowns > 0 { 1 } else { 0 }
+}
+
 fn answer_status(answer: &Answer) -> u8
     ensures { result ≡ answer_status answer.now }
 {
     match answer {
         Answer::Solved(solution) => solution_status(solution),
         Answer::Judged(judgement) => judgement_status(judgement),
-        Answer::Help(_) => 0,
+        Answer::Collected(counts) => counts_status(counts),
+        Answer::Surveyed(_) | Answer::Help(_) => 0,
     }
 }
 
@@ -59,8 +69,8 @@ fn fault_status(fault: &Fault) -> u8
 }
 
 impl Ended {
-    /// The exit status: 0 for a verdict, an accepted certificate or help, 1 where a search gave up, 7 where a certificate is refused; 2
-    /// where the words are refused, 3 where the input is, 4 where the source failed, 5 where the sink failed, 6 for want of memory.
+    /// The exit status: 0 for a verdict, an accepted certificate, a survey or help, 1 where a search gave up, 7 where a certificate is refused; of
+    /// a collection 3 where a line is no problem, else 1 where a search gave up, else 0; 2 where the words are refused, 3 where the input is, 4 where the source failed, 5 where the sink failed, 6 for want of memory.
     pub fn status(&self) -> u8
         ensures { result ≡ status_of self.now }
     {

@@ -8,6 +8,9 @@ pub const MOST_PROBLEM_BYTES: usize = 65_536;
 /// The most bytes that the input of `check` may have.
 pub const MOST_CERTIFICATE_BYTES: usize = 268_435_456;
 
+/// The most bytes that the input of `collection` may have.
+pub const MOST_COLLECTION_BYTES: usize = 16_777_216;
+
 /// The bytes of an input, as far as a run kept them: all of them, or none. Contracts see the list.
 #[derive(Drop)]
 pub struct Input {

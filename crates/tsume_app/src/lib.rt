@@ -4,10 +4,12 @@
 //! certificate that the checker accepts; and every answer that is no verdict comes only for its stated cause.
 #![tactic(auto)]
 
+mod collecting;
 mod ended;
 mod exit;
 mod input;
 mod judgement;
+mod many;
 mod note;
 mod program;
 mod progress;
@@ -17,7 +19,7 @@ mod telling;
 
 pub use ended::Ended;
 pub use exit::Exit;
-pub use input::{Input, MOST_CERTIFICATE_BYTES, MOST_PROBLEM_BYTES};
+pub use input::{Input, MOST_CERTIFICATE_BYTES, MOST_COLLECTION_BYTES, MOST_PROBLEM_BYTES};
 pub use program::{named_file, run, told_limit};
 pub use telling::{Told, run_and_tell, start, tell};
 

@@ -4,28 +4,31 @@ ghost use Rattle.board_core.specs.declared.moves.Move.{Move};
 ghost use Rattle.cert_text.specs.Certificate.{Mating, Escaping};
 ghost use Rattle.tsume_io.specs.Faults.{Rose};
 ghost use Rattle.cert_text.specs.declared.head.Claim.{Claim};
-ghost use Rattle.tsume_words.specs.Given.{Wish, SettingsView, WatchView, AsksForHelp, file_of};
-ghost use Rattle.tsume_words.specs.Given.Wish.{to_solve};
+ghost use Rattle.tsume_words.specs.Given.{Wish, SettingsView, WatchView, SurveyView, CollectionView, AsksForHelp, file_of};
+ghost use Rattle.tsume_words.specs.Given.Wish.{to_solve, to_survey, to_collect};
 ghost use Rattle.tsume_words.specs.Meaning.{FailsFirst, command_of, texts_of, wish_of};
 ghost use Rattle.tsume_words.specs.declared.faults.WordFault.{WordFault};
 ghost use Rattle.tsume_words.specs.declared.form.ProblemForm.{ProblemForm};
 ghost use Rattle.clap.specs.Words.{Text as Word};
+ghost use Rattle.app_texts.specs.declared.counts.Counts.{Counts};
+ghost use Rattle.app_texts.specs.declared.tallies.Summary.{Summary};
 ghost use Rattle.unit_desk.specs.declared.cause.Cause.{Cause};
 ghost use Rattle.visit_log.specs.Run.{Standing};
 ghost use Rattle.app_texts.specs.declared.fault.ProblemFault.{ProblemFault};
 ghost use Rattle.tsume_app.specs.Headline.{AsksToSolve, AsksToCheck, StandsForMate, StandsForNoMate, StandsForUnknown, NamesMate, NamesNoMate, IsValidText, IsAccepted, IsBrokenOff};
 ghost use Rattle.app_texts.specs.Texts.{HasTexts};
-ghost use Rattle.tsume_app.specs.Inside.{HasWritten, IsAskedProblem, IsReadCounted, OneOutcome};
+ghost use Rattle.tsume_app.specs.Inside.{HasWritten, IsAskedProblem, IsReadCounted, IsReadFault, OneOutcome, ReadsOne};
 ghost use Rattle.tsume_app.specs.Input.{limit_of, IsAskedFault};
 ghost use Rattle.tsume_app.specs.Outside.{Shown, shown, NeverFailed};
 ghost use Rattle.tsume_app.specs.Stops.{AreUsedBefore, AreUsedFor, AreUsedTill, deadline_in, signals};
 ghost use Rattle.tsume_words.specs.declared.settings.TheConstants.{MOST_WORKERS};
 ghost use Rattle.tsume_app.specs.Told.{limit_told};
-ghost use Rattle.tsume_app.specs.Run.{IsReadWhole, IsTrueOfInput, HasCause, IsEnded, IsCounted, IsEndedUnasked, GivesHelp, IsWellPosed, IsAnswered, WantsMemory};
+ghost use Rattle.tsume_app.specs.Run.{IsReadWhole, IsTrueOfInput, HasCause, IsEnded, IsReadEnded, IsCollected, IsSurvey, IsCounted, IsEndedUnasked, GivesHelp, IsWellPosed, IsAnswered, WantsMemory};
 
 use crate::ended::Ended;
-use crate::input::{Input, MOST_CERTIFICATE_BYTES, MOST_PROBLEM_BYTES};
+use crate::input::{Input, MOST_CERTIFICATE_BYTES, MOST_COLLECTION_BYTES, MOST_PROBLEM_BYTES};
 use crate::judgement::judge_input;
+use crate::many::{collection_ended, survey_ended};
 use crate::solution::{read_problem, solve_input};
 use app_texts::{Answer, Fault, Judgement, ProblemFault, Solution, answer_text};
 use kif_text::kif_laws;
@@ -33,6 +36,7 @@ use search_gate::{Gate, Stop};
 use sfen_text::sfen_laws;
 use shogi_rules::Problem;
 use std::alloc::{AllocError, Global};
+use std::thread::Threads;
 use tsume_io::{ReadEnd, Sink, Source, read_all, write_all};
 use tsume_words::{Command, Format, ProblemForm, WordsEnd, read_words};
 
@@ -42,6 +46,8 @@ fn limit_of(command: &Command) -> usize
     match command {
         Command::Solve { .. } => MOST_PROBLEM_BYTES,
         Command::Check { .. } => MOST_CERTIFICATE_BYTES,
+        Command::Survey { .. } => 0,
+        Command::Collection { .. } => MOST_COLLECTION_BYTES,
     }
 }
 
@@ -68,7 +74,10 @@ fn problem_in(command: &Command) -> Result<Option<Problem>, ProblemFault>
             };
             Ok(Some(read_problem(text.as_bytes(), form)?))
         }
-        Command::Check { problem: None, .. } | Command::Solve { .. } => Ok(None),
+        Command::Check { problem: None, .. }
+        | Command::Solve { .. }
+        | Command::Survey { .. }
+        | Command::Collection { .. } => Ok(None),
     }
 }
 
@@ -81,12 +90,17 @@ fn asked_problem(command: &Command) -> Result<Option<Problem>, ProblemFault>
     problem_in(command)
 }
 
-fn read_input<S: Source>(alloc: Global, command: &Command, source: &mut S) -> Result<Vec<u8>, Fault>
-    ensures read { IfOk result (λ input. IsReadWhole (wish_of command.now) (shown S.left S.faults source.old source.new) input.items) }
-    ensures cause { IfErr result (λ fault. HasCause (wish_of command.now) (shown S.left S.faults source.old source.new) fault []) }
+/// All bytes of the source, where there are no more than the limit, which is a command's.
+pub(crate) fn read_input<S: Source>(
+    alloc: Global,
+    limit: usize,
+    source: &mut S,
+) -> Result<Vec<u8>, Fault>
+    ensures read { (wish : Wish) → limit_of wish ≡ limit → IfOk result (λ input. IsReadWhole wish (shown S.left S.faults source.old source.new) input.items) }
+    ensures cause { (wish : Wish) → limit_of wish ≡ limit → IfErr result (λ fault. IsReadFault fault × HasCause wish (shown S.left S.faults source.old source.new) fault []) }
     ensures counted { MatchResult result (λ input. NeverFailed (shown S.left S.faults source.old source.new)) (IsReadCounted (shown S.left S.faults source.old source.new)) }
 {
-    match read_all(alloc, source, limit_of(command)) {
+    match read_all(alloc, source, limit) {
         Ok(input) => Ok(input),
         Err(ReadEnd::Fault) => Err(Fault::Read),
         Err(ReadEnd::TooLong) => Err(Fault::TooLong),
@@ -102,6 +116,7 @@ fn answer_to<G: Gate, T: Stop>(
     gate: &G,
     stops: &mut [T],
 ) -> Result<Answer, Fault>
+    requires one { ReadsOne (wish_of command.now) }
     requires asked { IsAskedProblem (wish_of command.now) asked.now }
     requires stops { 0 < length stops.old }
     ensures true_of { IfOk result (IsTrueOfInput (wish_of command.now) (signals T.signal stops.old stops.new) input.now) }
@@ -119,10 +134,13 @@ fn answer_to<G: Gate, T: Stop>(
             watch,
         } => solve_input(alloc, input, settings, *form, watch, gate, stops),
         Command::Check { .. } => judge_input(alloc, asked, input),
+        // These don't read one text, so they don't come here.
+        Command::Survey { .. } | Command::Collection { .. } => Err(Fault::NoMemory),
     }
 }
 
-fn write_answer<K: Sink>(alloc: Global, sink: &mut K, answer: Answer) -> Ended
+/// Writes the whole text of an answer, which is made before the first write.
+pub(crate) fn write_answer<K: Sink>(alloc: Global, sink: &mut K, answer: Answer) -> Ended
     requires { HasTexts answer }
     ensures { HasWritten (shown K.kept K.faults sink.old sink.new) answer result }
 {
@@ -135,7 +153,35 @@ fn write_answer<K: Sink>(alloc: Global, sink: &mut K, answer: Answer) -> Ended
     Ended::Answered(answer)
 }
 
-fn command_ended<S: Source, K: Sink, G: Gate, T: Stop>(
+// How a command ends that reads one text and answers it.
+fn read_ended<S: Source, K: Sink, G: Gate, T: Stop>(
+    alloc: Global,
+    command: &Command,
+    asked: &Option<Problem>,
+    source: &mut S,
+    sink: &mut K,
+    gate: &G,
+    stops: &mut [T],
+) -> Ended
+    requires one { ReadsOne (wish_of command.now) }
+    requires asked { IsAskedProblem (wish_of command.now) asked.now }
+    requires stops { 0 < length stops.old }
+    ensures used { AreUsedTill (deadline_in (Some (wish_of command.now))) (signals T.signal stops.old stops.new) result }
+    ensures ended { IsReadEnded (wish_of command.now) (signals T.signal stops.old stops.new) (shown S.left S.faults source.old source.new) (shown K.kept K.faults sink.old sink.new) result }
+    ensures counted { IsCounted (shown S.left S.faults source.old source.new) (shown K.kept K.faults sink.old sink.new) result }
+{
+    let input = match read_input(alloc, limit_of(command), source) {
+        Ok(input) => input,
+        Err(fault) => return Ended::Failed(fault, Input::none(alloc)),
+    };
+    match answer_to(alloc, command, asked, &input, gate, stops) {
+        Ok(answer) => write_answer(alloc, sink, answer),
+        Err(fault) => Ended::Failed(fault, Input::new(input)),
+    }
+}
+
+fn command_ended<R: Threads + Sync, S: Source, K: Sink, G: Gate, T: Stop>(
+    rt: &R,
     alloc: Global,
     command: &Command,
     source: &mut S,
@@ -153,17 +199,19 @@ fn command_ended<S: Source, K: Sink, G: Gate, T: Stop>(
         Ok(asked) => asked,
         Err(fault) => return Ended::Failed(Fault::Asked(fault), Input::none(alloc)),
     };
-    let input = match read_input(alloc, command, source) {
-        Ok(input) => input,
-        Err(fault) => return Ended::Failed(fault, Input::none(alloc)),
-    };
-    match answer_to(alloc, command, &asked, &input, gate, stops) {
-        Ok(answer) => write_answer(alloc, sink, answer),
-        Err(fault) => Ended::Failed(fault, Input::new(input)),
+    match command {
+        Command::Survey { range } => survey_ended(rt, alloc, range, sink),
+        Command::Collection { settings, form } => {
+            collection_ended(alloc, settings, form, source, sink)
+        }
+        Command::Solve { .. } | Command::Check { .. } => {
+            read_ended(alloc, command, &asked, source, sink, gate, stops)
+        }
     }
 }
 
-fn words_ended<S: Source, K: Sink, G: Gate, T: Stop>(
+fn words_ended<R: Threads + Sync, S: Source, K: Sink, G: Gate, T: Stop>(
+    rt: &R,
     alloc: Global,
     words: Vec<String>,
     source: &mut S,
@@ -185,7 +233,7 @@ fn words_ended<S: Source, K: Sink, G: Gate, T: Stop>(
         → (result ≡ Ended.Failed (Fault.Asked fault) []) ⊎ (result ≡ Ended.Failed Fault.NoMemory []) }
 {
     match read_words(alloc, &words) {
-        Ok(asked) => command_ended(alloc, &asked.command, source, sink, gate, stops),
+        Ok(asked) => command_ended(rt, alloc, &asked.command, source, sink, gate, stops),
         Err(WordsEnd::Help(text)) => write_answer(alloc, sink, Answer::Help(text)),
         Err(WordsEnd::Fault(fault)) => Ended::Failed(Fault::Words(fault), Input::none(alloc)),
         Err(WordsEnd::NoMemory) => Ended::Failed(Fault::NoMemory, Input::none(alloc)),
@@ -231,7 +279,7 @@ fn limit_told(command: &Command) -> Option<u64>
                 None
             }
         }
-        Command::Check { .. } => None,
+        Command::Check { .. } | Command::Survey { .. } | Command::Collection { .. } => None,
     }
 }
 
@@ -259,12 +307,19 @@ pub fn told_limit(alloc: Global, words: &[String]) -> Result<Option<u64>, AllocE
 /// (SFEN), or the first reason why it isn't; a certificate about another problem doesn't list it. Positions are compared, and not texts.
 /// A `--problem` that is none refuses the words, before anything is read.
 ///
-/// Everything else ends with a named fault and its cause: more than [`MOST_PROBLEM_BYTES`] of a problem or
+/// `survey` reads nothing: it decides the problems that the generator makes of a range of numbers, over threads, and writes how many are mates, have
+/// none, or were given up. `collection` reads a text with a problem in each line, and writes for each, in order, that it is a mate, with a main
+/// line, that it is none, that it was given up, or what its fault is, perhaps with certificates, and the counts behind the last; a faulty line
+/// doesn't end the run.
+///
+/// Everything else ends with a named fault and its cause: more than [`MOST_PROBLEM_BYTES`] of a problem, [`MOST_COLLECTION_BYTES`] of a collection or
 /// [`MOST_CERTIFICATE_BYTES`] of a certificate; a text that is no problem or no certificate, with its first fault; a source or a
-/// sink whose count of faults rose; want of memory. The whole text is made before the first write. The gate is passed for each
+/// sink whose count of faults rose; want of memory. The whole text is made before the first write, but for a collection, whose reports are written
+/// one by one. The gate is passed for each
 /// position whose moves are listed, as worker 1. The stops, one for each worker that there may be, are armed once, with the deadline that the words
 /// give or with none, when `solve` has accepted its problem, and before that they aren't used; then worker 1 polls the first. (The tsume rule; USI protocol: `checkmate`.)
-pub fn run<S: Source, K: Sink, G: Gate, T: Stop>(
+pub fn run<R: Threads + Sync, S: Source, K: Sink, G: Gate, T: Stop>(
+    rt: &R,
     alloc: Global,
     words: Vec<String>,
     source: &mut S,
@@ -300,6 +355,15 @@ pub fn run<S: Source, K: Sink, G: Gate, T: Stop>(
         → S.left source.old ≡ Some input
         → ¬ IsBrokenOff result → (IsAccepted result claim entries ↔ IsValidText problem input claim entries) }
 
+    // Where `survey` ended with a summary, its tallies are those of the problems of the numbers that were asked for, in their order.
+    ensures surveyed { (range : SurveyView) (summary : Summary) → command_of (texts_of words.items) ≡ Some (to_survey range)
+        → result ≡ Ended.Answered (Answer.Surveyed summary) → IsSurvey range summary }
+
+    // Where `collection` ended, each line that holds a problem was told by a true report, in their order, and the counts behind them.
+    ensures collected { (settings : SettingsView) (form : CollectionView) (counts : Counts) → command_of (texts_of words.items) ≡ Some (to_collect settings form)
+        → result ≡ Ended.Answered (Answer.Collected counts)
+        → IsCollected settings form (shown S.left S.faults source.old source.new) (shown K.kept K.faults sink.old sink.new) counts }
+
     // In full. What a command did: a printed mate is one, a printed "no mate" means that there is none, each with a certificate that
     // the checker accepts; an accepted certificate is valid; each refusal has its cause.
     ensures ended { (wish : Wish) → command_of (texts_of words.items) ≡ Some wish
@@ -334,5 +398,5 @@ pub fn run<S: Source, K: Sink, G: Gate, T: Stop>(
         → IsAnswered result ⊎ WantsMemory result }
 {
     text_laws();
-    words_ended(alloc, words, source, sink, gate, stops)
+    words_ended(rt, alloc, words, source, sink, gate, stops)
 }

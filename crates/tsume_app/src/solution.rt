@@ -64,8 +64,8 @@ pub(crate) fn read_problem(input: &[u8], form: ProblemForm) -> Result<Problem, P
     }
 }
 
-// The settings of the search: those that the words give.
-fn search_settings(settings: &Settings) -> unit_desk::Settings
+/// The settings of the search: those that the words give.
+pub(crate) fn search_settings(settings: &Settings) -> unit_desk::Settings
     ensures { numbers_in result ≡ search_numbers (settings_in settings.now) }
 {
     unit_desk::Settings {
@@ -104,8 +104,8 @@ fn no_mate(problem: &Problem, certificate: EscapeCertificate) -> Solution
     Solution::NoMate(certificate)
 }
 
-// The verdict of a note that answers the problem, with the certificate that is extracted from it.
-fn verdict(alloc: Global, problem: &Problem, note: &Note) -> Result<Solution, AllocError>
+/// The verdict of a note that answers the problem, with the certificate that is extracted from it.
+pub(crate) fn verdict(alloc: Global, problem: &Problem, note: &Note) -> Result<Solution, AllocError>
     requires { IsAnswer (task_for problem.now.position 1) note.now }
     ensures verdict { IfOk result (IsVerdictOf problem.now.position note.now) }
     ensures line { IfOk result HasLine }

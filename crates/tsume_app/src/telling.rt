@@ -18,6 +18,7 @@ use std::alloc::{AllocError, Global};
 use std::env::{self, Env};
 use std::fs::{self, Files};
 use std::io::{self, Eprint, Print};
+use std::thread::Threads;
 use std::time::Clock;
 use tsume_io::{Noted, Opened, Sink, Source, StdClock, StdSink, StdSource, write_all};
 use tsume_words::MOST_WORKERS;
@@ -75,7 +76,8 @@ pub fn tell<K: Sink>(alloc: Global, ended: &Ended, errors: &mut K) -> Told
 }
 
 /// Runs the program as [`run`] does, and tells the user how it ended: see [`tell`]. What comes back is the exit status.
-pub fn run_and_tell<S: Source, K: Sink, E: Sink, G: Gate, T: Stop>(
+pub fn run_and_tell<R: Threads + Sync, S: Source, K: Sink, E: Sink, G: Gate, T: Stop>(
+    rt: &R,
     alloc: Global,
     words: Vec<String>,
     source: &mut S,
@@ -88,7 +90,7 @@ pub fn run_and_tell<S: Source, K: Sink, E: Sink, G: Gate, T: Stop>(
     ensures { IsToldRun (texts_of words.items) (signals T.signal stops.old stops.new) (shown S.left S.faults source.old source.new) (shown K.kept K.faults sink.old sink.new)
         (shown E.kept E.faults errors.old errors.new) result }
 {
-    let ended = run(alloc, words, source, sink, gate, stops);
+    let ended = run(rt, alloc, words, source, sink, gate, stops);
     tell(alloc, &ended, errors);
     ended.status()
 }
@@ -163,11 +165,10 @@ fn stops_by<R: Clock + AllocGlobal + Sync>(
 }
 
 // The program over the file that the words name, or over the standard input. What comes back is the exit status.
-fn run_on_file<R: io::Input + Print + Eprint + Files + Clock + AllocGlobal + Sync, K: Sink>(
-    rt: &R,
-    words: Vec<String>,
-    errors: &mut K,
-) -> u8 {
+fn run_on_file<
+    R: io::Input + Print + Eprint + Files + Clock + AllocGlobal + Threads + Sync,
+    K: Sink,
+>(rt: &R, words: Vec<String>, errors: &mut K) -> u8 {
     let alloc = rt.alloc();
     let Ok(file) = named_file(alloc, &words) else {
         return fail(alloc, Fault::NoMemory, errors);
@@ -182,6 +183,7 @@ fn run_on_file<R: io::Input + Print + Eprint + Files + Clock + AllocGlobal + Syn
     let mut source = StdSource::new(Noted::new(opened(rt, &file)));
     let mut sink = StdSink::new(Clearing::new(&progress, io::writer(rt)));
     let status = run_and_tell(
+        rt,
         alloc,
         words,
         &mut source,
@@ -204,7 +206,7 @@ fn run_on_file<R: io::Input + Print + Eprint + Files + Clock + AllocGlobal + Syn
 /// tells what was read and what the system said. Where the words ask for progress, a line of how many positions were used is written a few times a second,
 /// each over the one before, and cleared when the answer is written; behind a verdict a line tells how many it took. What comes back ends the process with the exit status.
 pub fn start<
-    R: Env + io::Input + Print + Eprint + Files + Clock + AllocGlobal + Sync,
+    R: Env + io::Input + Print + Eprint + Files + Clock + AllocGlobal + Threads + Sync,
     W: io::Write + Drop,
 >(rt: &R, errors: W) -> Exit {
     let mut errors = StdSink::new(errors);

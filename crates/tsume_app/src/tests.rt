@@ -8,6 +8,7 @@ use std::alloc::{AllocError, Global};
 use std::process::Abort;
 use std::sync::atomic::{AtomicU64, Ordering};
 use std::test::Fail;
+use std::thread::Threads;
 use tsume_io::{MemSink, MemSource};
 use tsume_words::MOST_WORKERS;
 
@@ -58,19 +59,19 @@ fn stops_at(alloc: Global, poll: u64) -> Result<Vec<MemStop>, AllocError>
 }
 
 // A run on the words of a line, with a source and a sink of these pieces that fail at the calls of these numbers, 0 for none.
-fn seen_of(
-    alloc: Global,
+fn seen_of<R: Threads + AllocGlobal + Sync>(
+    rt: &R,
     line: &str,
     input: &str,
     source: (usize, u64),
     sink: (usize, u64),
 ) -> Result<Seen, Fail> {
-    seen_until(alloc, line, input, source, sink, 0)
+    seen_until(rt, line, input, source, sink, 0)
 }
 
 // The same, where the first worker is stopped at its poll of this number, 0 for none.
-fn seen_until(
-    alloc: Global,
+fn seen_until<R: Threads + AllocGlobal + Sync>(
+    rt: &R,
     line: &str,
     input: &str,
     source: (usize, u64),
@@ -80,12 +81,13 @@ fn seen_until(
     if source.0 == 0 || sink.0 == 0 {
         return Err(Fail::from("no piece"));
     }
+    let alloc = rt.alloc();
     let words = words_of(alloc, line)?;
     let bytes = Vec::from_slice(alloc, input.as_bytes())?;
     let mut from = MemSource::make(bytes, source.0, Vec::from_slice(alloc, &[source.1])?);
     let mut to = MemSink::make(alloc, 65_536, sink.0, Vec::from_slice(alloc, &[sink.1])?)?;
     let mut stops = stops_at(alloc, poll)?;
-    let ended = run(alloc, words, &mut from, &mut to, &OpenGate, &mut stops);
+    let ended = run(rt, alloc, words, &mut from, &mut to, &OpenGate, &mut stops);
     Ok(Seen {
         status: ended.status(),
         answered: has_answer(&ended),
@@ -174,7 +176,7 @@ fn a_problem_is_answered_as_it_should(rt: HostRuntime) -> Result<(), Fail> {
         ),
     ];
     for (words, input, status, kept) in table {
-        let seen = seen_of(rt.alloc(), words, input, (7, 0), (11, 0))?;
+        let seen = seen_of(&rt, words, input, (7, 0), (11, 0))?;
         assert_eq!(rt; seen.status, status, "{words} {input}");
         assert!(rt; seen.fault.is_empty(), "{words} {input}");
         assert!(rt; seen.kept.as_slice() == kept.as_bytes(), "{words} {input}");
@@ -194,7 +196,7 @@ fn a_certificate_is_judged_as_it_should(rt: HostRuntime) -> Result<(), Fail> {
         ("check", OPEN_CHASE, 7, "refused 2 unanswered 5i4i\n"),
     ];
     for (words, input, status, kept) in table {
-        let seen = seen_of(rt.alloc(), words, input, (7, 0), (11, 0))?;
+        let seen = seen_of(&rt, words, input, (7, 0), (11, 0))?;
         assert_eq!(rt; seen.status, status, "{words} {input}");
         assert!(rt; seen.fault.is_empty(), "{words} {input}");
         assert!(rt; seen.kept.as_slice() == kept.as_bytes(), "{words} {input}");
@@ -216,7 +218,7 @@ fn a_faulty_input_is_told_and_kept(rt: HostRuntime) -> Result<(), Fail> {
         ("check", GOLD, "bad head"),
     ];
     for (words, input, fault) in table {
-        let seen = seen_of(rt.alloc(), words, input, (7, 0), (11, 0))?;
+        let seen = seen_of(&rt, words, input, (7, 0), (11, 0))?;
         assert_eq!(rt; seen.status, 3, "{words} {input}");
         assert!(rt; seen.fault.as_str() == fault, "{words} {input}");
         assert_eq!(rt; seen.read, input.len(), "{words} {input}");
@@ -304,7 +306,7 @@ fn words_are_refused_before_anything_is_read(rt: HostRuntime) -> Result<(), Fail
         ("solve --rows 16 --shards 32", "more shards than rows"),
     ];
     for (words, part) in table {
-        let seen = seen_of(rt.alloc(), words, GOLD, (7, 1), (11, 0))?;
+        let seen = seen_of(&rt, words, GOLD, (7, 1), (11, 0))?;
         assert_eq!(rt; seen.status, 2, "{words}");
         assert!(rt; seen.fault.as_str().contains(part), "{words}");
         assert!(rt; seen.kept.is_empty(), "{words}");
@@ -331,7 +333,7 @@ fn help_and_the_version_are_answers(rt: HostRuntime) -> Result<(), Fail> {
         ("help check", 2, 5, "write fault", "Checks a ce"),
     ];
     for (words, sink, status, fault, part) in table {
-        let seen = seen_of(rt.alloc(), words, GOLD, (7, 1), (11, sink))?;
+        let seen = seen_of(&rt, words, GOLD, (7, 1), (11, sink))?;
         assert_eq!(rt; seen.status, status, "{words} {sink}");
         assert!(rt; seen.fault.as_str() == fault, "{words} {sink}");
         let kept = String::from_utf8(seen.kept)?;
@@ -390,7 +392,7 @@ fn a_certificate_may_have_to_be_for_a_given_problem(rt: HostRuntime) -> Result<(
     for (problem, status, fault, kept) in table {
         let line = format!(in rt.alloc(); "check --problem {problem}")?;
         let failing = if status == 2 { 1 } else { 0 };
-        let seen = seen_of(rt.alloc(), line.as_str(), GOLD_TEXT, (7, failing), (11, 0))?;
+        let seen = seen_of(&rt, line.as_str(), GOLD_TEXT, (7, failing), (11, 0))?;
         assert_eq!(rt; seen.status, status, "{problem}");
         assert!(rt; seen.fault.as_str() == fault, "{problem}");
         assert!(rt; seen.kept.as_slice() == kept.as_bytes(), "{problem}");
@@ -416,10 +418,10 @@ fn a_printed_verdict_is_accepted(rt: HostRuntime) -> Result<(), Fail> {
         ("5k3/9/9/9/9/9/9/9/4R4 b -\n", "accepted escape "),
     ];
     for (problem, verdict) in table {
-        let solved = seen_of(rt.alloc(), "solve", problem, (7, 0), (11, 0))?;
+        let solved = seen_of(&rt, "solve", problem, (7, 0), (11, 0))?;
         assert_eq!(rt; solved.status, 0, "{problem}");
         let text = String::from_utf8(solved.kept)?;
-        let checked = seen_of(rt.alloc(), "check", text.as_str(), (5, 0), (3, 0))?;
+        let checked = seen_of(&rt, "check", text.as_str(), (5, 0), (3, 0))?;
         assert_eq!(rt; checked.status, 0, "{problem}");
         assert!(rt;
             checked.kept.as_slice().starts_with(verdict.as_bytes()),
@@ -437,7 +439,7 @@ fn no_certificate_has_more_entries_than_the_room(rt: HostRuntime) -> Result<(), 
         let mut too_small = 0;
         for room in 1..65usize {
             let words = format!(in rt.alloc(); "solve --rows 16 --room {room}")?;
-            let seen = seen_of(rt.alloc(), words.as_str(), problem, (64, 0), (4096, 0))?;
+            let seen = seen_of(&rt, words.as_str(), problem, (64, 0), (4096, 0))?;
             if seen.status == 0 {
                 // Four lines more than entries.
                 let lines = seen.kept.iter().filter(|byte| **byte == b'\n').count();
@@ -467,7 +469,7 @@ fn a_failing_outside_is_told(rt: HostRuntime) -> Result<(), Fail> {
         (0, 10, 1, 5, "write fault", ""),
     ];
     for (source, piece, sink, status, fault, kept) in table {
-        let seen = seen_of(rt.alloc(), "solve", GOLD, (7, source), (piece, sink))?;
+        let seen = seen_of(&rt, "solve", GOLD, (7, source), (piece, sink))?;
         assert_eq!(rt; seen.status, status, "{source} {sink}");
         assert!(rt; seen.fault.as_str() == fault, "{source} {sink}");
         assert!(rt; seen.kept.as_slice() == kept.as_bytes(), "{source} {sink}");
@@ -481,7 +483,7 @@ fn an_outside_that_fails_at_any_call_is_told(rt: HostRuntime) -> Result<(), Fail
     // The problem's 28 bytes come in four reads and are known to be all by a fifth.
     for call in 1..9u64 {
         let failed = call <= 5;
-        let seen = seen_of(rt.alloc(), "solve", GOLD, (7, call), (11, 0))?;
+        let seen = seen_of(&rt, "solve", GOLD, (7, call), (11, 0))?;
         assert_eq!(rt; seen.status, if failed { 4 } else { 0 }, "{call}");
         assert_eq!(rt; seen.kept.len(), if failed { 0 } else { 107 }, "{call}");
         assert_eq!(rt; seen.answered, !failed, "{call}");
@@ -489,7 +491,7 @@ fn an_outside_that_fails_at_any_call_is_told(rt: HostRuntime) -> Result<(), Fail
     // The answer's 107 bytes go in ten writes of 11.
     for call in 1..13u64 {
         let failed = call <= 10;
-        let seen = seen_of(rt.alloc(), "solve", GOLD, (7, 0), (11, call))?;
+        let seen = seen_of(&rt, "solve", GOLD, (7, 0), (11, call))?;
         assert_eq!(rt; seen.status, if failed { 5 } else { 0 }, "{call}");
         assert_eq!(rt;
             seen.kept.len(),
@@ -539,7 +541,15 @@ fn the_gate_is_passed_for_each_unit(rt: HostRuntime) -> Result<(), Fail> {
         wrong: AtomicU64::new(0),
     };
     let mut stops = stops_at(rt.alloc(), 0)?;
-    let ended = run(rt.alloc(), words, &mut from, &mut to, &gate, &mut stops);
+    let ended = run(
+        &rt,
+        rt.alloc(),
+        words,
+        &mut from,
+        &mut to,
+        &gate,
+        &mut stops,
+    );
     assert_eq!(rt; ended.status(), 0);
     assert_eq!(rt; gate.passed.load(Ordering::SeqCst), 85);
     assert_eq!(rt; gate.wrong.load(Ordering::SeqCst), 0);
@@ -607,6 +617,7 @@ fn the_user_is_told_how_a_run_ended(rt: HostRuntime) -> Result<(), Fail> {
         let calls = Vec::from_slice(rt.alloc(), &[user])?;
         let mut errors = MemSink::make(rt.alloc(), 4096, 11, calls)?;
         let found = run_and_tell(
+            &rt,
             rt.alloc(),
             words,
             &mut from,
@@ -618,6 +629,79 @@ fn the_user_is_told_how_a_run_ended(rt: HostRuntime) -> Result<(), Fail> {
         assert_eq!(rt; found, status, "{line} {input}");
         assert!(rt; errors.kept() == told.as_bytes(), "{line} {input}");
     }
+    Ok(())
+}
+
+const MANY: &str =
+    "4k4/9/4P4/9/9/9/9/9/9 b G 1\n\n# two rooks\n9/4k4/8R/9/9/9/9/9/9 b R\tx\n4k4/9/4X4/9/9/9/9/9/9 b G";
+
+const MANY_TEXT: &str =
+    "1 mate G*5b\n4 mate R*2b 5b4a 1c1a\n5 fault bad piece at 7\nproblems 3 mate 2 nomate 0 unknown 0 fault 1\n";
+
+#[test]
+fn many_problems_are_told_line_by_line(rt: HostRuntime) -> Result<(), Fail> {
+    let none = "4k4/9/9/9/9/9/9/9/9 b -\r\n";
+    // Words, an input, and the status and what is kept.
+    let table = [
+        ("collection", MANY, 3, MANY_TEXT),
+        ("collection --threads 3", MANY, 3, MANY_TEXT),
+        (
+            "collection",
+            "",
+            0,
+            "problems 0 mate 0 nomate 0 unknown 0 fault 0\n",
+        ),
+        (
+            "collection --expansions 1",
+            TWO_ROOKS,
+            1,
+            "1 unknown expansions 1\nproblems 1 mate 0 nomate 0 unknown 1 fault 0\n",
+        ),
+        (
+            "collection --certificates",
+            none,
+            0,
+            "1 nomate\ncertificate 1 escape 1\nproblem 4k4/9/9/9/9/9/9/9/9 b -\n4k4/9/9/9/9/9/9/9/9 b -\nend\nproblems 1 mate 0 nomate 1 unknown 0 fault 0\n",
+        ),
+        (
+            "survey --count 1",
+            "",
+            0,
+            "survey 0 1\nmate 1\nnomate 0\nunknown 0\n",
+        ),
+    ];
+    for (words, input, status, kept) in table {
+        let seen = seen_of(&rt, words, input, (7, 0), (11, 0))?;
+        assert_eq!(rt; seen.status, status, "{words}");
+        assert!(rt; seen.fault.is_empty(), "{words}");
+        assert!(rt; seen.kept.as_slice() == kept.as_bytes(), "{words}");
+    }
+    Ok(())
+}
+
+#[test]
+fn a_collection_that_is_cut_short_has_kept_a_prefix(rt: HostRuntime) -> Result<(), Fail> {
+    // The call at which the sink fails, and how much it has kept: pieces of 11 bytes, and the ends of lines.
+    let table = [
+        (1, 0),
+        (2, 11),
+        (3, 12),
+        (4, 23),
+        (5, 34),
+        (6, 45),
+        (8, 57),
+        (12, 101),
+    ];
+    for (call, kept) in table {
+        let seen = seen_of(&rt, "collection", MANY, (7, 0), (11, call))?;
+        assert_eq!(rt; seen.status, 5, "{call}");
+        assert!(rt; seen.answered, "{call}");
+        assert_eq!(rt; seen.kept.len(), kept, "{call}");
+        assert!(rt; MANY_TEXT.as_bytes().starts_with(&seen.kept), "{call}");
+    }
+    let seen = seen_of(&rt, "collection", MANY, (7, 3), (11, 0))?;
+    assert_eq!(rt; seen.status, 4);
+    assert!(rt; seen.kept.is_empty());
     Ok(())
 }
 
@@ -639,7 +723,7 @@ fn a_search_ends_where_it_is_stopped(rt: HostRuntime) -> Result<(), Fail> {
         ("solve", "4k4/9/9/9/9/9/9/9/9 b - 1\n", 2, 0, NO_CHECK_TEXT),
     ];
     for (words, input, poll, status, kept) in table {
-        let seen = seen_until(rt.alloc(), words, input, (7, 0), (11, 0), poll)?;
+        let seen = seen_until(&rt, words, input, (7, 0), (11, 0), poll)?;
         assert_eq!(rt; seen.status, status, "{words} {poll}");
         assert!(rt; seen.fault.is_empty(), "{words} {poll}");
         assert!(rt; seen.kept.as_slice() == kept.as_bytes(), "{words} {poll}");

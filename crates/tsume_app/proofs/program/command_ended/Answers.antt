@@ -1,26 +1,23 @@
-use Rattle.std.proofs.Common.{ℕ, List, Some, subst}
-use Rattle.tsume_words.specs.Meaning.{wish_of}
+use Rattle.std.proofs.Common.{Some, refl, sym, subst}
+use Rattle.tsume_words.specs.Meaning.{wish_of, survey_in, settings_in, collection_in}
+use Rattle.tsume_words.specs.declared.command.Command.{Command}
 use Rattle.tsume_app.specs.Outside.{shown}
 use Rattle.tsume_app.specs.Stops.{deadline_in, signals}
-use Rattle.tsume_app.specs.Run.{IsTrueOfInput}
-use Rattle.tsume_app.proofs.Armed.{used_till}
-use Rattle.tsume_app.proofs.Running.{ended_of}
+use Rattle.tsume_app.specs.Run.{IsEnded}
+use Rattle.tsume_app.proofs.Armed.{unused_survey, unused_collection}
 use Rattle.tsume_app.proofs.program.command_ended.Goals as goal
 
-pub returns-in-Ok-answer_to-clause-ended : goal.returns-in-Ok-answer_to-clause-ended
-returns-in-Ok-answer_to-clause-ended g c =
-    let wish = wish_of c.args.command.now in
-    let stops = signals g.T.Stop.signal c.args.stops.now c.answer_to.new.stops in
-    ended_of wish stops (shown g.S.Source.left g.S.Source.faults c.args.source.now c.read_input.new.source)
-    (shown g.K.Sink.kept g.K.Sink.faults c.args.sink.now c.write_answer.new.sink) c.in-Ok-answer_to.answer c.write_answer.result
-    (record {
-      input = c.in-Ok-read_input.input.items;
-      read = c.in-Ok-read_input.ensures.read;
-      true_of = subst (λ (input : List ℕ). IsTrueOfInput wish stops input c.in-Ok-answer_to.answer) c.deref.ensures.value c.in-Ok-answer_to.ensures.true_of;
-    }) c.write_answer.ensures
+pub returns-in-Survey-clause-used : goal.returns-in-Survey-clause-used
+returns-in-Survey-clause-used g c =
+    let source = shown g.S.Source.left g.S.Source.faults c.args.source.now c.args.source.now in
+    let sink = shown g.K.Sink.kept g.K.Sink.faults c.args.sink.now c.survey_ended.new.sink in
+    unused_survey (deadline_in (Some (wish_of c.args.command.now))) (signals g.T.Stop.signal c.args.stops.now c.args.stops.now) (survey_in c.in-Survey.range) source sink
+    c.survey_ended.result (c.survey_ended.ensures.ended source refl refl) refl
 
-pub returns-in-Ok-answer_to-clause-used : goal.returns-in-Ok-answer_to-clause-used
-returns-in-Ok-answer_to-clause-used g c =
-    used_till (deadline_in (Some (wish_of c.args.command.now))) (signals g.T.Stop.signal c.args.stops.now c.answer_to.new.stops)
-    (shown g.K.Sink.kept g.K.Sink.faults c.args.sink.now c.write_answer.new.sink) c.in-Ok-answer_to.answer c.write_answer.result
-    c.write_answer.ensures c.in-Ok-answer_to.ensures.used
+pub returns-in-Survey-clause-ended : goal.returns-in-Survey-clause-ended
+returns-in-Survey-clause-ended g c =
+    let stops = signals g.T.Stop.signal c.args.stops.now c.args.stops.now in
+    let source = shown g.S.Source.left g.S.Source.faults c.args.source.now c.args.source.now in
+    let sink = shown g.K.Sink.kept g.K.Sink.faults c.args.sink.now c.survey_ended.new.sink in
+    subst (λ (command : Command). IsEnded (wish_of command) stops source sink c.survey_ended.result) (sym c.in-Survey.is)
+    (c.survey_ended.ensures.ended source refl refl)

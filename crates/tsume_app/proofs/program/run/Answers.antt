@@ -1,4 +1,4 @@
-use Rattle.tsume_words.specs.Given.Wish.{to_solve, to_check}
+use Rattle.tsume_words.specs.Given.Wish.{to_solve, to_check, to_survey, to_collect}
 use Rattle.tsume_words.specs.Meaning.{texts_of}
 use Rattle.tsume_app.specs.declared.ended.Ended.{Ended}
 use Rattle.std.proofs.Common.{subst}
@@ -61,3 +61,18 @@ returns-clause-complete g c = λ wish asks posed sound kept.
     let source = shown g.S.Source.left g.S.Source.faults c.args.source.now c.words_ended.new.source in
     let sink = shown g.K.Sink.kept g.K.Sink.faults c.args.sink.now c.words_ended.new.sink in
     complete_of c.text_laws.ensures wish stops source sink c.words_ended.result (c.words_ended.ensures.ended wish asks) posed sound kept
+
+pub returns-clause-surveyed : goal.returns-clause-surveyed
+returns-clause-surveyed g c = λ range summary asks is.
+    let stops = signals g.T.Stop.signal c.args.stops.now c.words_ended.new.stops in
+    let source = shown g.S.Source.left g.S.Source.faults c.args.source.now c.words_ended.new.source in
+    let sink = shown g.K.Sink.kept g.K.Sink.faults c.args.sink.now c.words_ended.new.sink in
+    let ended = subst (λ (e : Ended). IsEnded (to_survey range) stops source sink e) is (c.words_ended.ensures.ended (to_survey range) asks) in
+    ended.0
+
+pub returns-clause-collected : goal.returns-clause-collected
+returns-clause-collected g c = λ settings form counts asks is.
+    let stops = signals g.T.Stop.signal c.args.stops.now c.words_ended.new.stops in
+    let source = shown g.S.Source.left g.S.Source.faults c.args.source.now c.words_ended.new.source in
+    let sink = shown g.K.Sink.kept g.K.Sink.faults c.args.sink.now c.words_ended.new.sink in
+    subst (λ (e : Ended). IsEnded (to_collect settings form) stops source sink e) is (c.words_ended.ensures.ended (to_collect settings form) asks)

@@ -3,18 +3,7 @@ ghost use Rattle.std.specs.Prelude.{◌≡◌, count_by};
 ghost use Rattle.app_texts.specs.Survey.{is_mate, is_no_mate, is_unknown};
 
 use std::marker::Model;
-use unit_desk::Cause;
-
-/// How the search for a mate of one problem ended.
-#[derive(Clone, Copy, PartialEq, Eq, Debug)]
-pub enum Tally {
-    /// There is a mate.
-    Mate,
-    /// There is none.
-    NoMate,
-    /// Neither was found before this was used up.
-    Unknown(Cause),
-}
+use survey::Tally;
 
 /// How the searches of a survey ended, by the rising number of their problems. Contracts see the list.
 #[derive(Drop)]
@@ -24,7 +13,7 @@ pub struct Tallies {
 
 impl Model for Tallies {
     ghost use Rattle.std.specs.Prelude.{List};
-    ghost use Rattle.app_texts.specs.declared.survey.Tally.{Tally};
+    ghost use Rattle.survey.specs.declared.tally.Tally.{Tally};
 
     ghost Value = { List Tally };
 
