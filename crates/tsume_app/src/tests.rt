@@ -248,19 +248,19 @@ const DIAGRAM: &str = "# KIF
 
 // A run on these words and the diagram with one text in place of another keeps this, or has this fault. A byte-order mark stands in front
 // of the diagram, and each line ends with CR LF.
-fn diagram_gives(
-    rt: &impl Abort,
-    alloc: Global,
+fn diagram_gives<R: Abort + Threads + AllocGlobal + Sync>(
+    rt: &R,
     words: &str,
     old: &str,
     new: &str,
     wanted: &str,
 ) -> Result<(), Fail> {
+    let alloc = rt.alloc();
     let text = DIAGRAM.replace(alloc, old, new)?;
     let lines = text.as_str().replace(alloc, "\n", "\r\n")?;
     let lines = lines.as_str();
     let input = format!(in alloc; "\u{feff}{lines}")?;
-    let seen = seen_of(alloc, words, input.as_str(), (7, 0), (11, 0))?;
+    let seen = seen_of(rt, words, input.as_str(), (7, 0), (11, 0))?;
     if seen.status == 0 {
         assert!(rt; seen.kept.as_slice() == wanted.as_bytes(), "{old} | {new}");
     } else {
@@ -285,7 +285,7 @@ fn a_diagram_stands_for_its_problem(rt: HostRuntime) -> Result<(), Fail> {
         ("solve", "KIF", "KIF", "bad piece at 0"),
     ];
     for (words, old, new, wanted) in table {
-        diagram_gives(&rt, rt.alloc(), words, old, new, wanted)?;
+        diagram_gives(&rt, words, old, new, wanted)?;
     }
     Ok(())
 }
