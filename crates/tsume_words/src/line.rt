@@ -151,13 +151,8 @@ fn threads_option<'a>(alloc: Global) -> Arg<'a>
         .action(ArgAction::Set)
         .value_name("N")
         .value_parser(ValueParser::unsigned(1, MOST_THREADS))
-        .help(
-            "Problems that are decided side by side, 1 to 64. It\n\
-             changes no byte of the output. Each thread takes a\n\
-             table of its own, 1 KB a row: 64 MB at 65536 rows;\n\
-             and 64 MB or so more for notes in hard problems.\n\
-             Default: as many as the system has processors",
-        )
+        .help("Problems that are decided side by side (1 to 64)")
+        .hide(true)
 }
 
 fn certificates_flag<'a>(alloc: Global) -> Arg<'a>
@@ -342,7 +337,7 @@ fn collection_command<'a>(alloc: Global) -> Result<Command<'a>, AllocError>
              Status: 0 a verdict for each, 1 gave up on one, 3 a line is no problem or the\n\
              text is too long, 2 words refused, 4 reading failed, 5 writing failed, 6 out of\n\
              memory.\n\n\
-             Example:\n  tsume collection problems.txt --rest --threads 4",
+             Example:\n  tsume collection problems.txt --rest",
         )
         .arg(expansions_option(alloc, "100000"))?
         .arg(room_option(alloc))?

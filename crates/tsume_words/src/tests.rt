@@ -363,15 +363,15 @@ static HELPED: [(&str, &str); 27] = [
     ),
     (
         "collection --help",
-        "\n      --threads <N>     Problems that are decided side by side, 1 to 64. It\n",
+        "\n      --certificates    Print the certificate of each mate and each no mate\n",
     ),
     (
         "collection --rows 24 -h",
-        "64 MB at 65536 rows;\n                        and 64 MB or so more for notes in hard problems.\n",
+        "power of two, 16 to 1048576. A row takes 1 KB, all at\n",
     ),
     (
         "help collection",
-        " Default: as many as the system has processors\n",
+        "text is too long, 2 words refused, 4 reading failed, 5 writing failed, 6 out of\n",
     ),
     (
         "collection -h",
@@ -381,7 +381,7 @@ static HELPED: [(&str, &str); 27] = [
 ];
 
 // What has no effect yet, and isn't shown.
-static HIDDEN: [&str; 2] = ["--workers", "--shards"];
+static HIDDEN: [&str; 3] = ["--workers", "--shards", "--threads"];
 
 fn words_of(alloc: Global, line: &str) -> Result<Vec<String>, AllocError> {
     let mut words = Vec::new(alloc);
