@@ -62,8 +62,7 @@ pub enum Fault {
     Words(WordFault),
     /// The text that the words give for a certificate's problem is none: its first fault; nothing was read.
     Asked(ProblemFault),
-    /// The input has more bytes than a problem may have (65,536), or a certificate
-    /// (268,435,456).
+    /// The input has more bytes than a problem may have (65,536), a certificate (268,435,456), or a collection (16,777,216).
     TooLong,
     /// The input is no problem: its first fault.
     Problem(ProblemFault),

@@ -66,7 +66,7 @@ fn append_proof(out: &mut Vec<u8>, report: &Report) -> Result<(), AllocError>
 
 /// Writes what is told of a collection's line of this number behind what stands there already: the number and how its problem
 /// ended, and behind a verdict its certificate where `certificates` says so. The moves of a mate have texts. Where memory is wanted,
-/// a part of it may stand there. Errors: want of memory alone.
+/// nothing is said of what stands there then. Errors: want of memory alone.
 pub fn append_report(
     out: &mut Vec<u8>,
     number: u64,

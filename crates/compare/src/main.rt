@@ -1,8 +1,9 @@
 //! Compares the two searches: the one by proof numbers, whose certificate is extracted from its note, and the plain one, level by level.
 //!
-//! Both search the problems 0 to 49 of the generator. The line that is printed says how many these are, how many each search decided,
-//! how many both did, and of how many of these the verdicts differ. Each certificate is checked; one that is refused ends the run with
-//! status 1, as want of memory and a failed write do.
+//! Both search the problems in the lines of standard input, as the command `collection` takes them (a line that is no problem is left
+//! out), or where there is none the problems 0 to 49 of the generator. The line that is printed says how many these are, how many each
+//! search decided, how many both did, and of how many of these the verdicts differ. Each certificate is checked; one that is refused ends the
+//! run with status 1, as want of memory and a failed read or write do.
 #![tactic(auto)]
 
 ghost use Rattle.visit_log.specs.Frame.{task_for};
@@ -14,11 +15,13 @@ use cert_text::{Certificate, Claim};
 use notes::Note;
 use plain_search::{Outcome, search};
 use problem_gen::problem_of;
+use problem_lines::Lines;
 use search_gate::{Expansions, OpenGate};
 use search_pool::{SearchEnd, search_alone};
-use shogi_rules::Problem;
+use sfen_text::read_sfen;
+use shogi_rules::{Problem, accept_problem};
 use std::alloc::Global;
-use std::io;
+use std::io::{self, Read};
 use unit_desk::Settings;
 
 const PROBLEMS: u64 = 50;
@@ -28,6 +31,7 @@ const EXPANSIONS: u64 = 20_000;
 // How many problems each search decided, how many both did, and of how many of these the verdicts differ.
 #[derive(Clone, Copy)]
 struct Counts {
+    problems: u64,
     by_proof_numbers: u64,
     by_levels: u64,
     by_both: u64,
@@ -35,7 +39,18 @@ struct Counts {
 }
 
 impl Counts {
+    fn none() -> Counts {
+        Counts {
+            problems: 0,
+            by_proof_numbers: 0,
+            by_levels: 0,
+            by_both: 0,
+            differ: 0,
+        }
+    }
+
     fn count(&mut self, by_proof_numbers: Option<Claim>, by_levels: Option<Claim>) {
+        self.problems = self.problems.wrapping_add(1);
         if by_proof_numbers.is_some() {
             self.by_proof_numbers = self.by_proof_numbers.wrapping_add(1);
         }
@@ -58,23 +73,49 @@ fn main(rt: HostRuntime) -> io::Result<()> {
     ) else {
         return Err(io::Error::from(io::ErrorKind::InvalidInput));
     };
-    let mut counts = Counts {
-        by_proof_numbers: 0,
-        by_levels: 0,
-        by_both: 0,
-        differ: 0,
-    };
-    for number in 0..PROBLEMS {
-        let problem = problem_of(number);
-        counts.count(
-            by_proof_numbers(rt.alloc(), &problem, &settings)?,
-            by_levels(rt.alloc(), &problem, expansions)?,
-        );
+    let alloc = rt.alloc();
+    let mut counts = Counts::none();
+    let mut input = Vec::new(alloc);
+    rt.reader().read_to_end(&mut input)?;
+    let mut lines = Lines::new(&input);
+    while let Some(line) = lines.next() {
+        if let Some(problem) = problem_in(line.content) {
+            compare(alloc, &problem, &settings, expansions, &mut counts)?;
+        }
+    }
+    if input.is_empty() {
+        for number in 0..PROBLEMS {
+            compare(
+                alloc,
+                &problem_of(number),
+                &settings,
+                expansions,
+                &mut counts,
+            )?;
+        }
     }
     println!(rt;
-        "problems {PROBLEMS} df-pn {} plain {} both {} differ {}",
-        counts.by_proof_numbers, counts.by_levels, counts.by_both, counts.differ
+        "problems {} df-pn {} plain {} both {} differ {}",
+        counts.problems, counts.by_proof_numbers, counts.by_levels, counts.by_both, counts.differ
     )
+}
+
+fn problem_in(text: &[u8]) -> Option<Problem> {
+    accept_problem(read_sfen(text).ok()?).ok()
+}
+
+fn compare(
+    alloc: Global,
+    problem: &Problem,
+    settings: &Settings,
+    expansions: Expansions,
+    counts: &mut Counts,
+) -> io::Result<()> {
+    counts.count(
+        by_proof_numbers(alloc, problem, settings)?,
+        by_levels(alloc, problem, expansions)?,
+    );
+    Ok(())
 }
 
 // What a certificate claims, which the checker accepts.

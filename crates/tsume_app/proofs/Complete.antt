@@ -27,7 +27,8 @@ use Rattle.std.specs.Prelude.{MatchResult}
 use Rattle.shogi_rules.specs.declared.problem.Problem.{Problem as GivenProblem}
 use Rattle.app_texts.specs.declared.answer.Answer.TheVariants.{Solved, Judged, Surveyed, Collected, Help}
 use Rattle.tsume_app.specs.Inside.{IsAskedProblem, OneOutcome, ReadsOne}
-use Rattle.tsume_app.specs.Input.{limit_of, IsPositionRead, StandsFor, given_form, searched_board, IsAskedFault, IsJudgedFor}
+use Rattle.problem_answers.specs.Reading.{IsPositionRead, StandsFor, searched_board}
+use Rattle.tsume_app.specs.Input.{limit_of, given_form, IsAskedFault, IsJudgedFor}
 use Rattle.tsume_app.specs.Stops.{Signals}
 use Rattle.tsume_app.specs.Outside.{Shown}
 use Rattle.tsume_app.specs.Run.{IsEnded, IsReadEnded, IsSurveyEnded, IsCollectionEnded, IsShortEnough, IsWellPosed, IsAnswered, WantsMemory}

@@ -1,7 +1,6 @@
 -- What reading, text and work come to.
-use Rattle.std.proofs.Common.{◌≡◌, ◌++◌, ◌⊎◌, [], inl, inr, ℕ, List, Bool, true, false, Option, Some, None, arith, refl, sym, ap, subst, ◌∙◌}
+use Rattle.std.proofs.Common.{◌≡◌, ◌++◌, ◌⊎◌, [], inl, inr, ℕ, List, Option, Some, None, arith, refl, sym, ap, subst, ◌∙◌}
 use Rattle.std.proofs.lemmas.List.{append-nil}
-use Rattle.board_core.specs.Board.{Board, HasDefender}
 use Rattle.tsume_io.specs.Source.{Took, TookAll, TookAtMost}
 use Rattle.clap.specs.Words.{Text as Word}
 use Rattle.tsume_io.specs.Faults.{Rose}
@@ -12,17 +11,11 @@ use Rattle.tsume_app.specs.declared.ended.Ended.{Ended}
 use Rattle.tsume_app.specs.declared.ended.Ended.TheVariants.{Answered, CutShort, Failed}
 use Rattle.app_texts.specs.declared.fault.Fault.{Fault}
 use Rattle.app_texts.specs.declared.fault.Fault.TheVariants.{NotUtf8, Words, Asked, TooLong, Problem, Cert, Read, NoMemory}
-use Rattle.tsume_app.specs.Input.{searched_board}
 use Rattle.tsume_words.specs.Given.Wish.{to_solve, to_check, to_survey, to_collect}
 use Rattle.tsume_app.specs.Inside.{HasWritten, IsReadFault, ReadsOne}
 use Rattle.tsume_app.specs.Stops.{Signals}
 use Rattle.tsume_app.specs.Outside.{Shown, IsUntouched}
 use Rattle.tsume_app.specs.Run.{IsReadWhole, IsDecided, HasCause, IsCollectionEnded, IsEnded, IsReadEnded, IsEndedUnasked, GivesHelp, WantsMemory}
-
--- the side not to move has a king still with the rest in hand
-pub searched_has_king : (rest : Bool) (p : Board) → HasDefender p → HasDefender (searched_board rest p)
-searched_has_king true p h = h
-searched_has_king false p h = h
 
 -- all that was left was taken from its front
 all_took : (left left_after : Option (List ℕ)) (input : List ℕ) → TookAll left left_after input → Took left left_after input

@@ -1,5 +1,5 @@
 -- How far a collection has come, line by line.
-use Rattle.std.proofs.Common.{◌≡◌, ◌<◌, ◌+◌, ◌++◌, ◌⊎◌, [], ◌∷◌, inl, inr, ℕ, List, Option, Some, None, length, take, arith, refl, sym, ap, subst, ◌∙◌}
+use Rattle.std.proofs.Common.{◌≡◌, ◌+◌, ◌++◌, [], ◌∷◌, inl, inr, ℕ, List, Option, Some, None, MatchOption, length, take, arith, refl, sym, ap, subst, ◌∙◌}
 use Rattle.std.proofs.lemmas.List.{append-nil, append_assoc, length-append}
 use Rattle.std.proofs.Math.Seq.{take-append-add}
 use Rattle.tsume_io.specs.Faults.{Rose}
@@ -12,12 +12,15 @@ use Rattle.app_texts.specs.declared.answer.Answer.TheVariants.{Collected}
 use Rattle.app_texts.specs.Counts.{AreCountsOf}
 use Rattle.app_texts.specs.Reports.{report_text}
 use Rattle.app_texts.specs.Texts.{answer_text}
-use Rattle.problem_lines.specs.Lines.{NumberedLine, problem_lines}
+use Rattle.problem_lines.specs.Lines.{NumberedLine, problem_lines, seen}
+use Rattle.problem_answers.specs.declared.reports.Reported.{Reported}
+use Rattle.problem_answers.specs.Coming.{Coming, IsNext}
 use Rattle.tsume_app.specs.declared.ended.Ended.{Ended}
 use Rattle.tsume_app.specs.declared.ended.Ended.TheVariants.{Answered, CutShort, Failed}
 use Rattle.tsume_app.specs.Inside.{AreSoFar, HasWritten, IsLineTold}
-use Rattle.tsume_app.specs.Outside.{Shown, NeverFailed}
-use Rattle.tsume_app.specs.Reports.{AreReported, AreTrueReports, IsTrueReport, reports_text}
+use Rattle.tsume_app.specs.Outside.{Shown}
+use Rattle.problem_answers.specs.Reports.{IsTrueReport}
+use Rattle.tsume_app.specs.Reports.{AreReported, AreTrueReports, reports_text}
 use Rattle.app_texts.specs.declared.answer.Answer.{Answer}
 use Rattle.app_texts.specs.declared.fault.Fault.{Fault}
 use Rattle.app_texts.specs.declared.fault.Fault.TheVariants.{NoMemory}
@@ -96,6 +99,34 @@ so_far_more settings form all others left line told now after f g h counts more 
   grew = grew_more told now after are.text text are.grew grew;
   kept = same ∙ are.kept;
 }
+
+-- What is next where a report is, and where none is.
+pub next_is : (o : Option Reported) (reported : Reported) (before after : Coming) → o ≡ Some reported
+    → MatchOption o ((before.lines ≡ []) × (after ≡ before)) (λ one. IsNext before (seen one.line) one.report after) → IsNext before (seen reported.line) reported.report after
+next_is o reported before after is next =
+    subst (λ (x : Option Reported). MatchOption x ((before.lines ≡ []) × (after ≡ before)) (λ one. IsNext before (seen one.line) one.report after)) is next
+
+pub none_is : (o : Option Reported) (before after : Coming) → o ≡ None
+    → MatchOption o ((before.lines ≡ []) × (after ≡ before)) (λ one. IsNext before (seen one.line) one.report after) → before.lines ≡ []
+none_is o before after is next =
+    (subst (λ (x : Option Reported). MatchOption x ((before.lines ≡ []) × (after ≡ before)) (λ one. IsNext before (seen one.line) one.report after)) is next).0
+
+-- The next report is true by the settings and in the form.
+pub told_by : (settings : SettingsView) (form : CollectionView) (before after : Coming) (line : NumberedLine) (report : Report) → IsNext before line report after
+    → before.settings ≡ settings → before.form ≡ form → IsTrueReport settings form line report
+told_by settings form before after line report next s f =
+    subst (λ (x : SettingsView). IsTrueReport x form line report) s (subst (λ (x : CollectionView). IsTrueReport before.settings x line report) f next.true_of)
+
+-- One more line is decided, and told, and the others are still to come.
+pub so_far_next : (settings : SettingsView) (form : CollectionView) (all : List NumberedLine) (before after : Coming) (line : NumberedLine) (report : Report)
+    (told now then : Option (List ℕ)) (f g h : ℕ) (counts more : Counts) (text : List ℕ) → AreSoFar settings form all before.lines (between told f now g) counts
+    → before.settings ≡ settings → before.form ≡ form → IsNext before line report after → IsLineTold settings form line counts more text → GrewBy now then text → h ≡ g
+    → AreSoFar settings form all after.lines (between told f then h) more × (after.settings ≡ settings) × (after.form ≡ form)
+so_far_next settings form all before after line report told now then f g h counts more text are s e next told_one grew same = (
+  so_far_more settings form all before.lines after.lines line told now then f g h counts more text are next.first told_one grew same,
+  next.settings ∙ s,
+  next.form ∙ e,
+)
 
 -- Memory was wanted.
 pub so_far_wanted : (settings : SettingsView) (form : CollectionView) (input : List ℕ) (source : Shown) (others : List NumberedLine) (sink : Shown) (counts : Counts)

@@ -24,7 +24,9 @@ use Rattle.tsume_app.specs.declared.ended.Ended.{Ended}
 use Rattle.tsume_app.specs.declared.ended.Ended.TheVariants.{Answered, CutShort, Failed}
 use Rattle.tsume_app.specs.Answer.{IsGivenUp}
 use Rattle.tsume_app.specs.Stops.{Signals}
-use Rattle.tsume_app.specs.Input.{search_numbers, StandsFor, IsJudgedFor}
+use Rattle.problem_answers.specs.Answer.{search_numbers}
+use Rattle.problem_answers.specs.Reading.{StandsFor}
+use Rattle.tsume_app.specs.Input.{IsJudgedFor}
 
 -- The words ask to solve a problem of this form.
 abbrev pub AsksToSolve : ProblemForm → List Word → Type 0

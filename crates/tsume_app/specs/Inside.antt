@@ -14,14 +14,16 @@ use Rattle.app_texts.specs.Texts.{answer_text}
 use Rattle.board_core.specs.Board.{Board}
 use Rattle.tsume_words.specs.declared.form.Format.{Format}
 use Rattle.app_texts.specs.declared.fault.ProblemFault.{ProblemFault}
-use Rattle.tsume_app.specs.Input.{given_form, IsPositionRead, StandsFor}
+use Rattle.problem_answers.specs.Reading.{IsPositionRead, StandsFor}
+use Rattle.tsume_app.specs.Input.{given_form}
 use Rattle.tsume_app.specs.Outside.{Shown, NeverFailed, IsUntouched}
 use Rattle.app_texts.specs.declared.counts.Counts.{Counts}
 use Rattle.app_texts.specs.declared.report.Report.{Report}
 use Rattle.app_texts.specs.Counts.{AreCountsOf}
 use Rattle.app_texts.specs.Reports.{report_text}
 use Rattle.problem_lines.specs.Lines.{NumberedLine}
-use Rattle.tsume_app.specs.Reports.{AreReported, IsTrueReport}
+use Rattle.problem_answers.specs.Reports.{IsTrueReport}
+use Rattle.tsume_app.specs.Reports.{AreReported}
 
 -- A source's count of faults is as it was, unless reading failed.
 abbrev pub IsReadCounted : Shown → Fault → Type 0

@@ -23,7 +23,9 @@ use Rattle.tsume_app.specs.declared.ended.Ended.{Ended}
 use Rattle.tsume_app.specs.declared.ended.Ended.TheVariants.{Answered, CutShort, Failed}
 use Rattle.app_texts.specs.Texts.{answer_text}
 use Rattle.tsume_app.specs.Answer.{IsTrueOf, IsTrueOfCertificate}
-use Rattle.tsume_app.specs.Input.{limit_of, search_numbers, given_form, StandsFor, IsAskedFault, IsJudgedFor}
+use Rattle.problem_answers.specs.Answer.{search_numbers}
+use Rattle.problem_answers.specs.Reading.{StandsFor}
+use Rattle.tsume_app.specs.Input.{limit_of, given_form, IsAskedFault, IsJudgedFor}
 use Rattle.app_texts.specs.declared.counts.Counts.{Counts}
 use Rattle.app_texts.specs.declared.tallies.Summary.{Summary}
 use Rattle.survey.specs.Tally.{AreTallied}

@@ -15,7 +15,7 @@ pub enum Ended {
     /// With an answer that stands, though the sink failed: it kept a part of the answer's text.
     CutShort(Answer),
     /// Without an answer: its fault, and the bytes of the input, all of them where its text is at fault. Where the input wasn't read
-    /// whole there are none; for want of memory all or none. Nothing was written.
+    /// whole there are none; for want of memory all or none. Nothing was written, but of a collection, for want of memory, whole reports.
     Failed(Fault, Input),
 }
 

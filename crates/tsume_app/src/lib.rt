@@ -4,7 +4,6 @@
 //! certificate that the checker accepts; and every answer that is no verdict comes only for its stated cause.
 #![tactic(auto)]
 
-mod collecting;
 mod ended;
 mod exit;
 mod input;

@@ -1,19 +1,20 @@
 // How commands over many problems end.
-ghost use Rattle.std.specs.Prelude.{◌≡◌, ◌<◌, ◌+◌, ◌^◌, ◌++◌, ◌⊎◌, ◌∷◌, [], List, IfOk, MatchResult};
+ghost use Rattle.std.specs.Prelude.{◌≡◌, ◌<◌, ◌+◌, IfOk};
+ghost use Rattle.tsume_words.specs.Given.{SettingsView};
 ghost use Rattle.tsume_words.specs.Given.Wish.{to_collect};
 ghost use Rattle.tsume_words.specs.Meaning.{settings_in, survey_in, collection_in};
-ghost use Rattle.problem_lines.specs.Lines.{problem_lines, seen};
+ghost use Rattle.app_texts.specs.Reports.{HasReportLine};
+ghost use Rattle.problem_lines.specs.Lines.{seen};
+ghost use Rattle.problem_answers.specs.Reports.{IsTrueReport};
 ghost use Rattle.tsume_app.specs.Inside.{IsLineTold};
 ghost use Rattle.tsume_app.specs.Outside.{NeverFailed, Shown, shown};
 ghost use Rattle.tsume_app.specs.Run.{IsCounted, IsCollectionEnded, IsReadWhole, IsSurvey, IsSurveyEnded};
 
-use crate::collecting::report_on;
 use crate::ended::Ended;
 use crate::input::{Input, MOST_COLLECTION_BYTES};
 use crate::program::{read_input, write_answer};
 use app_texts::{Answer, Counts, Fault, Summary, Tallies, append_report};
-use problem_lines::{Line, Lines};
-use search_pool::Table;
+use problem_answers::{Reported, Reports};
 use std::alloc::{AllocError, Global};
 use std::thread::Threads;
 use survey::survey;
@@ -54,27 +55,32 @@ pub(crate) fn survey_ended<R: Threads + Sync, K: Sink>(
 // The text of a line's report, which is counted. Errors: want of memory alone.
 fn line_text(
     alloc: Global,
-    table: &mut Table,
-    line: &Line<'_>,
-    settings: &Settings,
+    reported: &Reported<'_>,
     form: &CollectionForm,
     counts: &mut Counts,
 ) -> Result<Vec<u8>, AllocError>
-    ensures { IfOk result (λ text. IsLineTold (settings_in settings.now) (collection_in form.now) (seen line.now) counts.old counts.new text.items) }
+    requires { HasReportLine reported.now.report }
+    ensures { (settings : SettingsView) → IsTrueReport settings (collection_in form.now) (seen reported.now.line) reported.now.report
+        → IfOk result (λ text. IsLineTold settings (collection_in form.now) (seen reported.now.line) counts.old counts.new text.items) }
 {
     // There are no more lines than bytes, so the counts never get there.
     if counts.problems() == u64::MAX {
         return Err(AllocError);
     }
-    let report = report_on(alloc, table, line, settings, form)?;
     let mut text = Vec::new(alloc);
-    append_report(&mut text, line.number, &report, form.certificates)?;
-    counts.add(&report);
+    append_report(
+        &mut text,
+        reported.line.number,
+        &reported.report,
+        form.certificates,
+    )?;
+    counts.add(&reported.report);
     Ok(text)
 }
 
-// Decides the lines of a collection one by one, and writes each report as soon as it is known, and the counts behind the last.
-fn collected<K: Sink>(
+// Decides the lines of a collection, many at a time, and writes each report in their order once it is known, and the counts behind the last.
+fn collected<R: Threads + Sync, K: Sink>(
+    rt: &R,
     alloc: Global,
     input: &[u8],
     settings: &Settings,
@@ -85,23 +91,30 @@ fn collected<K: Sink>(
         → IsCollectionEnded (settings_in settings.now) (collection_in form.now) source (shown K.kept K.faults sink.old sink.new) result }
     ensures counted { (source : Shown) → NeverFailed source → IsCounted source (shown K.kept K.faults sink.old sink.new) result }
 {
-    let mut lines = Lines::new(input);
-    let mut table = Table::new();
+    let Ok(mut reports) = Reports::new(rt, alloc, input, settings, form) else {
+        return Ended::Failed(Fault::NoMemory, Input::none(alloc));
+    };
     let mut counts = Counts::none();
-    while let Some(line) = lines.next() {
-        let Ok(text) = line_text(alloc, &mut table, &line, settings, form, &mut counts) else {
+    loop {
+        let Ok(next) = reports.next(rt, alloc) else {
+            return Ended::Failed(Fault::NoMemory, Input::none(alloc));
+        };
+        let Some(reported) = next else {
+            return write_answer(alloc, sink, Answer::Collected(counts));
+        };
+        let Ok(text) = line_text(alloc, &reported, form, &mut counts) else {
             return Ended::Failed(Fault::NoMemory, Input::none(alloc));
         };
         let Ok(()) = write_all(sink, &text) else {
             return Ended::CutShort(Answer::Collected(counts));
         };
     }
-    write_answer(alloc, sink, Answer::Collected(counts))
 }
 
 /// Decides every problem of a collection, and writes what is told of each line in their order, and the counts behind them. The text is read whole
 /// first. A line that is no problem doesn't end the run.
-pub(crate) fn collection_ended<S: Source, K: Sink>(
+pub(crate) fn collection_ended<R: Threads + Sync, S: Source, K: Sink>(
+    rt: &R,
     alloc: Global,
     settings: &Settings,
     form: &CollectionForm,
@@ -113,7 +126,7 @@ pub(crate) fn collection_ended<S: Source, K: Sink>(
     ensures counted { IsCounted (shown S.left S.faults source.old source.new) (shown K.kept K.faults sink.old sink.new) result }
 {
     match read_input(alloc, MOST_COLLECTION_BYTES, source) {
-        Ok(input) => collected(alloc, &input, settings, form, sink),
+        Ok(input) => collected(rt, alloc, &input, settings, form, sink),
         Err(fault) => Ended::Failed(fault, Input::none(alloc)),
     }
 }

@@ -29,9 +29,10 @@ use crate::ended::Ended;
 use crate::input::{Input, MOST_CERTIFICATE_BYTES, MOST_COLLECTION_BYTES, MOST_PROBLEM_BYTES};
 use crate::judgement::judge_input;
 use crate::many::{collection_ended, survey_ended};
-use crate::solution::{read_problem, solve_input};
+use crate::solution::solve_input;
 use app_texts::{Answer, Fault, Judgement, ProblemFault, Solution, answer_text};
 use kif_text::kif_laws;
+use problem_answers::read_problem;
 use search_gate::{Gate, Stop};
 use sfen_text::sfen_laws;
 use shogi_rules::Problem;
@@ -202,7 +203,7 @@ fn command_ended<R: Threads + Sync, S: Source, K: Sink, G: Gate, T: Stop>(
     match command {
         Command::Survey { range } => survey_ended(rt, alloc, range, sink),
         Command::Collection { settings, form } => {
-            collection_ended(alloc, settings, form, source, sink)
+            collection_ended(rt, alloc, settings, form, source, sink)
         }
         Command::Solve { .. } | Command::Check { .. } => {
             read_ended(alloc, command, &asked, source, sink, gate, stops)
@@ -304,7 +305,7 @@ pub fn told_limit(alloc: Global, words: &[String]) -> Result<Option<u64>, AllocE
 /// is then given all pieces but kings that are neither on the board nor in a hand. It writes to the sink the USI answer that the problem is a mate, with a main line, or that it is
 /// none, and the certificate; or, where a limit was used up first or a stop was signalled, that it was given up. `check` reads a certificate,
 /// perhaps behind the line of the USI answer, and writes whether it is valid for its own problem, or for the one that `--problem` gives
-/// (SFEN), or the first reason why it isn't; a certificate about another problem doesn't list it. Positions are compared, and not texts.
+/// (SFEN), or the first reason why it isn't; a certificate of another problem isn't valid for it. Positions are compared, and not texts.
 /// A `--problem` that is none refuses the words, before anything is read.
 ///
 /// `survey` reads nothing: it decides the problems that the generator makes of a range of numbers, over threads, and writes how many are mates, have

@@ -1,9 +1,9 @@
 // Whole runs over a source and a sink in memory.
-ghost use Rattle.std.specs.Prelude.{◌≡◌, IfOk, vec_len};
+ghost use Rattle.std.specs.Prelude.{◌≡◌, IfOk, length, vec_len};
 ghost use Rattle.tsume_words.specs.declared.settings.TheConstants.{MOST_WORKERS};
 
 use crate::{Ended, named_file, run, run_and_tell};
-use search_gate::{Gate, MemStop, OpenGate};
+use search_gate::{Clock, DeadlineStop, Gate, MemStop, OpenGate, Stop};
 use std::alloc::{AllocError, Global};
 use std::process::Abort;
 use std::sync::atomic::{AtomicU64, Ordering};
@@ -78,6 +78,21 @@ fn seen_until<R: Threads + AllocGlobal + Sync>(
     sink: (usize, u64),
     poll: u64,
 ) -> Result<Seen, Fail> {
+    let mut stops = stops_at(rt.alloc(), poll)?;
+    seen_by(rt, line, input, source, sink, &mut stops)
+}
+
+// The same, with these stops.
+fn seen_by<R: Threads + AllocGlobal + Sync, T: Stop>(
+    rt: &R,
+    line: &str,
+    input: &str,
+    source: (usize, u64),
+    sink: (usize, u64),
+    stops: &mut [T],
+) -> Result<Seen, Fail>
+    requires { length stops.old ≡ MOST_WORKERS }
+{
     if source.0 == 0 || sink.0 == 0 {
         return Err(Fail::from("no piece"));
     }
@@ -86,8 +101,7 @@ fn seen_until<R: Threads + AllocGlobal + Sync>(
     let bytes = Vec::from_slice(alloc, input.as_bytes())?;
     let mut from = MemSource::make(bytes, source.0, Vec::from_slice(alloc, &[source.1])?);
     let mut to = MemSink::make(alloc, 65_536, sink.0, Vec::from_slice(alloc, &[sink.1])?)?;
-    let mut stops = stops_at(alloc, poll)?;
-    let ended = run(rt, alloc, words, &mut from, &mut to, &OpenGate, &mut stops);
+    let ended = run(rt, alloc, words, &mut from, &mut to, &OpenGate, stops);
     Ok(Seen {
         status: ended.status(),
         answered: has_answer(&ended),
@@ -681,27 +695,79 @@ fn many_problems_are_told_line_by_line(rt: HostRuntime) -> Result<(), Fail> {
 
 #[test]
 fn a_collection_that_is_cut_short_has_kept_a_prefix(rt: HostRuntime) -> Result<(), Fail> {
-    // The call at which the sink fails, and how much it has kept: pieces of 11 bytes, and the ends of lines.
-    let table = [
-        (1, 0),
-        (2, 11),
-        (3, 12),
-        (4, 23),
-        (5, 34),
-        (6, 45),
-        (8, 57),
-        (12, 101),
-    ];
-    for (call, kept) in table {
+    // How much the sink has kept when it fails at its first call, its second, and so on: pieces of 11 bytes, and the ends of lines.
+    let kept = [0, 11, 12, 23, 34, 45, 56, 57, 68, 79, 90, 101];
+    for (calls, kept) in kept.into_iter().enumerate() {
+        let call = calls as u64 + 1;
         let seen = seen_of(&rt, "collection", MANY, (7, 0), (11, call))?;
         assert_eq!(rt; seen.status, 5, "{call}");
         assert!(rt; seen.answered, "{call}");
         assert_eq!(rt; seen.kept.len(), kept, "{call}");
         assert!(rt; MANY_TEXT.as_bytes().starts_with(&seen.kept), "{call}");
     }
-    let seen = seen_of(&rt, "collection", MANY, (7, 3), (11, 0))?;
-    assert_eq!(rt; seen.status, 4);
-    assert!(rt; seen.kept.is_empty());
+    let reads = MANY.len().div_ceil(7) as u64;
+    for call in 1..=reads + 1 {
+        let seen = seen_of(&rt, "collection", MANY, (7, call), (11, 0))?;
+        assert_eq!(rt; seen.status, 4, "{call}");
+        assert!(rt; seen.kept.is_empty(), "{call}");
+    }
+    Ok(())
+}
+
+// A clock that shows a millisecond more each time it is read.
+#[derive(Drop)]
+struct TickingClock {
+    shown: u64,
+}
+
+impl Clock for TickingClock {
+    ghost answered = { λ clock. clock.shown };
+
+    fn now(&mut self) -> u64 {
+        self.shown = self.shown.saturating_add(1);
+        self.shown
+    }
+}
+
+// A stop for each worker that there may be, by a clock of its own.
+fn deadlines(alloc: Global) -> Result<Vec<DeadlineStop<TickingClock>>, AllocError>
+    ensures { IfOk result (λ stops. vec_len stops ≡ MOST_WORKERS) }
+{
+    let mut stops = Vec::new(alloc);
+    for _ in 0..MOST_WORKERS {
+        stops.push(DeadlineStop::new(TickingClock { shown: 0 }))?;
+    }
+    Ok(stops)
+}
+
+#[test]
+fn a_deadline_counts_from_when_the_search_begins(rt: HostRuntime) -> Result<(), Fail> {
+    // Words, and the status and what is kept: the clock is read when the stop is armed and at each poll, once before each unit.
+    let table = [
+        (
+            "solve --deadline 1",
+            1,
+            "checkmate timeout\nunknown stopped\n",
+        ),
+        (
+            "solve --deadline 2 --expansions 1",
+            1,
+            "checkmate timeout\nunknown stopped\n",
+        ),
+        (
+            "solve --deadline 3 --expansions 1",
+            1,
+            "checkmate timeout\nunknown expansions 1\n",
+        ),
+        ("solve --deadline 86400000", 0, TWO_ROOKS_TEXT),
+        ("solve", 0, TWO_ROOKS_TEXT),
+    ];
+    for (words, status, kept) in table {
+        let mut stops = deadlines(rt.alloc())?;
+        let seen = seen_by(&rt, words, TWO_ROOKS, (7, 0), (11, 0), &mut stops)?;
+        assert_eq!(rt; seen.status, status, "{words}");
+        assert!(rt; seen.kept.as_slice() == kept.as_bytes(), "{words}");
+    }
     Ok(())
 }
 

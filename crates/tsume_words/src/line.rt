@@ -151,8 +151,13 @@ fn threads_option<'a>(alloc: Global) -> Arg<'a>
         .action(ArgAction::Set)
         .value_name("N")
         .value_parser(ValueParser::unsigned(1, MOST_THREADS))
-        .help("Problems that are decided side by side (1 to 64)")
-        .hide(true)
+        .help(
+            "Problems that are decided side by side, 1 to 64; where\n\
+             nothing is said, as many as there are processors. It\n\
+             changes no byte of the output. Each takes the memory\n\
+             of a search: a table of so many rows, 64 MB where\n\
+             nothing is said of them, and its notes",
+        )
 }
 
 fn certificates_flag<'a>(alloc: Global) -> Arg<'a>

@@ -375,13 +375,13 @@ static HELPED: [(&str, &str); 27] = [
     ),
     (
         "collection -h",
-        "\n      --certificates    Print the certificate of each mate and each no mate\n",
+        "\n      --threads <N>     Problems that are decided side by side, 1 to 64; where\n                        nothing is said, as many as there are processors. It\n",
     ),
     ("check --help", "-h, --help            Print help\n"),
 ];
 
 // What has no effect yet, and isn't shown.
-static HIDDEN: [&str; 3] = ["--workers", "--shards", "--threads"];
+static HIDDEN: [&str; 2] = ["--workers", "--shards"];
 
 fn words_of(alloc: Global, line: &str) -> Result<Vec<String>, AllocError> {
     let mut words = Vec::new(alloc);

@@ -1,10 +1,10 @@
 use Rattle.std.proofs.Common.{Some, refl, sym, subst}
-use Rattle.tsume_words.specs.Meaning.{wish_of, survey_in, settings_in, collection_in}
+use Rattle.tsume_words.specs.Meaning.{wish_of, survey_in}
 use Rattle.tsume_words.specs.declared.command.Command.{Command}
 use Rattle.tsume_app.specs.Outside.{shown}
 use Rattle.tsume_app.specs.Stops.{deadline_in, signals}
 use Rattle.tsume_app.specs.Run.{IsEnded}
-use Rattle.tsume_app.proofs.Armed.{unused_survey, unused_collection}
+use Rattle.tsume_app.proofs.Armed.{unused_survey}
 use Rattle.tsume_app.proofs.program.command_ended.Goals as goal
 
 pub returns-in-Survey-clause-used : goal.returns-in-Survey-clause-used

@@ -5,7 +5,7 @@ use Rattle.unit_desk.specs.Settings.{settings_in as numbers_in}
 use Rattle.search_pool.specs.End.{IsAloneUntil}
 use Rattle.search_pool.specs.declared.end.SearchEnd.{SearchEnd}
 use Rattle.search_pool.specs.declared.end.SearchEnd.TheVariants.{Solved}
-use Rattle.tsume_app.specs.Input.{search_numbers}
+use Rattle.problem_answers.specs.Answer.{search_numbers}
 use Rattle.tsume_app.specs.Stops.{first_of, signals}
 use Rattle.tsume_app.proofs.Verdict.{found_of}
 use Rattle.tsume_app.proofs.solution.solution_of.Goals as goal

@@ -1,0 +1,15 @@
+use Rattle.std.proofs.Common.{refl}
+use Rattle.cert_text.specs.declared.certificate.Certificate.TheVariants as certificates
+use Rattle.problem_answers.proofs.solution.no_mate.Goals as goal
+
+pub returns-clause-shown : goal.returns-clause-shown
+returns-clause-shown c =
+    let escape = certificates.Escape c.args.certificate in
+    let p = c.args.problem.now.position in (
+      refl,
+      record {
+        no_mate = (c.valid_is_accepted.ensures.shows escape p c.laws.ensures.kept c.requires).no_mate;
+        valid = c.requires;
+        accepted = λ verdict is. c.valid_is_accepted.ensures.accepted escape p verdict is c.requires;
+      },
+    )

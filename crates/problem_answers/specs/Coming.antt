@@ -1,0 +1,21 @@
+-- The reports on a collection's lines, one after another.
+use Rattle.std.specs.Prelude.{◌≡◌, List, ◌∷◌}
+use Rattle.tsume_words.specs.Given.{SettingsView, CollectionView}
+use Rattle.app_texts.specs.declared.report.Report.{Report}
+use Rattle.app_texts.specs.Reports.{HasReportLine}
+use Rattle.problem_lines.specs.Lines.{NumberedLine}
+use Rattle.problem_answers.specs.Reports.{IsTrueReport}
+
+-- Reports that are still to come: with which settings and in which form they are made, and the lines that they are on.
+pub record Coming : Type 0 where
+  pub settings : SettingsView
+  pub form : CollectionView
+  pub lines : List NumberedLine
+
+-- A report is on the first line that was left, and true of it; the others are still to come.
+pub record IsNext (before : Coming) (line : NumberedLine) (report : Report) (after : Coming) : Type 0 where
+  pub first : before.lines ≡ line ∷ after.lines
+  pub true_of : IsTrueReport before.settings before.form line report
+  pub has_line : HasReportLine report
+  pub settings : after.settings ≡ before.settings
+  pub form : after.form ≡ before.form

@@ -1,0 +1,18 @@
+//! What is found of problems: of one, and of the lines of a collection, side by side.
+//!
+//! [`read_problem`] takes a text for the problem that it stands for. A [`verdict`] is what the note says that a search ended with, with
+//! the certificate that is extracted from it. [`Reports`] goes over the lines of a collection: a search of its own decides each, many at
+//! a time over threads, and the reports come in the order of the lines.
+#![tactic(auto)]
+
+mod problem;
+mod report;
+mod reports;
+mod seat;
+mod solution;
+#[cfg(test)]
+mod tests;
+
+pub use problem::read_problem;
+pub use reports::{Reported, Reports};
+pub use solution::{search_settings, verdict};

@@ -1,0 +1,193 @@
+// The reports on the lines of a collection, one after another.
+ghost use Rattle.std.specs.Prelude.{◌≡◌, ◌<◌, ◌++◌, [], IsTrue, All, IfOk, OnOk, MatchOption, length, map, vec_len};
+ghost use Rattle.tsume_words.specs.Meaning.{settings_in, collection_in};
+ghost use Rattle.problem_lines.specs.Lines.{problem_lines, seen};
+ghost use Rattle.problem_answers.specs.Coming.{Coming, IsNext};
+ghost use Rattle.problem_answers.specs.Inside.{IsReportOn};
+
+use crate::seat::{Seat, decide_apart, in_order};
+use app_texts::Report;
+use problem_lines::{Line, Lines};
+use std::alloc::{AllocError, Global};
+use std::collections::VecDeque;
+use std::marker::Model;
+use std::thread::{self, Threads};
+use tsume_words::{CollectionForm, MOST_THREADS, Settings};
+
+// How many lines of a stretch there are for each thread.
+const LINES_A_THREAD: usize = 32;
+
+/// A line of a collection, and what is told of it.
+#[derive(Drop)]
+pub struct Reported<'a> {
+    /// The line.
+    pub line: Line<'a>,
+    /// What is told of it: what the search of its problem came to, or why it holds none.
+    pub report: Report,
+}
+
+/// Goes over the lines of a collection that hold problems, and gives what is told of each. The problems of a stretch of lines are decided
+/// side by side, as many at a time as there are threads, each by a search of its own with one worker; that changes no report. Contracts see
+/// the settings, the form, and the lines that are still to come.
+#[derive(Drop)]
+pub struct Reports<'a> {
+    lines: Lines<'a>,
+    // What was found ahead, in the order of the lines.
+    ahead: VecDeque<Reported<'a>>,
+    seats: Vec<Seat>,
+    settings: Settings,
+    form: CollectionForm,
+}
+
+impl<'a> Model for Reports<'a> {
+    ghost use Rattle.std.specs.Prelude.{◌<◌, ◌++◌, All, map, vec_len};
+    ghost use Rattle.tsume_words.specs.Meaning.{settings_in, collection_in};
+    ghost use Rattle.problem_lines.specs.Lines.{seen};
+    ghost use Rattle.problem_answers.specs.Coming.{Coming};
+    ghost use Rattle.problem_answers.specs.Inside.{IsReportOn};
+
+    ghost Value = { Coming };
+
+    ghost view = { λ r. record { settings = settings_in r.settings; form = collection_in r.form; lines = map (λ one. seen one.line) r.ahead.items ++ r.lines } };
+
+    ghost invariant = { λ r. (0 < vec_len r.seats)
+        × All (λ one. IsReportOn (settings_in r.settings) (collection_in r.form) one.line one.report) r.ahead.items };
+}
+
+// As many threads as the words say, or else as there are processors, and one where that isn't known.
+fn threads_for<R: Threads>(rt: &R, form: &CollectionForm) -> usize
+    ensures { 0 < result }
+{
+    let most = MOST_THREADS as usize;
+    match form.threads {
+        Some(threads) => threads as usize,
+        None => match thread::available_parallelism(rt) {
+            Ok(count) => count.get().min(most),
+            Err(_) => 1,
+        },
+    }
+}
+
+fn seats(alloc: Global, count: usize) -> Result<Vec<Seat>, AllocError>
+    ensures { IfOk result (λ seats. vec_len seats ≡ count) }
+{
+    let mut seats = Vec::with_capacity(alloc, count)?;
+    for _ in 0..count {
+        seats.push(Seat::new(alloc))?;
+    }
+    Ok(seats)
+}
+
+// The next lines, as many as there are up to this number, which is none only where there are none left.
+fn stretch<'a>(
+    alloc: Global,
+    lines: &mut Lines<'a>,
+    most: usize,
+) -> Result<Vec<Line<'a>>, AllocError>
+    requires { 0 < most }
+    ensures parts { IfOk result (λ stretch. lines.old ≡ map seen stretch.items ++ lines.new) }
+    ensures whole { IfOk result (λ stretch. stretch.items ≡ [] → lines.new ≡ []) }
+{
+    let mut stretch = Vec::new(alloc);
+    for _ in 0..most {
+        let Some(line) = lines.next() else {
+            break;
+        };
+        stretch.push(line)?;
+    }
+    Ok(stretch)
+}
+
+// The reports on lines, in their order.
+fn decided<'a, R: Threads + Sync>(
+    rt: &R,
+    alloc: Global,
+    seats: &mut [Seat],
+    lines: &[Line<'a>],
+    settings: &Settings,
+    form: &CollectionForm,
+) -> Result<VecDeque<Reported<'a>>, AllocError>
+    requires { 0 < length seats.old }
+    ensures seats { length seats.new ≡ length seats.old }
+    ensures lines { IfOk result (λ all. map (λ one. one.line) all.items ≡ lines.now) }
+    ensures reports { IfOk result (λ all. All (λ one. IsReportOn (settings_in settings.now) (collection_in form.now) one.line one.report) all.items) }
+{
+    let mut slots = decide_apart(rt, alloc, seats, lines, settings, form)?;
+    in_order(alloc, &mut seats[0], lines, &mut slots, settings, form)
+}
+
+fn has_none(ahead: &VecDeque<Reported<'_>>) -> bool
+    ensures none { IsTrue result → ahead.now.items ≡ [] }
+    ensures some { ahead.now.items ≡ [] → IsTrue result }
+{
+    ahead.is_empty()
+}
+
+// Has reports ahead where none are: those on the next lines, where there are any left.
+fn refill<'a, R: Threads + Sync>(
+    rt: &R,
+    alloc: Global,
+    lines: &mut Lines<'a>,
+    ahead: &mut VecDeque<Reported<'a>>,
+    seats: &mut [Seat],
+    settings: &Settings,
+    form: &CollectionForm,
+) -> Result<(), AllocError>
+    requires seats { 0 < length seats.old }
+    requires reports { All (λ one. IsReportOn (settings_in settings.now) (collection_in form.now) one.line one.report) ahead.old.items }
+    ensures seats { length seats.new ≡ length seats.old }
+    ensures reports { All (λ one. IsReportOn (settings_in settings.now) (collection_in form.now) one.line one.report) ahead.new.items }
+    ensures same { OnOk result (map (λ one. seen one.line) ahead.old.items ++ lines.old ≡ map (λ one. seen one.line) ahead.new.items ++ lines.new) }
+    ensures none { OnOk result (ahead.new.items ≡ [] → lines.new ≡ []) }
+{
+    if !has_none(ahead) {
+        return Ok(());
+    }
+    let most = seats.len().saturating_mul(LINES_A_THREAD);
+    let stretch = stretch(alloc, lines, most)?;
+    *ahead = decided(rt, alloc, seats, &stretch, settings, form)?;
+    Ok(())
+}
+
+impl<'a> Reports<'a> {
+    /// The reports on the lines of a text, made with these settings and in this form. Takes memory for each thread's place alone; the
+    /// tables are made with the first problems. Errors: want of memory alone.
+    pub fn new<R: Threads>(
+        rt: &R,
+        alloc: Global,
+        text: &'a [u8],
+        settings: &Settings,
+        form: &CollectionForm,
+    ) -> Result<Reports<'a>, AllocError>
+        ensures { IfOk result (λ reports. reports ≡ record { settings = settings_in settings.now; form = collection_in form.now; lines = problem_lines text.now }) }
+    {
+        Ok(Reports {
+            lines: Lines::new(text),
+            ahead: VecDeque::new(alloc),
+            seats: seats(alloc, threads_for(rt, form))?,
+            settings: *settings,
+            form: *form,
+        })
+    }
+
+    /// The next line that holds a problem, and what is told of it; none where there is none left. Takes memory for the reports on a
+    /// stretch of lines, and for a table and notes for each thread. Errors: want of memory alone, and then nothing more is to be asked.
+    pub fn next<R: Threads + Sync>(
+        &mut self,
+        rt: &R,
+        alloc: Global,
+    ) -> Result<Option<Reported<'a>>, AllocError>
+        ensures { IfOk result (λ next. MatchOption next ((self.old.lines ≡ []) × (self.new ≡ self.old)) (λ one. IsNext self.old (seen one.line) one.report self.new)) }
+    {
+        refill(
+            rt,
+            alloc,
+            &mut self.lines,
+            &mut self.ahead,
+            &mut self.seats,
+            &self.settings,
+            &self.form,
+        )?;
+        Ok(self.ahead.pop_front())
+    }
+}
