@@ -23,8 +23,8 @@ pub put_report : (s : SettingsView) (f : CollectionView) (lines : List Line) (sl
     → AreReportsAt s f lines slots → IfSome slot (IsReportAt s f lines place) → AreReportsAt s f lines (set slots place slot)
 put_report s f lines slots place slot are one = λ k low. elim (cases_eq k place) [
   | inl same ↦
-    let there : place < length slots = subst (λ (n : ℕ). n < length slots) same (subst (λ (n : ℕ). k < n) (length-set slots place slot) low) in
-    subst (λ (o : Option Report). IfSome o (IsReportAt s f lines k)) (sym (ap (λ (n : ℕ). get_or (set slots place slot) n None) same ∙ get_or-set_same slots place slot None there))
+      let there : place < length slots = subst (λ (n : ℕ). n < length slots) same (subst (λ (n : ℕ). k < n) (length-set slots place slot) low) in
+      subst (λ (o : Option Report). IfSome o (IsReportAt s f lines k)) (sym (ap (λ (n : ℕ). get_or (set slots place slot) n None) same ∙ get_or-set_same slots place slot None there))
       (subst (λ (n : ℕ). IfSome slot (IsReportAt s f lines n)) (sym same) one)
   | inr not ↦ subst (λ (o : Option Report). IfSome o (IsReportAt s f lines k)) (sym (get_or-set_other slots place k slot None not))
       (are k (subst (λ (n : ℕ). k < n) (length-set slots place slot) low))
@@ -76,7 +76,7 @@ pub next_of : (before : Coming) (s : SettingsView) (f : CollectionView) (ahead r
     → before ≡ record { settings = s; form = f; lines = map (λ one. seen one.line) ahead ++ lines } → (ahead ≡ [] → lines ≡ [])
     → All (λ one. IsReportOn s f one.line one.report) ahead → ahead ≡ option_to_list next ++ rest → MatchOption next (ahead ≡ []) (λ one. Unit {0})
     → MatchOption next ((before.lines ≡ []) × (record { settings = s; form = f; lines = map (λ one. seen one.line) rest ++ lines } ≡ before))
-        (λ one. IsNext before (seen one.line) one.report (record { settings = s; form = f; lines = map (λ one. seen one.line) rest ++ lines }))
+    (λ one. IsNext before (seen one.line) one.report (record { settings = s; form = f; lines = map (λ one. seen one.line) rest ++ lines }))
 next_of before s f ahead rest lines None is none all e empty = (
   ap (λ (c : Coming). c.lines) is ∙ (ap (λ (l : List Reported). map (λ one. seen one.line) l ++ lines) empty ∙ none empty),
   ap (λ (l : List Reported). record { settings = s; form = f; lines = map (λ one. seen one.line) l ++ lines }) (sym e) ∙ sym is,

@@ -10,5 +10,5 @@ abbrev pub invariant-loop-at : goal.invariant-loop-at
 invariant-loop-at l = (length l.seats ≡ length l.fn.seats) × (length l.slots ≡ length l.fn.slots)
     × ((k : ℕ) (d : Seat) → l.at ≤ k → slice_index_or l.seats k d ≡ slice_index_or l.fn.seats k d)
     × ((settings : SettingsView) (form : CollectionView) (lines : List Line) → AreReportsAt settings form lines l.fn.slots
-        → ((k : ℕ) (d : Seat) → k < length l.fn.seats → All (λ made. IsReportAt settings form lines made.place made.report) (slice_index_or l.fn.seats k d).made.items)
-        → AreReportsAt settings form lines l.slots)
+    → ((k : ℕ) (d : Seat) → k < length l.fn.seats → All (λ made. IsReportAt settings form lines made.place made.report) (slice_index_or l.fn.seats k d).made.items)
+    → AreReportsAt settings form lines l.slots)
