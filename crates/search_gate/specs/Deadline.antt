@@ -22,6 +22,6 @@ clock_of stop = stop.clock
 abbrev pub end_of : {C : Type 0} → DeadlineStop C → Option ℕ
 end_of stop = stop.end
 
--- How often it signalled, and how it was armed.
+-- How often it was polled and signalled, and how it was armed.
 abbrev pub deadline_signal : {C : Type 0} → DeadlineStop C → Signal
-deadline_signal stop = record { raised = stop.raised; armed = stop.armed; arms = stop.arms }
+deadline_signal stop = record { polls = stop.polls; raised = stop.raised; armed = stop.armed; arms = stop.arms; early = stop.early }

@@ -1,29 +1,30 @@
--- What a stop counts: how often it was signalled, and how often it was armed. A count is of 64 bits and stops at its last value, 2 ^ 64 - 1, where
--- no rise can be told.
-use Rattle.std.specs.Prelude.{◌≡◌, ◌<◌, ◌≤◌, ◌+◌, ◌-◌, ◌^◌, ◌⊎◌, ℕ, min, Option}
-
--- The count rose, or stands at its last value.
-abbrev pub Rose : ℕ → ℕ → Type 0
-Rose before after = (before < after) ⊎ (after ≡ 2 ^ 64 - 1)
+-- What a stop counts: how often it was polled, how often it signalled, and how often it was armed. A count is of 64 bits and stops at its last value,
+-- 2 ^ 64 - 1, where no rise can be told.
+use Rattle.std.specs.Prelude.{◌+◌, ◌-◌, ◌^◌, ℕ, Bool, min, Option, if◌then◌else◌}
 
 -- One more, up to the last value.
 abbrev pub one_more : ℕ → ℕ
 one_more count = min (count + 1) (2 ^ 64 - 1)
 
--- What a stop tells of itself: how often it said that a search is to stop; after how many milliseconds it was last armed to say so, if at all
--- (none before it is armed); and how often it was armed.
+-- What a stop tells of itself: how often it was polled; how often it said then that a search is to stop; after how many milliseconds it was last armed
+-- to say so, if at all (none before it is armed); how often it was armed; and how often it had been polled when it was armed last.
 pub record Signal : Type 0 where
+  pub polls : ℕ
   pub raised : ℕ
   pub armed : Option ℕ
   pub arms : ℕ
+  pub early : ℕ
 
 -- The stop once it is armed, to signal after so many milliseconds, or not by itself.
 abbrev pub armed_with : Signal → Option ℕ → Signal
-armed_with signal after_ms = record { raised = signal.raised; armed = after_ms; arms = one_more signal.arms }
+armed_with signal after_ms = record { polls = signal.polls; raised = signal.raised; armed = after_ms; arms = one_more signal.arms; early = signal.polls }
 
--- The stop once it said that a search is to stop, up to the last value of its count.
-pub record HasSignalled (before after : Signal) : Type 0 where
-  pub rose : Rose before.raised after.raised
-  pub of_64_bits : after.raised ≤ 2 ^ 64 - 1
-  pub armed : after.armed ≡ before.armed
-  pub arms : after.arms ≡ before.arms
+-- The stop once it was polled, and said so whether a search is to stop.
+abbrev pub polled : Signal → Bool → Signal
+polled signal stops = record {
+  polls = one_more signal.polls;
+  raised = if stops then one_more signal.raised else signal.raised;
+  armed = signal.armed;
+  arms = signal.arms;
+  early = signal.early;
+}

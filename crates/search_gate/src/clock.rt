@@ -1,6 +1,6 @@
 // A clock, and the stop that goes by it.
-ghost use Rattle.std.specs.Prelude.{◌≡◌, ◌↔◌, IsTrue, None, false};
-ghost use Rattle.search_gate.specs.Stop.{HasSignalled, armed_with};
+ghost use Rattle.std.specs.Prelude.{◌≡◌, ◌↔◌, IsTrue, None};
+ghost use Rattle.search_gate.specs.Stop.{armed_with, polled};
 ghost use Rattle.search_gate.specs.Deadline.{HasPassed, end_after, clock_of, deadline_signal, end_of};
 
 use crate::Stop;
@@ -23,9 +23,11 @@ pub trait Clock: Send {
 pub struct DeadlineStop<C> {
     clock: C,
     end: Option<u64>,
+    polls: u64,
     raised: u64,
     armed: Option<u64>,
     arms: u64,
+    early: u64,
 }
 
 impl<C: Clock + Drop> DeadlineStop<C> {
@@ -33,14 +35,16 @@ impl<C: Clock + Drop> DeadlineStop<C> {
     pub fn new(clock: C) -> DeadlineStop<C>
         ensures clock { clock_of result ≡ clock }
         ensures end { end_of result ≡ None }
-        ensures signal { deadline_signal result ≡ record { raised = 0; armed = None; arms = 0 } }
+        ensures signal { deadline_signal result ≡ record { polls = 0; raised = 0; armed = None; arms = 0; early = 0 } }
     {
         DeadlineStop {
             clock,
             end: None,
+            polls: 0,
             raised: 0,
             armed: None,
             arms: 0,
+            early: 0,
         }
     }
 }
@@ -62,16 +66,17 @@ impl<C: Clock + Drop> Stop for DeadlineStop<C> {
         };
         self.armed = after_ms;
         self.arms = self.arms.saturating_add(1);
+        self.early = self.polls;
     }
 
     fn poll(&mut self) -> bool
         // As each stop.
-        ensures stopped { IsTrue result → HasSignalled (deadline_signal self.old) (deadline_signal self.new) }
-        ensures quiet { result ≡ false → deadline_signal self.new ≡ deadline_signal self.old }
+        ensures polled { deadline_signal self.new ≡ polled (deadline_signal self.old) result }
         // As this one alone: it signals exactly where an end is set and what the clock answers is at least that.
         ensures passed { IsTrue result ↔ HasPassed (end_of self.old) (C.answered (clock_of self.new)) }
         ensures end { end_of self.new ≡ end_of self.old }
     {
+        self.polls = self.polls.saturating_add(1);
         let Some(end) = self.end else {
             return false;
         };

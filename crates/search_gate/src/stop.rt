@@ -1,13 +1,14 @@
 // Whether a search is to stop.
 ghost use Rattle.std.specs.Prelude.{◌≡◌, ◌↔◌, IsTrue, Contains, None, false};
-ghost use Rattle.search_gate.specs.Stop.{one_more, armed_with, HasSignalled};
+ghost use Rattle.search_gate.specs.Stop.{one_more, armed_with, polled};
 
 /// What tells a worker that it is to stop, a deadline for one. A worker polls it before each unit of work, and nobody else does.
 ///
-/// It tells of itself how often it said so, which never falls and rises only where it does; and how often, and for what, it was armed.
+/// It tells of itself how often it was polled, and how often it said so then; how often, and for what, it was armed; and how often it had been polled when
+/// it was armed last. So its callers can say that it was armed before it was polled, and that it was polled no more once it had signalled.
 pub trait Stop: Send {
-    ghost use Rattle.std.specs.Prelude.{◌≡◌, IsTrue, false};
-    ghost use Rattle.search_gate.specs.Stop.{Signal, armed_with, HasSignalled};
+    ghost use Rattle.std.specs.Prelude.{◌≡◌};
+    ghost use Rattle.search_gate.specs.Stop.{Signal, armed_with, polled};
 
     /// What it tells of itself.
     ghost signal: { Self → Signal };
@@ -16,41 +17,48 @@ pub trait Stop: Send {
     fn arm(&mut self, after_ms: Option<u64>)
         ensures { signal self.new ≡ armed_with (signal self.old) after_ms };
 
-    /// Whether the worker is to stop. Where it says so, its count rose (or stands at its last value); else nothing changed that it tells.
+    /// Whether the worker is to stop. It was polled once more, and where it says so, it signalled once more; nothing else changed that it tells.
     fn poll(&mut self) -> bool
-        ensures stopped { IsTrue result → HasSignalled (signal self.old) (signal self.new) }
-        ensures quiet { result ≡ false → signal self.new ≡ signal self.old };
+        ensures { signal self.new ≡ polled (signal self.old) result };
 }
 
 /// A stop that never signals.
 #[derive(Clone, Copy, Debug, PartialEq, Eq)]
 pub struct QuietStop {
+    polls: u64,
     armed: Option<u64>,
     arms: u64,
+    early: u64,
 }
 
 impl QuietStop {
-    /// It wasn't armed yet.
+    /// It wasn't polled or armed yet.
     pub fn new() -> QuietStop
+        ensures polls { result.polls ≡ 0 }
         ensures armed { result.armed ≡ None }
         ensures arms { result.arms ≡ 0 }
+        ensures early { result.early ≡ 0 }
     {
         QuietStop {
+            polls: 0,
             armed: None,
             arms: 0,
+            early: 0,
         }
     }
 }
 
 impl Stop for QuietStop {
-    ghost signal = { λ s. record { raised = 0; armed = s.armed; arms = s.arms } };
+    ghost signal = { λ s. record { polls = s.polls; raised = 0; armed = s.armed; arms = s.arms; early = s.early } };
 
     fn arm(&mut self, after_ms: Option<u64>) {
         self.armed = after_ms;
         self.arms = self.arms.saturating_add(1);
+        self.early = self.polls;
     }
 
     fn poll(&mut self) -> bool {
+        self.polls = self.polls.saturating_add(1);
         false
     }
 }
@@ -63,6 +71,7 @@ pub struct MemStop {
     raised: u64,
     armed: Option<u64>,
     arms: u64,
+    early: u64,
 }
 
 impl MemStop {
@@ -73,6 +82,7 @@ impl MemStop {
         ensures raised { result.raised ≡ 0 }
         ensures armed { result.armed ≡ None }
         ensures arms { result.arms ≡ 0 }
+        ensures early { result.early ≡ 0 }
     {
         MemStop {
             at,
@@ -80,6 +90,7 @@ impl MemStop {
             raised: 0,
             armed: None,
             arms: 0,
+            early: 0,
         }
     }
 
@@ -101,18 +112,16 @@ impl Stop for MemStop {
         ensures armed { signal_of self.new ≡ armed_with (signal_of self.old) after_ms }
         // As this one alone.
         ensures kept { self.new.at ≡ self.old.at }
-        ensures polls { self.new.polls ≡ self.old.polls }
     {
         self.armed = after_ms;
         self.arms = self.arms.saturating_add(1);
+        self.early = self.polls;
     }
 
     fn poll(&mut self) -> bool
         // As each stop.
-        ensures stopped { IsTrue result → HasSignalled (signal_of self.old) (signal_of self.new) }
-        ensures quiet { result ≡ false → signal_of self.new ≡ signal_of self.old }
+        ensures polled { signal_of self.new ≡ polled (signal_of self.old) result }
         // As this one alone.
-        ensures counted { self.new.polls ≡ one_more self.old.polls }
         ensures listed { IsTrue result ↔ Contains self.old.at.items (one_more self.old.polls) }
         ensures kept { self.new.at ≡ self.old.at }
     {
