@@ -22,6 +22,7 @@ pub record DeskMoves (before : DeskView) (says : Exchange) (after : DeskView) : 
   pub spent : (before.drawn ≡ before.expansions) ⊎ (says_spent says ≡ true) → after.drawn ≡ after.expansions
   pub full : (before.claimed ≡ before.room) ⊎ (says_full says ≡ true) → after.claimed ≡ after.room
   pub posted : IsSome before.posted ⊎ (says_posted says ≡ true) → IsSome after.posted
+  pub is_said : IsSome after.posted → IsSome before.posted ⊎ (says_posted says ≡ true)
 
 no : {A : Type 0} → false ≡ true → A
 no e = absurd (cc)
@@ -34,6 +35,7 @@ stays d says one two three = record {
   spent = λ h. elim h as (λ _. d.drawn ≡ d.expansions) [ inl e ↦ e | inr e ↦ no (sym one ∙ e) ];
   full = λ h. elim h as (λ _. d.claimed ≡ d.room) [ inl e ↦ e | inr e ↦ no (sym two ∙ e) ];
   posted = λ h. elim h as (λ _. IsSome d.posted) [ inl e ↦ e | inr e ↦ no (sym three ∙ e) ];
+  is_said = λ k. inl k;
 }
 
 stays_at : (before after : Lone) (says : Exchange) → after.desk ≡ before.desk → says_spent says ≡ false → says_full says ≡ false → says_posted says ≡ false
@@ -66,6 +68,7 @@ moves before path Draws (Some (Drew (Go unit))) after h =
       spent = λ k. elim k as (λ _. unit ≡ before.desk.expansions) [ inl e ↦ absurd (let low = h.0.1 in omega (arith, low, e)) | inr e ↦ no e ];
       full = λ k. elim k as (λ _. before.desk.claimed ≡ before.desk.room) [ inl e ↦ e | inr e ↦ no e ];
       posted = λ k. elim k as (λ _. IsSome before.desk.posted) [ inl e ↦ e | inr e ↦ no e ];
+      is_said = λ k. inl k;
     })
 moves before path Draws (Some (Drew Done)) after h =
     subst (λ (d : DeskView). DeskMoves before.desk (Draws, Some (Drew Done)) d) (sym h.0.1)
@@ -75,6 +78,7 @@ moves before path Draws (Some (Drew Done)) after h =
       spent = λ k. elim k as (λ _. before.desk.drawn ≡ before.desk.expansions) [ inl e ↦ e | inr e ↦ no e ];
       full = λ k. elim k as (λ _. before.desk.claimed ≡ before.desk.room) [ inl e ↦ e | inr e ↦ no e ];
       posted = λ k. h.0.0;
+      is_said = λ k. inl k;
     })
 moves before path Draws (Some (Drew AllDrawn)) after h =
     subst (λ (d : DeskView). DeskMoves before.desk (Draws, Some (Drew AllDrawn)) d) (sym h.0.2)
@@ -84,6 +88,7 @@ moves before path Draws (Some (Drew AllDrawn)) after h =
       spent = λ k. h.0.1;
       full = λ k. elim k as (λ _. before.desk.claimed ≡ before.desk.room) [ inl e ↦ e | inr e ↦ no e ];
       posted = λ k. elim k as (λ _. IsSome before.desk.posted) [ inl e ↦ e | inr e ↦ no e ];
+      is_said = λ k. inl k;
     })
 moves before path Draws (Some (Claimed (Room room))) after h = absurd h
 moves before path Draws (Some (Claimed Full)) after h = absurd h
@@ -104,6 +109,7 @@ moves before path Claims (Some (Claimed (Room room))) after h =
       spent = λ k. elim k as (λ _. before.desk.drawn ≡ before.desk.expansions) [ inl e ↦ e | inr e ↦ no e ];
       full = λ k. elim k as (λ _. room ≡ before.desk.room) [ inl e ↦ absurd (let low = h.0.0 in omega (arith, low, e)) | inr e ↦ no e ];
       posted = λ k. elim k as (λ _. IsSome before.desk.posted) [ inl e ↦ e | inr e ↦ no e ];
+      is_said = λ k. inl k;
     })
 moves before path Claims (Some (Claimed Full)) after h =
     subst (λ (d : DeskView). DeskMoves before.desk (Claims, Some (Claimed Full)) d) (sym h.0.1)
@@ -113,6 +119,7 @@ moves before path Claims (Some (Claimed Full)) after h =
       spent = λ k. elim k as (λ _. before.desk.drawn ≡ before.desk.expansions) [ inl e ↦ e | inr e ↦ no e ];
       full = λ k. h.0.0;
       posted = λ k. elim k as (λ _. IsSome before.desk.posted) [ inl e ↦ e | inr e ↦ no e ];
+      is_said = λ k. inl k;
     })
 moves before path Claims (Some (Looked seen)) after h = absurd h
 moves before path Claims (Some (Entered kept_in)) after h = absurd h
@@ -169,6 +176,7 @@ moves before path (Post note) (Some PostedIt) after h =
       spent = λ k. elim k as (λ _. before.desk.drawn ≡ before.desk.expansions) [ inl e ↦ e | inr e ↦ no e ];
       full = λ k. elim k as (λ _. before.desk.claimed ≡ before.desk.room) [ inl e ↦ e | inr e ↦ no e ];
       posted = λ k. first_is before.desk.posted note;
+      is_said = λ k. inr refl;
     })
 moves before path (End end) None after h = absurd h
 moves before path (End end) (Some (Polled stop)) after h = absurd h
@@ -204,3 +212,8 @@ told_on log x before after stops path told turns =
 pub limits_stay : (x : Exchange) (before after : Lone) (stops : Bool) (path : List Key) → Turns (opened before stops) path x.0 x.1 after
     → (after.desk.expansions ≡ before.desk.expansions) × (after.desk.room ≡ before.desk.room)
 limits_stay x before after stops path turns = let m = moves (opened before stops) path x.0 x.1 after turns in (m.expansions, m.room)
+
+-- A note that is posted behind a step was posted before, or the step says so.
+pub posted_by : (x : Exchange) (before after : Lone) (stops : Bool) (path : List Key) → Turns (opened before stops) path x.0 x.1 after
+    → IsSome after.desk.posted → IsSome before.desk.posted ⊎ (says_posted x ≡ true)
+posted_by x before after stops path turns = (moves (opened before stops) path x.0 x.1 after turns).is_said

@@ -10,7 +10,8 @@ use Rattle.unit_desk.specs.Sizes.{SettingsView}
 use Rattle.unit_desk.specs.declared.cause.Cause.{Cause}
 use Rattle.unit_desk.specs.declared.cause.Cause.TheVariants.{Expansions, Room, Height, Stopped as StoppedFirst}
 use Rattle.visit_log.specs.declared.words.WorkEnd.{WorkEnd}
-use Rattle.visit_log.specs.declared.words.WorkEnd.TheVariants.{Spent, NoRoom, Stopped}
+use Rattle.visit_log.specs.declared.words.WorkEnd.TheVariants.{Posted, Spent, NoRoom, TooHigh, Stopped}
+use Rattle.visit_log.specs.declared.parts.Stage.TheVariants.{Winding}
 use Rattle.visit_log.specs.Visit.{Event as Exchange, IsVisitLog, drew, claimed, polled}
 use Rattle.visit_log.specs.Frame.{Task, task_for}
 use Rattle.visit_log.specs.Machine.{end_of}
@@ -18,13 +19,14 @@ use Rattle.visit_log.specs.Run.{Standing, Leads, IsReached, now_at}
 use Rattle.visit_log.specs.Laws.{EndsHaveCauses}
 use Rattle.worker_core.specs.Port.{Suits}
 use Rattle.lone_port.specs.Lone.{Lone, alone_at_first, worker_at_first, book_of}
-use Rattle.search_gate.specs.Stop.{Signal, Rose}
+use Rattle.search_gate.specs.Stop.{Signal, one_more}
 use Rattle.search_world.specs.declared.event.Event.{Event}
 use Rattle.search_world.specs.Alone.{IsOwn, IsOwnStep, RunsAlone, HasCause}
 use Rattle.search_pool.specs.declared.end.SearchEnd.{SearchEnd}
 use Rattle.search_pool.specs.declared.end.SearchEnd.TheVariants.{Solved, Unknown}
-use Rattle.search_pool.specs.End.{IsAlone, IsAloneUntil, IsStoppedBy}
-use Rattle.search_pool.specs.Inside.{WasSaid, says_stop, IsUnderWay, IsCauseOf}
+use Rattle.search_pool.specs.End.{IsAlone, IsAloneUntil, HeedsStop}
+use Rattle.search_pool.specs.Inside.{WasSaid, says_stop, IsQuiet, IsUnderWay, IsCauseOf}
+use Rattle.search_pool.proofs.Winding.{ends_so}
 
 -- 1. THE BEGINNING.
 
@@ -47,13 +49,16 @@ at_first problem s signal suits = record {
     full = λ w. absurd (nothing_said _ w);
     posted = λ w. absurd (nothing_said _ w);
   };
+  winding = record { stopped = λ w. absurd (nothing_said _ w); posted = λ w. absurd (nothing_said _ w); is_said = λ some. absurd (cc) };
   expansions = refl;
   room = refl;
   units = refl;
   rooms = refl;
   quiet = inl (All-nil IsOwnStep, nothing_said says_stop, refl);
+  polls = refl;
   armed = refl;
   arms = refl;
+  early = refl;
 }
 
 -- A search with one worker is under way before anything happens.
@@ -83,11 +88,10 @@ runs problem s before after port worker way = record {
   reached = reached problem worker way.log way.task way.idle way.leads;
 }
 
-quietly : (before after : Signal) (schedule : List Event) (log : List Exchange)
-    → (All IsOwnStep schedule × (WasSaid says_stop log → ⊥) × (after.raised ≡ before.raised)) ⊎ Rose before.raised after.raised
-    → All IsOwnStep schedule ⊎ Rose before.raised after.raised
+quietly : (before after : Signal) (schedule : List Event) (log : List Exchange) → IsQuiet before after schedule log
+    → All IsOwnStep schedule ⊎ (after.raised ≡ one_more before.raised)
 quietly before after schedule log (inl q) = inl q.0
-quietly before after schedule log (inr q) = inr q
+quietly before after schedule log (inr q) = inr q.1
 
 -- With a note that is posted.
 pub ends_solved : (problem : Board) (s : SettingsView) (before after : Signal) (port : Lone) (worker : Standing) (end : WorkEnd) (note : Derivation)
@@ -103,7 +107,20 @@ ends_solved problem s before after port worker end note way ended posted = (
     ended = subst IsSome (sym ended) refl;
     outcome = sym posted;
   },
+  way.polls,
 )
+
+posted_not_stopped : {A : Type 0} (worker : Standing) → worker.state.stage ≡ Winding Posted → worker.state.stage ≡ Winding Stopped → A
+posted_not_stopped worker one two = (let e : Winding Posted ≡ Winding Stopped = sym one ∙ two in absurd (cc))
+
+-- Then the stop signalled nothing.
+pub heeds_solved : (problem : Board) (s : SettingsView) (before after : Signal) (port : Lone) (worker : Standing) (note : Derivation)
+    → IsUnderWay problem s before after port worker → Some note ≡ port.desk.posted → HeedsStop before after (Solved note)
+heeds_solved problem s before after port worker note way posted = by_quiet way.quiet
+  where
+    by_quiet : IsQuiet before after way.schedule way.log → after.raised ≡ before.raised
+    by_quiet (inl q) = q.2
+    by_quiet (inr q) = posted_not_stopped worker (way.winding.posted (way.winding.is_said (subst IsSome posted refl))) (way.winding.stopped q.0)
 
 visit_log : (problem : Board) (worker : Standing) (log : List Exchange) (end : WorkEnd) → worker.task ≡ task_for problem 1 → worker.waiting ≡ false
     → Leads (task_for problem 1) log worker.state → end_of worker.state ≡ Some end
@@ -143,45 +160,55 @@ ends_unknown problem s before after port worker end cause crew way ended law who
     ended = subst IsSome (sym ended) refl;
     outcome = (none, one, cause_by problem s before after port worker end cause way ended law whole is);
   },
+  way.polls,
 )
 
--- That it was stopped is told only where a stop was signalled.
-pub ends_stopped : (problem : Board) (s : SettingsView) (before after : Signal) (port : Lone) (worker : Standing) (end : WorkEnd) (cause : Cause) (crew : List Standing)
+not_stopped : (problem : Board) (s : SettingsView) (before after : Signal) (port : Lone) (worker : Standing) (end : WorkEnd) → IsUnderWay problem s before after port worker
+    → end_of worker.state ≡ Some end → (end ≡ Stopped → ⊥) → after.raised ≡ before.raised
+not_stopped problem s before after port worker end way ended other = by_quiet way.quiet
+  where
+    by_quiet : IsQuiet before after way.schedule way.log → after.raised ≡ before.raised
+    by_quiet (inl q) = q.2
+    by_quiet (inr q) = absurd (other (ends_so worker.state.stage worker.state.frames Stopped end (way.winding.stopped q.0) ended))
+
+-- That it was stopped is told exactly where a stop signalled.
+pub heeds_unknown : (problem : Board) (s : SettingsView) (before after : Signal) (port : Lone) (worker : Standing) (end : WorkEnd) (cause : Cause) (crew : List Standing)
     → IsUnderWay problem s before after port worker → end_of worker.state ≡ Some end → EndsHaveCauses
     → ((l : List Exchange) (e : WorkEnd) → IsReached worker l → end_of worker.state ≡ Some e → IsVisitLog worker.task l e) → IsCauseOf s end cause
-    → IsStoppedBy before after (Unknown cause crew)
-ends_stopped problem s before after port worker end (Expansions number) crew way ended law whole is = tt
-ends_stopped problem s before after port worker end (Room number) crew way ended law whole is = tt
-ends_stopped problem s before after port worker end (Height number) crew way ended law whole is = tt
-ends_stopped problem s before after port worker end (StoppedFirst number) crew way ended law whole is =
+    → HeedsStop before after (Unknown cause crew)
+heeds_unknown problem s before after port worker end (Expansions number) crew way ended law whole is =
+    not_stopped problem s before after port worker end way ended (λ e. let k : Spent ≡ Stopped = sym is.1 ∙ e in absurd (cc))
+heeds_unknown problem s before after port worker end (Room number) crew way ended law whole is =
+    not_stopped problem s before after port worker end way ended (λ e. let k : NoRoom ≡ Stopped = sym is.1 ∙ e in absurd (cc))
+heeds_unknown problem s before after port worker end (Height number) crew way ended law whole is =
+    not_stopped problem s before after port worker end way ended (λ e. let k : TooHigh ≡ Stopped = sym is.1 ∙ e in absurd (cc))
+heeds_unknown problem s before after port worker end (StoppedFirst number) crew way ended law whole is =
     let stopped : end_of worker.state ≡ Some Stopped = ended ∙ ap Some is.1 in
     let told = law worker.task way.log Stopped (visit_log problem worker way.log Stopped way.task way.idle way.leads stopped whole) in
     by_quiet way.quiet (polled true, told, refl)
   where
-    by_quiet : (All IsOwnStep way.schedule × (WasSaid says_stop way.log → ⊥) × (after.raised ≡ before.raised)) ⊎ Rose before.raised after.raised
-        → WasSaid says_stop way.log → Rose before.raised after.raised
+    by_quiet : IsQuiet before after way.schedule way.log → WasSaid says_stop way.log → after.raised ≡ one_more before.raised
     by_quiet (inl q) w = absurd (q.1 w)
-    by_quiet (inr q) w = q
+    by_quiet (inr q) w = q.1
 
 -- 3. NO STOP.
 
--- What a search with a stop whose count stays answers is what it answers alone.
-pub alone_by : (problem : Board) (s : SettingsView) (before after : Signal) (end : SearchEnd) → (Rose before.raised after.raised → ⊥)
+-- What a search with a stop that signals nothing answers is what it answers alone.
+pub alone_by : (problem : Board) (s : SettingsView) (before after : Signal) (end : SearchEnd) → (after.raised ≡ one_more before.raised → ⊥)
     → IsAloneUntil problem s before after end → IsAlone problem s end
 alone_by problem s before after end never until = (until.0, by_schedule until.1, until.2)
   where
-    by_schedule : All IsOwnStep until.0 ⊎ Rose before.raised after.raised → All IsOwnStep until.0
+    by_schedule : All IsOwnStep until.0 ⊎ (after.raised ≡ one_more before.raised) → All IsOwnStep until.0
     by_schedule (inl own) = own
     by_schedule (inr rose) = absurd (never rose)
 
--- A count that stays nought didn't rise.
-never : Rose 0 0 → ⊥
-never (inl low) = omega (arith, low)
-never (inr high) = omega (arith, high)
+-- A count that stays nought isn't one more.
+never : 0 ≡ one_more 0 → ⊥
+never e = absurd (cc)
 
 -- So with a stop that never signals.
 pub alone_quietly : {E : Type 0} (result : Result SearchEnd E) (problem : Board) (s : SettingsView) (before after : Signal) → before.raised ≡ 0 → after.raised ≡ 0
     → IfOk result (IsAloneUntil problem s before after) → IfOk result (IsAlone problem s)
 alone_quietly (Ok end) problem s before after one two until =
-    alone_by problem s before after end (λ rose. never (subst (λ (n : ℕ). Rose n 0) one (subst (Rose before.raised) two rose))) until
+    alone_by problem s before after end (λ rose. never (sym two ∙ (rose ∙ ap one_more one))) until
 alone_quietly (Err error) problem s before after one two until = tt

@@ -1,5 +1,5 @@
--- Where no stop is signalled, no poll is told so; rises one after the other.
-use Rattle.std.proofs.Common.{◌≡◌, inl, inr, ℕ, ◌-◌, ◌^◌, ◌≤◌, List, arith, refl, Bool, true, false}
+-- A worker is told at a poll what the stop said.
+use Rattle.std.proofs.Common.{◌≡◌, List, refl, Bool, true, false}
 use Rattle.std.specs.Prelude.{Option, Some, None}
 use Rattle.board_core.specs.declared.keys.Key.{Key}
 use Rattle.visit_log.specs.declared.words.Request.{Request}
@@ -7,18 +7,18 @@ use Rattle.visit_log.specs.declared.words.Request.TheVariants.{Poll, Draw as Dra
 use Rattle.visit_log.specs.declared.words.Answer.{Answer}
 use Rattle.visit_log.specs.declared.words.Answer.TheVariants.{Poll as Polled, Draw as Drew, Claim as Claimed, Look as Looked, Enter as Entered, Leave as LeftIt, Post as PostedIt}
 use Rattle.lone_port.specs.Lone.{Lone, Turns}
-use Rattle.search_gate.specs.Stop.{Rose}
+use Rattle.worker_core.specs.Machine.{is_poll}
 use Rattle.search_pool.specs.Inside.{says_stop}
 
-same_bool : (stop told : Bool) → stop ≡ told → told ≡ false → says_stop (Poll, Some (Polled stop)) ≡ false
-same_bool true told e not = absurd (cc)
-same_bool false told e not = refl
+told_no : (stop told : Bool) → stop ≡ told → told ≡ false → says_stop (Poll, Some (Polled stop)) ≡ false
+told_no true told e not = absurd (cc)
+told_no false told e not = refl
 
 -- A table and a desk that aren't told to stop a worker don't.
 pub says_no : (before : Lone) (path : List Key) (q : Request) (a : Option Answer) (after : Lone) → Turns before path q a after → before.stops ≡ false
     → says_stop (q, a) ≡ false
 says_no before path q None after h not = refl
-says_no before path Poll (Some (Polled stop)) after h not = same_bool stop before.stops h.0 not
+says_no before path Poll (Some (Polled stop)) after h not = told_no stop before.stops h.0 not
 says_no before path Draws (Some (Polled stop)) after h not = absurd h
 says_no before path Claims (Some (Polled stop)) after h not = absurd h
 says_no before path (Look key) (Some (Polled stop)) after h not = absurd h
@@ -33,9 +33,25 @@ says_no before path q (Some (Entered kept)) after h not = refl
 says_no before path q (Some LeftIt) after h not = refl
 says_no before path q (Some PostedIt) after h not = refl
 
--- Rises add up.
-pub rose_on : (a b c : ℕ) → c ≤ 2 ^ 64 - 1 → Rose a b → Rose b c → Rose a c
-rose_on a b c high (inl one) (inl two) = inl (omega arith)
-rose_on a b c high (inl one) (inr two) = inr two
-rose_on a b c high (inr one) (inl two) = absurd (omega arith)
-rose_on a b c high (inr one) (inr two) = inr two
+told_yes : (stop told : Bool) → stop ≡ told → told ≡ true → says_stop (Poll, Some (Polled stop)) ≡ true
+told_yes true told e yes = refl
+told_yes false told e yes = absurd (cc)
+
+-- Where a stop is signalled, a poll is told so.
+pub says_yes : (before : Lone) (path : List Key) (q : Request) (a : Option Answer) (after : Lone) → Turns before path q a after → is_poll q ≡ true → before.stops ≡ true
+    → says_stop (q, a) ≡ true
+says_yes before path Poll None after h polls yes = absurd h
+says_yes before path Poll (Some (Polled stop)) after h polls yes = told_yes stop before.stops h.0 yes
+says_yes before path Poll (Some (Drew draw)) after h polls yes = absurd h
+says_yes before path Poll (Some (Claimed claim)) after h polls yes = absurd h
+says_yes before path Poll (Some (Looked seen)) after h polls yes = absurd h
+says_yes before path Poll (Some (Entered kept)) after h polls yes = absurd h
+says_yes before path Poll (Some LeftIt) after h polls yes = absurd h
+says_yes before path Poll (Some PostedIt) after h polls yes = absurd h
+says_yes before path Draws a after h polls yes = absurd (cc)
+says_yes before path Claims a after h polls yes = absurd (cc)
+says_yes before path (Look key) a after h polls yes = absurd (cc)
+says_yes before path (Enter key numbers) a after h polls yes = absurd (cc)
+says_yes before path (Leave kept key update) a after h polls yes = absurd (cc)
+says_yes before path (Post note) a after h polls yes = absurd (cc)
+says_yes before path (End end) a after h polls yes = absurd (cc)

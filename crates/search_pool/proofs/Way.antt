@@ -9,17 +9,20 @@ use Rattle.visit_log.specs.Visit.{Event as Exchange}
 use Rattle.visit_log.specs.Frame.{Task}
 use Rattle.visit_log.specs.Machine.{State, asks, end_of, path_of}
 use Rattle.visit_log.specs.Run.{Standing, Leads}
+use Rattle.visit_log.specs.declared.words.WorkEnd.TheVariants.{Stopped}
 use Rattle.worker_core.specs.Machine.{is_poll}
 use Rattle.worker_core.specs.Port.{Suits, KeepsOthers, Goes}
 use Rattle.lone_port.specs.Lone.{Lone, book_of, opened}
-use Rattle.search_gate.specs.Stop.{Signal, Rose, HasSignalled}
+use Rattle.search_gate.specs.Stop.{Signal, one_more, polled}
 use Rattle.search_world.specs.declared.event.Event.{Event}
 use Rattle.search_world.specs.declared.event.Event.TheVariants.{Step, Raise}
 use Rattle.search_world.specs.World.{World, Steps, IsAtWork, StepsAt, Plays, world_at_first}
 use Rattle.search_world.specs.Alone.{IsOwn, IsOwnStep, for_one, told_to_one, world_of}
-use Rattle.search_pool.specs.Inside.{says_stop, WasSaid, IsUnderWay}
+use Rattle.search_pool.specs.End.{polls_after}
+use Rattle.search_pool.specs.Inside.{says_stop, WasSaid, IsWindingUp, IsQuiet, IsUnderWay}
 use Rattle.search_pool.proofs.Desk.{told_on, limits_stay}
-use Rattle.search_pool.proofs.Quiet.{says_no, rose_on}
+use Rattle.search_pool.proofs.Quiet.{says_no, says_yes}
+use Rattle.search_pool.proofs.Winding.{not_polling, said_on, said_now, winding_on}
 
 -- 1. SCHEDULES, ONE BEHIND THE OTHER.
 
@@ -84,11 +87,6 @@ step_stopped port after worker later x going polls steps =
 
 -- 3. WHAT BECOMES OF A SEARCH UNDER WAY.
 
--- What the schedule is, and what the stop counts, behind a request: nothing is signalled, or the count rose.
-abbrev IsQuiet : Signal → Signal → List Event → List Exchange → Type 0
-IsQuiet before after schedule log =
-    (All IsOwnStep schedule × (WasSaid says_stop log → ⊥) × (after.raised ≡ before.raised)) ⊎ Rose before.raised after.raised
-
 said_before : (log : List Exchange) (x : Exchange) → (WasSaid says_stop log → ⊥) → says_stop x ≡ false → WasSaid says_stop (log ++ x ∷ []) → ⊥
 said_before log x none not w =
     elim (Rattle.std.proofs.lemmas.List.Elements.Contains-push_cases log x w.0 w.1) as (λ _. ⊥) [
@@ -99,9 +97,8 @@ said_before log x none not w =
 -- All that is known of one request of the search.
 pub record IsRequest (before mid after : Signal) (stops : Bool) (port : Lone) (worker : Standing) (x : Exchange) (next : Lone) (later : Standing) : Type 0 where
   pub going : end_of worker.state ≡ None
-  pub polls : stops ≡ true → is_poll (asks worker.state) ≡ true
-  pub signalled : stops ≡ true → HasSignalled mid after
-  pub unmoved : stops ≡ false → after ≡ mid
+  pub at_polls : stops ≡ true → is_poll (asks worker.state) ≡ true
+  pub signal : after ≡ (if is_poll (asks worker.state) then polled mid stops else mid)
   pub steps : Steps stops port worker x next later
   pub leads : (log : List Exchange) → Leads worker.task log worker.state → Leads worker.task (log ++ x ∷ []) later.state
   pub suits : Suits later (book_of next)
@@ -120,26 +117,46 @@ plays_one : (stops : Bool) (port next : Lone) (worker later : Standing) (x : Exc
 plays_one true port next worker later x going polls steps = step_stopped port next worker later x going (polls refl) steps
 plays_one false port next worker later x going polls steps = step_quietly port next worker later x going steps
 
+-- What a poll doesn't change of a stop.
+same_field : {A : Type 0} (field : Signal → A) (mid : Signal) (stops b : Bool) → field (polled mid stops) ≡ field mid → field (if b then polled mid stops else mid) ≡ field mid
+same_field field mid stops true same = same
+same_field field mid stops false same = refl
+
+once_polled : (mid : Signal) (stops b : Bool) → b ≡ true → (if b then polled mid stops else mid) ≡ polled mid stops
+once_polled mid stops true e = refl
+once_polled mid stops false e = absurd (cc)
+
+polls_on : (mid : Signal) (stops b : Bool) → (if b then polled mid stops else mid).polls ≡ (if b then one_more mid.polls else mid.polls)
+polls_on mid stops true = refl
+polls_on mid stops false = refl
+
+polls_push : (log : List Exchange) (x : Exchange) (n : ℕ) → polls_after (log ++ x ∷ []) n ≡ (if is_poll x.0 then one_more (polls_after log n) else polls_after log n)
+polls_push [] x n = refl
+polls_push (y ∷ log) x n = polls_push log x (if is_poll y.0 then one_more n else n)
+
 quiet_on : (before mid after : Signal) (stops : Bool) (port : Lone) (worker : Standing) (x : Exchange) (next : Lone) (later : Standing) (schedule : List Event) (log : List Exchange)
-    → IsRequest before mid after stops port worker x next later → IsQuiet before mid schedule log → IsQuiet before after (schedule ++ new_events stops) (log ++ x ∷ [])
-quiet_on before mid after true port worker x next later schedule log r (inl q) =
-    inr (subst (λ (n : ℕ). Rose n after.raised) q.2 ((r.signalled refl).rose))
-quiet_on before mid after true port worker x next later schedule log r (inr q) = inr (rose_on before.raised mid.raised after.raised (r.signalled refl).of_64_bits q (r.signalled refl).rose)
-quiet_on before mid after false port worker x next later schedule log r (inl q) =
+    → IsRequest before mid after stops port worker x next later → IsWindingUp log port worker → is_poll x.0 ≡ is_poll (asks worker.state)
+    → IsQuiet before mid schedule log → IsQuiet before after (schedule ++ new_events stops) (log ++ x ∷ [])
+quiet_on before mid after true port worker x next later schedule log r w asked (inl q) =
+    let yes = says_yes (opened port true) (path_of worker.task worker.state.frames) x.0 x.1 next r.steps.turns (asked ∙ r.at_polls refl) refl in
+    inr (
+      said_now says_stop log x yes,
+      ap (λ (z : Signal). z.raised) (r.signal ∙ once_polled mid true (is_poll (asks worker.state)) (r.at_polls refl)) ∙ ap one_more q.2,
+    )
+quiet_on before mid after true port worker x next later schedule log r w asked (inr q) =
+    absurd (not_polling worker.state.stage worker.state.frames Stopped (w.stopped q.0) (r.at_polls refl))
+quiet_on before mid after false port worker x next later schedule log r w asked (inl q) =
     let no = says_no (opened port false) (path_of worker.task worker.state.frames) x.0 x.1 next r.steps.turns refl in
     inl (
       All-push IsOwnStep schedule (Step 1) q.0 refl,
       said_before log x q.1 no,
-      ap (λ (z : Signal). z.raised) (r.unmoved refl) ∙ q.2,
+      ap (λ (z : Signal). z.raised) r.signal ∙ (same_field (λ (z : Signal). z.raised) mid false (is_poll (asks worker.state)) refl ∙ q.2),
     )
-quiet_on before mid after false port worker x next later schedule log r (inr q) = inr (subst (λ (z : Signal). Rose before.raised z.raised) (sym (r.unmoved refl)) q)
-
-armed_on : (before mid after : Signal) (stops : Bool) (port : Lone) (worker : Standing) (x : Exchange) (next : Lone) (later : Standing)
-    → IsRequest before mid after stops port worker x next later → mid.armed ≡ before.armed → mid.arms ≡ before.arms
-    → (after.armed ≡ before.armed) × (after.arms ≡ before.arms)
-armed_on before mid after true port worker x next later r one two = ((r.signalled refl).armed ∙ one, (r.signalled refl).arms ∙ two)
-armed_on before mid after false port worker x next later r one two =
-    (ap (λ (z : Signal). z.armed) (r.unmoved refl) ∙ one, ap (λ (z : Signal). z.arms) (r.unmoved refl) ∙ two)
+quiet_on before mid after false port worker x next later schedule log r w asked (inr q) =
+    inr (
+      said_on says_stop log x q.0,
+      ap (λ (z : Signal). z.raised) r.signal ∙ (same_field (λ (z : Signal). z.raised) mid false (is_poll (asks worker.state)) refl ∙ q.1),
+    )
 
 abbrev tagged : Exchange → ℕ × Exchange
 tagged x = (1, x)
@@ -148,9 +165,10 @@ tagged x = (1, x)
 pub on_way : (problem : Board) (s : SettingsView) (before mid after : Signal) (stops : Bool) (port : Lone) (worker : Standing) (x : Exchange) (next : Lone) (later : Standing)
     → IsUnderWay problem s before mid port worker → IsRequest before mid after stops port worker x next later → IsUnderWay problem s before after next later
 on_way problem s before mid after stops port worker x next later way r =
-    let polls : stops ≡ true → is_poll x.0 ≡ true = λ e. ap is_poll (goes_asks worker.task worker.state later.state x r.steps.goes) ∙ r.polls e in
+    let asked : is_poll x.0 ≡ is_poll (asks worker.state) = ap is_poll (goes_asks worker.task worker.state later.state x r.steps.goes) in
+    let polls : stops ≡ true → is_poll x.0 ≡ true = λ e. asked ∙ r.at_polls e in
+    let b = is_poll (asks worker.state) in
     let limits = limits_stay x port next stops (path_of worker.task worker.state.frames) r.steps.turns in
-    let armed = armed_on before mid after stops port worker x next later r way.armed way.arms in
     record {
       schedule = way.schedule ++ new_events stops;
       log = way.log ++ x ∷ [];
@@ -169,7 +187,13 @@ on_way problem s before mid after stops port worker x next later way r =
       room = limits.1 ∙ way.room;
       units = (let k = r.keeps.units in let u = way.units in omega (arith, k, u));
       rooms = (let k = r.keeps.rooms in let u = way.rooms in omega (arith, k, u));
-      quiet = quiet_on before mid after stops port worker x next later way.schedule way.log r way.quiet;
-      armed = armed.0;
-      arms = armed.1;
+      winding = winding_on way.log x port next stops worker later way.winding r.steps.goes r.steps.turns;
+      quiet = quiet_on before mid after stops port worker x next later way.schedule way.log r way.winding asked way.quiet;
+      polls = ap (λ (z : Signal). z.polls) r.signal ∙ (polls_on mid stops b
+          ∙ (ap (λ (n : ℕ). if b then one_more n else n) way.polls
+          ∙ (ap (λ (z : Bool). if z then one_more (polls_after way.log before.polls) else polls_after way.log before.polls) (sym asked)
+          ∙ sym (polls_push way.log x before.polls))));
+      armed = ap (λ (z : Signal). z.armed) r.signal ∙ (same_field (λ (z : Signal). z.armed) mid stops b refl ∙ way.armed);
+      arms = ap (λ (z : Signal). z.arms) r.signal ∙ (same_field (λ (z : Signal). z.arms) mid stops b refl ∙ way.arms);
+      early = ap (λ (z : Signal). z.early) r.signal ∙ (same_field (λ (z : Signal). z.early) mid stops b refl ∙ way.early);
     }

@@ -1,7 +1,7 @@
 -- How a search ended.
-use Rattle.std.specs.Prelude.{◌≡◌, ◌⊎◌, List, [], ◌∷◌, Some, None, All, IsSome}
+use Rattle.std.specs.Prelude.{◌≡◌, ◌⊎◌, ℕ, List, [], ◌∷◌, Some, None, All, IsSome, if◌then◌else◌}
 use Rattle.board_core.specs.Board.{Board}
-use Rattle.search_gate.specs.Stop.{Signal, Rose}
+use Rattle.search_gate.specs.Stop.{Signal, one_more}
 use Rattle.unit_desk.specs.Sizes.{SettingsView}
 use Rattle.unit_desk.specs.declared.cause.Cause.TheVariants.{Expansions, Room, Height, Stopped}
 use Rattle.visit_log.specs.Visit.{Event as Exchange}
@@ -9,6 +9,7 @@ use Rattle.visit_log.specs.Frame.{task_for}
 use Rattle.visit_log.specs.Machine.{end_of}
 use Rattle.visit_log.specs.Run.{Standing}
 use Rattle.visit_log.specs.Sound.{IsAnswer}
+use Rattle.worker_core.specs.Machine.{is_poll}
 use Rattle.lone_port.specs.Lone.{Lone}
 use Rattle.search_world.specs.declared.event.Event.{Event}
 use Rattle.search_world.specs.Alone.{RunsAlone, HasCause, IsOwnStep}
@@ -35,20 +36,27 @@ pub record IsEndBy (problem : Board) (s : SettingsView) (schedule : List Event) 
 abbrev pub IsAlone : Board → SettingsView → SearchEnd → Type 0
 IsAlone problem s end = (schedule : List Event) × All IsOwnStep schedule × IsEndBy problem s schedule end
 
--- The same where a stop may have been signalled to the worker in between: only where the stop's count rose.
+-- How often a stop was polled, once it was at each poll of a log.
+abbrev pub polls_after : List Exchange → ℕ → ℕ
+polls_after [] polls = polls
+polls_after (exchange ∷ exchanges) polls = polls_after exchanges (if is_poll exchange.0 then one_more polls else polls)
+
+-- The same where a stop, which was polled at each of the worker's polls and at nothing else, may have signalled once: only then was a stop signalled to
+-- the worker.
 abbrev pub IsAloneUntil : Board → SettingsView → Signal → Signal → SearchEnd → Type 0
 IsAloneUntil problem s before after end =
-    (schedule : List Event) × (All IsOwnStep schedule ⊎ Rose before.raised after.raised) × IsEndBy problem s schedule end
+    (schedule : List Event) × (All IsOwnStep schedule ⊎ (after.raised ≡ one_more before.raised)) × (run : IsEndBy problem s schedule end)
+    × (after.polls ≡ polls_after run.log before.polls)
 
 -- A note that solved the search answers the problem: it is valid, holds on every path, is about the problem's position and for its attacker.
 abbrev pub IsSolution : Board → SearchEnd → Type 0
 IsSolution problem (Solved note) = IsAnswer (task_for problem 1) note
 IsSolution problem (Unknown cause crew) = Unit {0}
 
--- That it was stopped is told only where the stop's count rose.
-abbrev pub IsStoppedBy : Signal → Signal → SearchEnd → Type 0
-IsStoppedBy before after (Solved note) = Unit {0}
-IsStoppedBy before after (Unknown (Expansions number) crew) = Unit {0}
-IsStoppedBy before after (Unknown (Room number) crew) = Unit {0}
-IsStoppedBy before after (Unknown (Height number) crew) = Unit {0}
-IsStoppedBy before after (Unknown (Stopped worker) crew) = Rose before.raised after.raised
+-- A stop is heeded: where it signalled, which it did once, the search ended as stopped; where it didn't, it ended otherwise.
+abbrev pub HeedsStop : Signal → Signal → SearchEnd → Type 0
+HeedsStop before after (Solved note) = after.raised ≡ before.raised
+HeedsStop before after (Unknown (Expansions number) crew) = after.raised ≡ before.raised
+HeedsStop before after (Unknown (Room number) crew) = after.raised ≡ before.raised
+HeedsStop before after (Unknown (Height number) crew) = after.raised ≡ before.raised
+HeedsStop before after (Unknown (Stopped worker) crew) = after.raised ≡ one_more before.raised

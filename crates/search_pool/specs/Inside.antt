@@ -7,8 +7,9 @@ use Rattle.notes.specs.declared.note.TheConstants.{HEIGHT_LIMIT}
 use Rattle.unit_desk.specs.declared.cause.Cause.{Cause}
 use Rattle.unit_desk.specs.declared.cause.Cause.TheVariants.{Expansions, Room, Height, Stopped as StoppedFirst}
 use Rattle.visit_log.specs.declared.words.WorkEnd.{WorkEnd}
-use Rattle.visit_log.specs.declared.words.WorkEnd.TheVariants.{Spent, NoRoom, TooHigh, Stopped}
-use Rattle.search_gate.specs.Stop.{Signal, Rose}
+use Rattle.visit_log.specs.declared.words.WorkEnd.TheVariants.{Posted, Spent, NoRoom, TooHigh, Stopped}
+use Rattle.visit_log.specs.declared.parts.Stage.TheVariants.{Winding}
+use Rattle.search_gate.specs.Stop.{Signal, one_more}
 use Rattle.unit_desk.specs.Sizes.{SettingsView}
 use Rattle.unit_desk.specs.Desk.{DeskView}
 use Rattle.visit_log.specs.declared.words.Answer.TheVariants.{Poll as Polled, Draw as Drew, Claim as Claimed, Post as PostedIt}
@@ -20,6 +21,7 @@ use Rattle.lone_port.specs.Lone.{Lone, book_of}
 use Rattle.search_world.specs.World.{Plays, world_at_first}
 use Rattle.search_world.specs.declared.event.Event.{Event}
 use Rattle.search_world.specs.Alone.{IsOwn, IsOwnStep, for_one, told_to_one, world_of}
+use Rattle.search_pool.specs.End.{polls_after}
 
 -- Whether the answer says that all units were drawn; that all room was claimed; that a note is posted, now or before; that the worker is to stop.
 abbrev pub says_spent : Exchange → Bool
@@ -52,9 +54,21 @@ pub record IsToldDesk (log : List Exchange) (desk : DeskView) : Type 0 where
   pub full : WasSaid says_full log → desk.claimed ≡ desk.room
   pub posted : WasSaid says_posted log → IsSome desk.posted
 
+-- What was said behind which the worker winds up: that it is to stop, or that a note is posted, as there is none without that.
+pub record IsWindingUp (log : List Exchange) (port : Lone) (worker : Standing) : Type 0 where
+  pub stopped : WasSaid says_stop log → worker.state.stage ≡ Winding Stopped
+  pub posted : WasSaid says_posted log → worker.state.stage ≡ Winding Posted
+  pub is_said : IsSome port.desk.posted → WasSaid says_posted log
+
+-- A stop signalled nothing, and nothing of it was said; or it signalled once, and that was said.
+abbrev pub IsQuiet : Signal → Signal → List Event → List Exchange → Type 0
+IsQuiet before after schedule log =
+    (All IsOwnStep schedule × (WasSaid says_stop log → ⊥) × (after.raised ≡ before.raised))
+    ⊎ (WasSaid says_stop log × (after.raised ≡ one_more before.raised))
+
 -- A search with one worker goes on so: the world of one worker comes by a schedule to where table, desk and worker stand; no stop waits to be
--- told; the worker stands by the log; what was said of the desk holds; the worker had all units and all room that the desk gave; and unless the
--- stop's count rose, no stop was signalled.
+-- told; the worker stands by the log, and winds up where it was told to; what was said of the desk holds; the worker had all units and all room that the
+-- desk gave; the stop was polled at its polls; and unless the stop signalled, no stop was signalled to the worker.
 pub record IsUnderWay (problem : Board) (s : SettingsView) (before after : Signal) (port : Lone) (worker : Standing) : Type 0 where
   pub schedule : List Event
   pub log : List Exchange
@@ -65,13 +79,16 @@ pub record IsUnderWay (problem : Board) (s : SettingsView) (before after : Signa
   pub idle : worker.waiting ≡ false
   pub suits : Suits worker (book_of port)
   pub desk : IsToldDesk log port.desk
+  pub winding : IsWindingUp log port worker
   pub expansions : port.desk.expansions ≡ s.expansions
   pub room : port.desk.room ≡ s.room
   pub units : port.desk.drawn ≡ worker.state.visits
   pub rooms : port.desk.claimed ≡ worker.state.claims
-  pub quiet : (All IsOwnStep schedule × (WasSaid says_stop log → ⊥) × (after.raised ≡ before.raised)) ⊎ Rose before.raised after.raised
+  pub quiet : IsQuiet before after schedule log
+  pub polls : after.polls ≡ polls_after log before.polls
   pub armed : after.armed ≡ before.armed
   pub arms : after.arms ≡ before.arms
+  pub early : after.early ≡ before.early
 
 -- The cause names the worker's end, and the setting.
 abbrev pub IsCauseOf : SettingsView → WorkEnd → Cause → Type 0

@@ -1,11 +1,11 @@
 // A search with one worker.
-ghost use Rattle.std.specs.Prelude.{◌≡◌, ℕ, IsTrue, IfOk, IfSome, IfNone, ◌⊎◌, Some, None, true, false, MatchOption};
+ghost use Rattle.std.specs.Prelude.{◌≡◌, ℕ, IsTrue, IfOk, IfSome, IfNone, ◌⊎◌, Some, None, true, false, MatchOption, if◌then◌else◌};
 ghost use Rattle.unit_desk.specs.Settings.{settings_in};
 ghost use Rattle.visit_log.specs.Machine.{asks, end_of};
 ghost use Rattle.visit_log.specs.declared.words.WorkEnd.TheVariants.{Posted, NoMemory};
 ghost use Rattle.worker_core.specs.Machine.{is_poll};
-ghost use Rattle.search_gate.specs.Stop.{HasSignalled};
-ghost use Rattle.search_pool.specs.End.{IsAlone, IsAloneUntil, IsSolution, IsStoppedBy};
+ghost use Rattle.search_gate.specs.Stop.{polled};
+ghost use Rattle.search_pool.specs.End.{IsAlone, IsAloneUntil, IsSolution, HeedsStop};
 ghost use Rattle.search_pool.specs.Inside.{IsUnderWay, IsCauseOf};
 ghost use Rattle.worker_core.specs.Port.{Suits};
 ghost use Rattle.lone_port.specs.Lone.{alone_at_first, worker_at_first, book_of};
@@ -23,9 +23,8 @@ use worker_core::Worker;
 
 // Whether the worker is told to stop at its next request: the stop is polled where that is a poll, and nowhere else.
 fn is_stopped<T: Stop>(worker: &Worker, stop: &mut T) -> bool
-    ensures polls { result ≡ true → is_poll (asks worker.now.state) ≡ true }
-    ensures signalled { result ≡ true → HasSignalled (T.signal stop.old) (T.signal stop.new) }
-    ensures quiet { result ≡ false → T.signal stop.new ≡ T.signal stop.old }
+    ensures at_polls { result ≡ true → is_poll (asks worker.now.state) ≡ true }
+    ensures signal { T.signal stop.new ≡ (if is_poll (asks worker.now.state) then polled (T.signal stop.old) result else T.signal stop.old) }
 {
     if worker.is_polling() {
         return stop.poll();
@@ -86,9 +85,10 @@ pub(crate) fn search_over<G: Gate, T: Stop>(
     requires suits { (number : ℕ) → Suits (worker_at_first problem.now.position number) (book_of port.old) }
     ensures alone { IfOk result (IsAloneUntil problem.now.position (settings_in settings.now) (T.signal stop.old) (T.signal stop.new)) }
     ensures solution { IfOk result (IsSolution problem.now.position) }
-    ensures stopped { IfOk result (IsStoppedBy (T.signal stop.old) (T.signal stop.new)) }
+    ensures heeds { IfOk result (HeedsStop (T.signal stop.old) (T.signal stop.new)) }
     ensures armed { (T.signal stop.new).armed ≡ (T.signal stop.old).armed }
     ensures arms { (T.signal stop.new).arms ≡ (T.signal stop.old).arms }
+    ensures early { (T.signal stop.new).early ≡ (T.signal stop.old).early }
 {
     let mut worker = Worker::make(alloc, problem, 1);
     let end = work_alone(alloc, problem, settings, port, &mut worker, gate, stop);
@@ -108,8 +108,8 @@ pub(crate) fn search_over<G: Gate, T: Stop>(
 
 /// Searches a problem with one worker, whatever the settings say of workers: it works under its own steps till it has ended. Where a note is
 /// posted, that note answers the problem; else the search gave up, for the cause that the worker's end names, and the worker comes with it.
-/// The gate is passed for each unit, as worker 1. The stop is polled before each unit; where it says that the worker is to stop, that is told
-/// to its poll. Takes the table's memory at once: about 1 KB a row. Errors: want of memory alone. (df-pn: Nagai 2002.)
+/// The gate is passed for each unit, as worker 1. The stop is polled before each unit; where it says that the worker is to stop, the search ends as
+/// stopped. Takes the table's memory at once: about 1 KB a row. Errors: want of memory alone. (df-pn: Nagai 2002.)
 pub fn search_alone_until<G: Gate, T: Stop>(
     alloc: Global,
     problem: &Problem,
@@ -117,14 +117,16 @@ pub fn search_alone_until<G: Gate, T: Stop>(
     gate: &G,
     stop: &mut T,
 ) -> Result<SearchEnd, AllocError>
-    // It answers what the world of one worker does, in which a stop is signalled only where the stop's count rose.
+    // It answers what the world of one worker does, in which a stop is signalled only where the stop signalled, which is polled at the worker's polls.
     ensures alone { IfOk result (IsAloneUntil problem.now.position (settings_in settings.now) (T.signal stop.old) (T.signal stop.new)) }
     // A note that solves it is valid, holds on every path, is about the problem's position and for its attacker.
     ensures solution { IfOk result (IsSolution problem.now.position) }
-    ensures stopped { IfOk result (IsStoppedBy (T.signal stop.old) (T.signal stop.new)) }
+    // It ends as stopped exactly where the stop signalled.
+    ensures heeds { IfOk result (HeedsStop (T.signal stop.old) (T.signal stop.new)) }
     // A stop is polled, and nothing else.
     ensures armed { (T.signal stop.new).armed ≡ (T.signal stop.old).armed }
     ensures arms { (T.signal stop.new).arms ≡ (T.signal stop.old).arms }
+    ensures early { (T.signal stop.new).early ≡ (T.signal stop.old).early }
 {
     let mut port = LonePort::make(alloc, problem, settings)?;
     search_over(alloc, problem, settings, &mut port, gate, stop)

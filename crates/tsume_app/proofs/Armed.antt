@@ -31,15 +31,17 @@ first_holds P deadline keeps signal (b ∷ before) (a ∷ armed) one changed sam
 pub used_by : {A : Type 0} (deadline : Option ℕ) (signal : A → Signal) (before armed : List A) (one changed : A)
     → map signal armed ≡ map (λ stop. armed_with (signal stop) deadline) before → 0 < length before
     → (signal changed).armed ≡ (signal (get_or armed 0 one)).armed → (signal changed).arms ≡ (signal (get_or armed 0 one)).arms
+    → (signal changed).early ≡ (signal (get_or armed 0 one)).early
     → AreUsed deadline (signals signal before (set armed 0 changed))
-used_by deadline signal [] armed one changed same some is_armed is_arms = absurd (omega arith)
-used_by deadline signal (b ∷ before) [] one changed same some is_armed is_arms = absurd cc
-used_by {A} deadline signal (b ∷ before) (a ∷ armed) one changed same some is_armed is_arms =
+used_by deadline signal [] armed one changed same some is_armed is_arms is_early = absurd (omega arith)
+used_by deadline signal (b ∷ before) [] one changed same some is_armed is_arms is_early = absurd cc
+used_by {A} deadline signal (b ∷ before) (a ∷ armed) one changed same some is_armed is_arms is_early =
     let head : signal a ≡ armed_with (signal b) deadline = cc in
     let tail : map signal armed ≡ map (λ stop. armed_with (signal stop) deadline) before = cc in
     record {
       armed = is_armed ∙ ap (λ (s : Signal). s.armed) head;
       arms = is_arms ∙ ap (λ (s : Signal). s.arms) head;
+      early = is_early ∙ ap (λ (s : Signal). s.early) head;
       others = tail ∙ maps before;
     }
   where

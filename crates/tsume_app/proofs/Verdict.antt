@@ -5,7 +5,7 @@ use Rattle.notes.specs.Derivation.{Derivation}
 use Rattle.app_texts.specs.declared.answer.Solution.{Solution}
 use Rattle.app_texts.specs.declared.answer.Solution.TheVariants.{Mate, NoMate, Unknown}
 use Rattle.unit_desk.specs.Sizes.{SettingsView}
-use Rattle.search_pool.specs.End.{IsAloneUntil}
+use Rattle.search_pool.specs.End.{IsAloneUntil, HeedsStop}
 use Rattle.search_pool.specs.declared.end.SearchEnd.TheVariants.{Solved}
 use Rattle.tsume_app.specs.Stops.{Signals, first_of}
 use Rattle.problem_answers.specs.Answer.{IsVerdictOf}
@@ -13,8 +13,9 @@ use Rattle.tsume_app.specs.Answer.{IsTrueOf}
 
 -- The verdict of a note with which a search alone is solved is true.
 pub found_of : {E : Type 0} (result : Result Solution E) (p : Board) (s : SettingsView) (stops : Signals) (note : Derivation) → IsAloneUntil p s (first_of stops.before) (first_of stops.after) (Solved note)
+    → HeedsStop (first_of stops.before) (first_of stops.after) (Solved note)
     → IfOk result (IsVerdictOf p note) → IfOk result (IsTrueOf p s stops)
-found_of (Ok (Mate c moves)) p s stops note alone verdict = record { note = note; alone = alone; verdict = verdict }
-found_of (Ok (NoMate c)) p s stops note alone verdict = record { note = note; alone = alone; verdict = verdict }
-found_of (Ok (Unknown cause crew)) p s stops note alone verdict = absurd (verdict.shown)
-found_of (Err error) p s stops note alone verdict = tt
+found_of (Ok (Mate c moves)) p s stops note alone heeds verdict = record { note = note; alone = alone; heeds = heeds; verdict = verdict }
+found_of (Ok (NoMate c)) p s stops note alone heeds verdict = record { note = note; alone = alone; heeds = heeds; verdict = verdict }
+found_of (Ok (Unknown cause crew)) p s stops note alone heeds verdict = absurd (verdict.shown)
+found_of (Err error) p s stops note alone heeds verdict = tt

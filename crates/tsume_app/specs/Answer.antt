@@ -10,7 +10,7 @@ use Rattle.cert_check.specs.Reasons.{IsFirstAgainst}
 use Rattle.notes.specs.Derivation.{Derivation}
 use Rattle.unit_desk.specs.Sizes.{SettingsView}
 use Rattle.visit_log.specs.Run.{Standing}
-use Rattle.search_pool.specs.End.{IsAloneUntil, IsStoppedBy}
+use Rattle.search_pool.specs.End.{IsAloneUntil, HeedsStop}
 use Rattle.search_pool.specs.declared.end.SearchEnd.TheVariants.{Solved as SearchSolved, Unknown as SearchUnknown}
 use Rattle.unit_desk.specs.declared.cause.Cause.{Cause}
 use Rattle.problem_answers.specs.Answer.{IsVerdictOf}
@@ -20,17 +20,18 @@ use Rattle.app_texts.specs.declared.answer.Solution.TheVariants.{Mate, NoMate, U
 use Rattle.app_texts.specs.declared.answer.Judgement.{Judgement}
 use Rattle.app_texts.specs.declared.answer.Judgement.TheVariants.{Accepted, Refused}
 
--- A verdict is that of a note with which a search alone is solved, whose worker the first stop may have told to stop.
+-- A verdict is that of a note with which a search alone is solved, whose worker polls the first stop, which signalled nothing.
 pub record IsVerdictFound (p : Board) (s : SettingsView) (stops : Signals) (solution : Solution) : Type 0 where
   pub note : Derivation
   pub alone : IsAloneUntil p s (first_of stops.before) (first_of stops.after) (SearchSolved note)
+  pub heeds : HeedsStop (first_of stops.before) (first_of stops.after) (SearchSolved note)
   pub verdict : IsVerdictOf p note solution
 
--- A search gave up for its cause: so a search alone ends, with these workers, whose worker the first stop may have told to stop; and that it was
--- stopped is the cause only where the count of that stop rose.
+-- A search gave up for its cause: so a search alone ends, with these workers, whose worker polls the first stop; and that it was stopped is the cause
+-- exactly where that stop signalled.
 pub record IsGivenUp (p : Board) (s : SettingsView) (stops : Signals) (cause : Cause) (crew : List Standing) : Type 0 where
   pub alone : IsAloneUntil p s (first_of stops.before) (first_of stops.after) (SearchUnknown cause crew)
-  pub stopped : IsStoppedBy (first_of stops.before) (first_of stops.after) (SearchUnknown cause crew)
+  pub heeds : HeedsStop (first_of stops.before) (first_of stops.after) (SearchUnknown cause crew)
 
 -- A solution is true of a problem that was searched with these settings and stops.
 abbrev pub IsTrueOf : Board → SettingsView → Signals → Solution → Type 0

@@ -21,7 +21,7 @@ signals signal before after = record { before = map signal before; after = map s
 
 -- What the first stop tells, which the first worker polls.
 abbrev pub first_of : List Signal → Signal
-first_of [] = record { raised = 0; armed = None; arms = 0 }
+first_of [] = record { polls = 0; raised = 0; armed = None; arms = 0; early = 0 }
 first_of (signal ∷ others) = signal
 
 -- The deadline that words give, if any.
@@ -32,10 +32,12 @@ deadline_in (Some (to_check workers problem)) = None
 deadline_in (Some (to_survey range)) = None
 deadline_in (Some (to_collect settings form)) = None
 
--- A search with one worker used the stops: each was armed once, for this deadline or for none, and then only the first was polled.
+-- A search with one worker used the stops: each was armed once, for this deadline or for none, before any was polled; and then only the first was
+-- polled.
 pub record AreUsed (deadline : Option ℕ) (stops : Signals) : Type 0 where
   pub armed : (first_of stops.after).armed ≡ deadline
   pub arms : (first_of stops.after).arms ≡ one_more (first_of stops.before).arms
+  pub early : (first_of stops.after).early ≡ (first_of stops.before).polls
   pub others : drop 1 stops.after ≡ map (λ signal. armed_with signal deadline) (drop 1 stops.before)
 
 -- No stop was armed or polled.

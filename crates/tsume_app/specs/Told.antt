@@ -1,11 +1,14 @@
 -- What the user is told beside the answer, on the standard error.
-use Rattle.std.specs.Prelude.{◌≡◌, ℕ, List, [], ◌∷◌, ◌++◌, Option, Some, None, codes, IsTrue, if◌then◌else◌}
+use Rattle.std.specs.Prelude.{◌≡◌, ◌⊎◌, ℕ, List, [], ◌∷◌, ◌++◌, Option, Some, None, codes, IsTrue, if◌then◌else◌}
 use Rattle.clap.specs.Words.{Text as Word}
 use Rattle.tsume_io.specs.Faults.{Rose}
 use Rattle.tsume_io.specs.Sink.{GrewBy, GrewByPrefix}
-use Rattle.tsume_words.specs.Given.{Wish}
+use Rattle.tsume_words.specs.Given.{Wish, AsksForHelp}
 use Rattle.tsume_words.specs.Given.Wish.{to_solve, to_check, to_survey, to_collect}
-use Rattle.tsume_words.specs.Meaning.{command_of}
+use Rattle.tsume_words.specs.Meaning.{command_of, FailsFirst}
+use Rattle.tsume_words.specs.declared.faults.WordFault.{WordFault}
+use Rattle.app_texts.specs.declared.fault.Fault.TheVariants.{Words, Asked, NoMemory}
+use Rattle.app_texts.specs.declared.fault.ProblemFault.{ProblemFault}
 use Rattle.tsume_app.specs.declared.ended.Ended.{Ended}
 use Rattle.tsume_app.specs.declared.ended.Ended.TheVariants.{Answered, CutShort, Failed}
 use Rattle.tsume_app.specs.declared.telling.Told.{Told}
@@ -13,7 +16,8 @@ use Rattle.tsume_app.specs.declared.telling.Told.TheVariants.{Whole, InPart, Not
 use Rattle.tsume_app.specs.EndedText.{ended_text}
 use Rattle.tsume_app.specs.Stops.{Signals, AreUsedTill, deadline_in}
 use Rattle.tsume_app.specs.Outside.{Shown, NeverFailed, IsUntouched}
-use Rattle.tsume_app.specs.Run.{IsEnded, IsEndedUnasked}
+use Rattle.tsume_app.specs.Input.{IsAskedFault}
+use Rattle.tsume_app.specs.Run.{IsEnded, IsEndedUnasked, IsCounted, GivesHelp, WantsMemory, IsWellPosed, IsAnswered}
 use Rattle.tsume_app.specs.Status.{status_of, is_answered}
 
 -- How many expansions a search has that the user is told of while it runs; none where that wasn't asked for.
@@ -68,3 +72,10 @@ pub record IsToldRun (words : List Word) (stops : Signals) (source sink errors :
   pub does : (wish : Wish) → command_of words ≡ Some wish → IsEnded wish stops source sink ended
   pub used : AreUsedTill (deadline_in (command_of words)) stops ended
   pub unasked : command_of words ≡ None → IsEndedUnasked words source sink ended
+  pub counted : IsCounted source sink ended
+  pub help : AsksForHelp words → ¬ Rose sink.faults sink.faults_after → GivesHelp ended ⊎ WantsMemory ended
+  pub stopped : (fault : WordFault) → FailsFirst words fault → (ended ≡ Failed (Words fault) []) ⊎ (ended ≡ Failed NoMemory [])
+  pub asked : (wish : Wish) (fault : ProblemFault) → command_of words ≡ Some wish → IsAskedFault wish fault
+      → (ended ≡ Failed (Asked fault) []) ⊎ (ended ≡ Failed NoMemory [])
+  pub complete : (wish : Wish) → command_of words ≡ Some wish → IsWellPosed wish source.told → ¬ Rose source.faults source.faults_after
+      → ¬ Rose sink.faults sink.faults_after → IsAnswered ended ⊎ WantsMemory ended

@@ -114,12 +114,17 @@ pub(crate) struct Clearing<'a, R, W> {
 
 impl<'a, R: io::Eprint + Clock, W: io::Write + Drop> Clearing<'a, R, W> {
     /// Over this writer.
-    pub(crate) fn new(progress: &'a Progress<'a, R>, writer: W) -> Clearing<'a, R, W> {
+    pub(crate) fn new(progress: &'a Progress<'a, R>, writer: W) -> Clearing<'a, R, W>
+        ensures { result.writer ≡ writer }
+    {
         Clearing { progress, writer }
     }
 }
 
 impl<'a, R: io::Eprint + Clock, W: io::Write + Drop> io::Write for Clearing<'a, R, W> {
+    // The writer's bytes.
+    ghost contents = { λ clearing. W.contents clearing.writer };
+
     fn write(&mut self, buf: &[u8]) -> io::Result<usize> {
         self.progress.clear();
         self.writer.write(buf)

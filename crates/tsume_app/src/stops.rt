@@ -1,7 +1,7 @@
 // The stops of a search.
 ghost use Rattle.std.specs.Prelude.{◌≡◌, ◌<◌, length, map, IfOk};
 ghost use Rattle.search_gate.specs.Stop.{armed_with};
-ghost use Rattle.search_pool.specs.End.{IsAloneUntil, IsSolution, IsStoppedBy};
+ghost use Rattle.search_pool.specs.End.{IsAloneUntil, IsSolution, HeedsStop};
 ghost use Rattle.unit_desk.specs.Settings.{settings_in};
 ghost use Rattle.tsume_app.specs.Stops.{AreUsed, first_of, signals};
 
@@ -32,7 +32,7 @@ pub(crate) fn search_armed<G: Gate, T: Stop>(
     requires { 0 < length stops.old }
     ensures alone { IfOk result (IsAloneUntil problem.now.position (settings_in settings.now) (first_of (map T.signal stops.old)) (first_of (map T.signal stops.new))) }
     ensures solution { IfOk result (IsSolution problem.now.position) }
-    ensures stopped { IfOk result (IsStoppedBy (first_of (map T.signal stops.old)) (first_of (map T.signal stops.new))) }
+    ensures heeds { IfOk result (HeedsStop (first_of (map T.signal stops.old)) (first_of (map T.signal stops.new))) }
     ensures used { AreUsed deadline (signals T.signal stops.old stops.new) }
 {
     arm_each(stops, deadline);

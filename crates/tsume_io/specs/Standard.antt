@@ -1,8 +1,11 @@
 -- What is inside an adapter of std's readers, writers or clocks.
-use Rattle.std.specs.Prelude.{ℕ}
+use Rattle.std.specs.Prelude.{ℕ, List, Option, None}
 use Rattle.tsume_io.specs.declared.standard.StdSource.{StdSource}
 use Rattle.tsume_io.specs.declared.standard.StdSink.{StdSink}
 use Rattle.tsume_io.specs.declared.clock.StdClock.{StdClock}
+use Rattle.tsume_io.specs.declared.opened.Noted.{Noted}
+use Rattle.tsume_io.specs.declared.opened.Opened.{Opened}
+use Rattle.tsume_io.specs.declared.opened.Opened.TheVariants.{File, Standard, Refused}
 
 -- the reader that a source adapts
 abbrev pub reader_of : {R : Type 0} → StdSource R → R
@@ -23,3 +26,13 @@ sink_faults sink = sink.faults
 -- what this clock last answered
 abbrev pub last_shown : {R : Type 0} → StdClock R → ℕ
 last_shown clock = clock.shown
+
+-- the reader of which failed reads are noted
+abbrev pub noted_reader : {R : Type 0} → Noted R → R
+noted_reader noted = noted.reader
+
+-- the bytes that reads of what was opened will give, where a file and the standard input tell theirs; nothing is told where opening was refused
+abbrev pub bytes_left : {F R : Type 0} → (F → Option (List ℕ)) → (R → Option (List ℕ)) → Opened F R → Option (List ℕ)
+bytes_left of_file of_reader (File file) = of_file file
+bytes_left of_file of_reader (Standard reader) = of_reader reader
+bytes_left of_file of_reader (Refused reason) = None

@@ -1,4 +1,6 @@
 // What is read where the words may name a file.
+ghost use Rattle.std.specs.Prelude.{◌≡◌};
+
 use std::io;
 
 /// What was opened to be read.
@@ -13,6 +15,11 @@ pub enum Opened<F, R> {
 }
 
 impl<F: io::Read + Drop, R: io::Read + Drop> io::Read for Opened<F, R> {
+    ghost use Rattle.tsume_io.specs.Standard.{bytes_left};
+
+    // The bytes of what was opened.
+    ghost remaining = { λ opened. bytes_left F.remaining R.remaining opened };
+
     fn read(&mut self, buf: &mut [u8]) -> io::Result<usize> {
         match self {
             Opened::File(file) => file.read(buf),
@@ -30,8 +37,12 @@ pub struct Noted<R> {
 }
 
 impl<R: io::Read + Drop> Noted<R> {
+    ghost use Rattle.tsume_io.specs.Standard.{noted_reader};
+
     /// This reader, of which no read failed yet.
-    pub fn new(reader: R) -> Noted<R> {
+    pub fn new(reader: R) -> Noted<R>
+        ensures { noted_reader result ≡ reader }
+    {
         Noted {
             reader,
             reason: None,
@@ -45,6 +56,11 @@ impl<R: io::Read + Drop> Noted<R> {
 }
 
 impl<R: io::Read + Drop> io::Read for Noted<R> {
+    ghost use Rattle.tsume_io.specs.Standard.{noted_reader};
+
+    // The reader's bytes.
+    ghost remaining = { λ noted. R.remaining (noted_reader noted) };
+
     fn read(&mut self, buf: &mut [u8]) -> io::Result<usize> {
         let answer = self.reader.read(buf);
         if let Err(reason) = &answer {

@@ -1,6 +1,6 @@
 use Rattle.std.proofs.Common.{Some, sym, ap, ◌∙◌}
 use Rattle.unit_desk.specs.Settings.{settings_in}
-use Rattle.search_pool.proofs.Ends.{begun, ends_solved, ends_unknown, ends_stopped}
+use Rattle.search_pool.proofs.Ends.{begun, ends_solved, heeds_solved, ends_unknown, heeds_unknown}
 use Rattle.search_pool.proofs.alone.search_over.Goals as goal
 
 pub work_alone-end-requires-after_bounds : goal.work_alone-end-requires-after_bounds
@@ -14,6 +14,12 @@ returns-in-Some-clause-alone g c =
     c.work_alone-end.new.port c.work_alone-end.new.worker c.work_alone-end.result c.in_ok-note.note c.work_alone-end.ensures.way c.work_alone-end.ensures.ended
     (ap Some c.in_ok-note.ensures ∙ c.in-Some.ensures)
 
+pub returns-in-Some-clause-heeds : goal.returns-in-Some-clause-heeds
+returns-in-Some-clause-heeds g c =
+    heeds_solved c.args.problem.now.position (settings_in c.args.settings.now) (g.T.Stop.signal c.args.stop.now) (g.T.Stop.signal c.work_alone-end.new.stop)
+    c.work_alone-end.new.port c.work_alone-end.new.worker c.in_ok-note.note c.work_alone-end.ensures.way
+    (ap Some c.in_ok-note.ensures ∙ c.in-Some.ensures)
+
 pub returns-clause-alone : goal.returns-clause-alone
 returns-clause-alone g c =
     ends_unknown c.args.problem.now.position (settings_in c.args.settings.now) (g.T.Stop.signal c.args.stop.now) (g.T.Stop.signal c.work_alone-end.new.stop)
@@ -21,8 +27,8 @@ returns-clause-alone g c =
     c.visit_laws.ensures.causes c.laws-2.ensures.whole c.in-Some-cause_of.ensures.cause
     (sym c.in_default.ensures) (c.new.ensures ∙ c.in_ok-vec.ensures.items)
 
-pub returns-clause-stopped : goal.returns-clause-stopped
-returns-clause-stopped g c =
-    ends_stopped c.args.problem.now.position (settings_in c.args.settings.now) (g.T.Stop.signal c.args.stop.now) (g.T.Stop.signal c.work_alone-end.new.stop)
+pub returns-clause-heeds : goal.returns-clause-heeds
+returns-clause-heeds g c =
+    heeds_unknown c.args.problem.now.position (settings_in c.args.settings.now) (g.T.Stop.signal c.args.stop.now) (g.T.Stop.signal c.work_alone-end.new.stop)
     c.work_alone-end.new.port c.work_alone-end.new.worker c.work_alone-end.result c.in-Some-cause_of.cause c.new.result c.work_alone-end.ensures.way c.work_alone-end.ensures.ended
     c.visit_laws.ensures.causes c.laws-2.ensures.whole c.in-Some-cause_of.ensures.cause

@@ -10,9 +10,8 @@ turns-preserved-then-drawn g c =
     c.is_stopped-stops.result c.turns.port c.turns.worker e.steps.0 c.step.new.port c.step.new.worker c.turns.invariant
     (record {
       going = e.goes_on;
-      polls = t.polls;
-      signalled = t.signalled;
-      unmoved = t.quiet;
+      at_polls = t.at_polls;
+      signal = t.signal;
       steps = e.steps.1;
       leads = e.steps.2;
       suits = e.suits;
@@ -27,9 +26,8 @@ turns-preserved g c =
     c.is_stopped-stops.result c.turns.port c.turns.worker e.steps.0 c.step.new.port c.step.new.worker c.turns.invariant
     (record {
       going = e.goes_on;
-      polls = t.polls;
-      signalled = t.signalled;
-      unmoved = t.quiet;
+      at_polls = t.at_polls;
+      signal = t.signal;
       steps = e.steps.1;
       leads = e.steps.2;
       suits = e.suits;

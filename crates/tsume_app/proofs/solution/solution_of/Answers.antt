@@ -2,7 +2,7 @@ use Rattle.std.proofs.Common.{map, subst}
 use Rattle.tsume_words.specs.Meaning.{settings_in}
 use Rattle.unit_desk.specs.Sizes.{SettingsView}
 use Rattle.unit_desk.specs.Settings.{settings_in as numbers_in}
-use Rattle.search_pool.specs.End.{IsAloneUntil}
+use Rattle.search_pool.specs.End.{IsAloneUntil, HeedsStop}
 use Rattle.search_pool.specs.declared.end.SearchEnd.{SearchEnd}
 use Rattle.search_pool.specs.declared.end.SearchEnd.TheVariants.{Solved}
 use Rattle.problem_answers.specs.Answer.{search_numbers}
@@ -17,4 +17,5 @@ returns-in-Solved-clause-true_of g c =
     let after = first_of (map g.T.Stop.signal c.search_armed.new.stops) in
     found_of c.verdict.result p (search_numbers (settings_in c.args.settings.now)) (signals g.T.Stop.signal c.args.stops.now c.search_armed.new.stops) c.in-Solved.note
     (subst (λ (n : SettingsView). IsAloneUntil p n before after (Solved c.in-Solved.note)) c.search_settings-numbers.ensures
-    (subst (λ (e : SearchEnd). IsAloneUntil p (numbers_in c.search_settings-numbers.result) before after e) c.in-Solved.is c.in_ok-note.ensures.alone)) c.verdict.ensures.verdict
+    (subst (λ (e : SearchEnd). IsAloneUntil p (numbers_in c.search_settings-numbers.result) before after e) c.in-Solved.is c.in_ok-note.ensures.alone))
+    (subst (HeedsStop before after) c.in-Solved.is c.in_ok-note.ensures.heeds) c.verdict.ensures.verdict

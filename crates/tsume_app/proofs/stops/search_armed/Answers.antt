@@ -1,6 +1,6 @@
 use Rattle.std.specs.Prelude.{IfOk}
 use Rattle.unit_desk.specs.Settings.{settings_in}
-use Rattle.search_pool.specs.End.{IsAloneUntil, IsStoppedBy}
+use Rattle.search_pool.specs.End.{IsAloneUntil, HeedsStop}
 use Rattle.tsume_app.proofs.Armed.{first_holds, used_by}
 use Rattle.tsume_app.proofs.stops.search_armed.Goals as goal
 
@@ -15,7 +15,7 @@ returns g c =
       alone = first_holds (λ s t. IfOk r (IsAloneUntil c.args.problem.now.position (settings_in c.args.settings.now) s t)) c.args.deadline (λ s t h. h)
           signal c.args.stops.now c.arm_each.new.stops one after c.arm_each.ensures c.requires e.alone;
       solution = e.solution;
-      stopped = first_holds (λ s t. IfOk r (IsStoppedBy s t)) c.args.deadline (λ s t h. h)
-          signal c.args.stops.now c.arm_each.new.stops one after c.arm_each.ensures c.requires e.stopped;
-      used = used_by c.args.deadline signal c.args.stops.now c.arm_each.new.stops one after c.arm_each.ensures c.requires e.armed e.arms;
+      heeds = first_holds (λ s t. IfOk r (HeedsStop s t)) c.args.deadline (λ s t h. h)
+          signal c.args.stops.now c.arm_each.new.stops one after c.arm_each.ensures c.requires e.heeds;
+      used = used_by c.args.deadline signal c.args.stops.now c.arm_each.new.stops one after c.arm_each.ensures c.requires e.armed e.arms e.early;
     }
