@@ -33,6 +33,9 @@ says_no before path q (Some (Entered kept)) after h not = refl
 says_no before path q (Some LeftIt) after h not = refl
 says_no before path q (Some PostedIt) after h not = refl
 
+no : {A : Type 0} → false ≡ true → A
+no e = absurd (cc)
+
 told_yes : (stop told : Bool) → stop ≡ told → told ≡ true → says_stop (Poll, Some (Polled stop)) ≡ true
 told_yes true told e yes = refl
 told_yes false told e yes = absurd (cc)
@@ -48,10 +51,10 @@ says_yes before path Poll (Some (Looked seen)) after h polls yes = absurd h
 says_yes before path Poll (Some (Entered kept)) after h polls yes = absurd h
 says_yes before path Poll (Some LeftIt) after h polls yes = absurd h
 says_yes before path Poll (Some PostedIt) after h polls yes = absurd h
-says_yes before path Draws a after h polls yes = absurd (cc)
-says_yes before path Claims a after h polls yes = absurd (cc)
-says_yes before path (Look key) a after h polls yes = absurd (cc)
-says_yes before path (Enter key numbers) a after h polls yes = absurd (cc)
-says_yes before path (Leave kept key update) a after h polls yes = absurd (cc)
-says_yes before path (Post note) a after h polls yes = absurd (cc)
-says_yes before path (End end) a after h polls yes = absurd (cc)
+says_yes before path Draws a after h polls yes = no polls
+says_yes before path Claims a after h polls yes = no polls
+says_yes before path (Look key) a after h polls yes = no polls
+says_yes before path (Enter key numbers) a after h polls yes = no polls
+says_yes before path (Leave kept key update) a after h polls yes = no polls
+says_yes before path (Post note) a after h polls yes = no polls
+says_yes before path (End end) a after h polls yes = no polls

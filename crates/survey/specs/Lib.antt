@@ -1,2 +1,3 @@
 -- Surveys: what the searches of many problems come to.
 pub mod Tally
+pub mod Inside

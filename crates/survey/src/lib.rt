@@ -4,6 +4,7 @@
 //! mate, is none, or was given up, and why. The problems are spread over threads; that changes no [`Tally`].
 #![tactic(auto)]
 
+mod apart;
 mod decide;
 mod tallies;
 mod tally;
