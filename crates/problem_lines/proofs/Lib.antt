@@ -1,5 +1,6 @@
 pub mod Among
 pub mod Cutting
+pub mod Few
 pub mod Lacking
 pub mod Listed
 pub mod Written

@@ -1,5 +1,5 @@
 // The lines of a text, one after another.
-ghost use Rattle.std.specs.Prelude.{◌≡◌, ◌∷◌, [], map, MatchOption};
+ghost use Rattle.std.specs.Prelude.{◌≡◌, ◌≤◌, ◌∷◌, [], length, map, MatchOption};
 ghost use Rattle.std.specs.List.{AllByRecursion};
 ghost use Rattle.std.specs.List.Sorted.{IsStrictlyIncreasing};
 ghost use Rattle.problem_lines.specs.Lines.{problem_lines, seen};
@@ -38,6 +38,9 @@ impl<'a> Lines<'a> {
         ensures written { ListsWhatIsWritten text.now result }
         ensures rising { IsStrictlyIncreasing (map (λ line. line.number) result) }
         ensures problems { AllByRecursion HoldsProblem result }
+
+        // There are no more of them than the text has bytes.
+        ensures few { length result ≤ length text.now }
     {
         Lines {
             rest: text,

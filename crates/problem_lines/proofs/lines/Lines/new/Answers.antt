@@ -1,10 +1,11 @@
--- What is written is read, numbers rise, and none that is listed is skipped.
-use Rattle.std.proofs.Common.{sym, ap, ◌∙◌}
+-- What is written is read, numbers rise, none that is listed is skipped, and there are no more than bytes.
+use Rattle.std.proofs.Common.{sym, ap, ◌∙◌, arith}
 use Rattle.std.specs.Str.Lines.{lines}
 use Rattle.problem_lines.specs.Lines.{problems_among}
 use Rattle.problem_lines.proofs.Listed.{problems_among-rise, problems_among-hold, increasing}
 use Rattle.problem_lines.proofs.Lacking.{lines-feedless}
 use Rattle.problem_lines.proofs.Written.{lines-text_of}
+use Rattle.problem_lines.proofs.Few.{lines-few, problems_among-few}
 use Rattle.problem_lines.proofs.lines.Lines.new.Goals as goal
 
 pub returns-clause-written : goal.returns-clause-written
@@ -15,3 +16,8 @@ returns-clause-rising c = increasing 1 (problems_among 1 (lines c.args.text.now)
 
 pub returns-clause-problems : goal.returns-clause-problems
 returns-clause-problems c = problems_among-hold 1 (lines c.args.text.now) (lines-feedless c.args.text.now)
+
+pub returns-clause-few : goal.returns-clause-few
+returns-clause-few c =
+    let all = lines c.args.text.now in
+    omega (arith, lines-few c.args.text.now, problems_among-few 1 all)
