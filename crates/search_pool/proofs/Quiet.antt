@@ -37,24 +37,24 @@ no : {A : Type 0} → false ≡ true → A
 no e = absurd (cc)
 
 told_yes : (stop told : Bool) → stop ≡ told → told ≡ true → says_stop (Poll, Some (Polled stop)) ≡ true
-told_yes true told e yes = refl
-told_yes false told e yes = absurd (cc)
+told_yes true told e raised = refl
+told_yes false told e raised = absurd (cc)
 
 -- Where a stop is signalled, a poll is told so.
 pub says_yes : (before : Lone) (path : List Key) (q : Request) (a : Option Answer) (after : Lone) → Turns before path q a after → is_poll q ≡ true → before.stops ≡ true
     → says_stop (q, a) ≡ true
-says_yes before path Poll None after h polls yes = absurd h
-says_yes before path Poll (Some (Polled stop)) after h polls yes = told_yes stop before.stops h.0 yes
-says_yes before path Poll (Some (Drew draw)) after h polls yes = absurd h
-says_yes before path Poll (Some (Claimed claim)) after h polls yes = absurd h
-says_yes before path Poll (Some (Looked seen)) after h polls yes = absurd h
-says_yes before path Poll (Some (Entered kept)) after h polls yes = absurd h
-says_yes before path Poll (Some LeftIt) after h polls yes = absurd h
-says_yes before path Poll (Some PostedIt) after h polls yes = absurd h
-says_yes before path Draws a after h polls yes = no polls
-says_yes before path Claims a after h polls yes = no polls
-says_yes before path (Look key) a after h polls yes = no polls
-says_yes before path (Enter key numbers) a after h polls yes = no polls
-says_yes before path (Leave kept key update) a after h polls yes = no polls
-says_yes before path (Post note) a after h polls yes = no polls
-says_yes before path (End end) a after h polls yes = no polls
+says_yes before path Poll None after h polls raised = absurd h
+says_yes before path Poll (Some (Polled stop)) after h polls raised = told_yes stop before.stops h.0 raised
+says_yes before path Poll (Some (Drew draw)) after h polls raised = absurd h
+says_yes before path Poll (Some (Claimed claim)) after h polls raised = absurd h
+says_yes before path Poll (Some (Looked seen)) after h polls raised = absurd h
+says_yes before path Poll (Some (Entered kept)) after h polls raised = absurd h
+says_yes before path Poll (Some LeftIt) after h polls raised = absurd h
+says_yes before path Poll (Some PostedIt) after h polls raised = absurd h
+says_yes before path Draws a after h polls raised = no polls
+says_yes before path Claims a after h polls raised = no polls
+says_yes before path (Look key) a after h polls raised = no polls
+says_yes before path (Enter key numbers) a after h polls raised = no polls
+says_yes before path (Leave kept key update) a after h polls raised = no polls
+says_yes before path (Post note) a after h polls raised = no polls
+says_yes before path (End end) a after h polls raised = no polls

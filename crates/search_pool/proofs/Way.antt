@@ -1,5 +1,5 @@
 -- A search with one worker goes on by one request.
-use Rattle.std.proofs.Common.{◌≡◌, ◌⊎◌, inl, inr, ℕ, List, [], ◌∷◌, ◌++◌, arith, refl, sym, ap, ◌∙◌, subst, append_assoc, Bool, true, false}
+use Rattle.std.proofs.Common.{◌≡◌, inl, inr, ℕ, List, [], ◌∷◌, ◌++◌, arith, refl, sym, ap, ◌∙◌, subst, append_assoc, Bool, true, false}
 use Rattle.std.specs.Prelude.{Some, None, All, if◌then◌else◌}
 use Rattle.std.proofs.lemmas.List.{map_push}
 use Rattle.std.proofs.lemmas.List.Elements.{All-push, All-append, All-cons, All-nil}
@@ -138,9 +138,9 @@ quiet_on : (before mid after : Signal) (stops : Bool) (port : Lone) (worker : St
     → IsRequest before mid after stops port worker x next later → IsWindingUp log port worker → is_poll x.0 ≡ is_poll (asks worker.state)
     → IsQuiet before mid schedule log → IsQuiet before after (schedule ++ new_events stops) (log ++ x ∷ [])
 quiet_on before mid after true port worker x next later schedule log r w asked (inl q) =
-    let yes = says_yes (opened port true) (path_of worker.task worker.state.frames) x.0 x.1 next r.steps.turns (asked ∙ r.at_polls refl) refl in
+    let said = says_yes (opened port true) (path_of worker.task worker.state.frames) x.0 x.1 next r.steps.turns (asked ∙ r.at_polls refl) refl in
     inr (
-      said_now says_stop log x yes,
+      said_now says_stop log x said,
       ap (λ (z : Signal). z.raised) (r.signal ∙ once_polled mid true (is_poll (asks worker.state)) (r.at_polls refl)) ∙ ap one_more q.2,
     )
 quiet_on before mid after true port worker x next later schedule log r w asked (inr q) =

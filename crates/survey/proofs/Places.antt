@@ -1,8 +1,8 @@
 -- Tallies where their problems stand.
-use Rattle.std.proofs.Common.{◌≡◌, ◌<◌, ◌+◌, ◌++◌, ℕ, List, [], ◌∷◌, Option, Some, None, IfSome, IfOk, Result, Ok, Err, length, get_or, set, replicate, inl, inr, refl, sym, subst, ap, ◌∙◌, arith}
-use Rattle.std.specs.Prelude.{slice_get}
+use Rattle.std.proofs.Common.{◌≡◌, ◌<◌, ◌+◌, ◌++◌, ℕ, List, [], ◌∷◌, Bool, true, false, if◌then◌else◌, Option, Some, None, IfSome, IfOk, All, Result, Ok, Err, length, get_or, set, replicate, inl, inr, sym, subst, ap, ◌∙◌, arith}
 use Rattle.std.proofs.lemmas.Bool.{cases_eq}
 use Rattle.std.proofs.lemmas.List.{length-append, length-replicate, length-set, get_or_append_left, get_or_push, get_or-replicate, get_or-set_same, get_or-set_other}
+use Rattle.std.proofs.lemmas.List.Elements.{All-push}
 use Rattle.std.proofs.lemmas.Option.{slice_get_within, slice_get-get_or, get_or_from_slice_get}
 use Rattle.survey.specs.declared.tally.Tally.{Tally}
 use Rattle.survey.specs.Tally.{IsTallied, AreTallied}
@@ -51,3 +51,8 @@ tallied_on first n expansions tallies after tally are one is = subst (AreTallied
 pub answer_so : {A E : Type 0} (r : Result A E) (P Q : A → Type 0) → IfOk r P → ((a : A) → P a → Q a) → IfOk r Q
 answer_so (Ok a) P Q so leads = leads a so
 answer_so (Err e) P Q so leads = tt
+
+-- One more holds too, where it was put behind the others.
+pub all_pushed : {X : Type 0} (P : X → Type 0) (before after : List X) (x : X) (b : Bool) → after ≡ (if b then before ++ x ∷ [] else before) → All P before → P x → All P after
+all_pushed P before after x true e all one = subst (All P) (sym e) (All-push P before x all one)
+all_pushed P before after x false e all one = subst (All P) (sym e) all

@@ -1,4 +1,4 @@
-use Rattle.std.proofs.Common.{◌≡◌, ℕ, All, length, take}
+use Rattle.std.proofs.Common.{◌≡◌, ℕ, All, length}
 use Rattle.survey.specs.Inside.{IsMade, AreTalliesAt}
 use Rattle.survey.proofs.apart.put_all.Given as goal
 
