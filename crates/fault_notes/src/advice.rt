@@ -1,4 +1,7 @@
 // What was expected, and what to do, in lines of less than 80 columns.
+ghost use Rattle.std.specs.Option.{IfSome};
+ghost use Rattle.fault_notes.specs.Shown.{IsPlain, IsReadable};
+
 use crate::look::Look;
 use board_core::BadPosition;
 use cert_text::CertFault;
@@ -6,7 +9,9 @@ use kif_text::KifFault;
 use sfen_text::TextFault;
 
 /// What is said of a text that looks like something else than a problem; none where it doesn't.
-pub(crate) fn advice_on_problem_look(look: Look) -> Option<&'static str> {
+pub(crate) fn advice_on_problem_look(look: Look) -> Option<&'static str>
+    ensures { IfSome result (λ advice. IsPlain advice.now) }
+{
     match look {
         Look::Blank => Some(
             "The input is empty. A problem is one line, an SFEN: the board, the side to\nmove, and the hands.\n",
@@ -25,7 +30,9 @@ const ON_ANSWER: &str =
     "This looks like an answer of `tsume solve`. `tsume check` reads those; the\nproblem itself stands behind the word `problem`.\n";
 
 /// What is said of a text that looks like something else than a KIF file; none where it doesn't.
-pub(crate) fn advice_on_diagram_look(look: Look) -> Option<&'static str> {
+pub(crate) fn advice_on_diagram_look(look: Look) -> Option<&'static str>
+    ensures { IfSome result (λ advice. IsPlain advice.now) }
+{
     match look {
         Look::Blank => Some(
             "The input is empty. With --kif a problem is the board diagram of a KIF file.\n",
@@ -37,7 +44,9 @@ pub(crate) fn advice_on_diagram_look(look: Look) -> Option<&'static str> {
 }
 
 /// What is said of a text that looks like something else than a certificate; none where it doesn't.
-pub(crate) fn advice_on_certificate_look(look: Look) -> Option<&'static str> {
+pub(crate) fn advice_on_certificate_look(look: Look) -> Option<&'static str>
+    ensures { IfSome result (λ advice. IsPlain advice.now) }
+{
     match look {
         Look::Blank => Some(
             "The input is empty. `tsume check` reads what `tsume solve` prints: did that\nend with a fault?\n",
@@ -53,7 +62,9 @@ pub(crate) fn advice_on_certificate_look(look: Look) -> Option<&'static str> {
     }
 }
 
-fn advice_on_bytes(look: Look) -> Option<&'static str> {
+fn advice_on_bytes(look: Look) -> Option<&'static str>
+    ensures { IfSome result (λ advice. IsPlain advice.now) }
+{
     match look {
         Look::ByteOrderMark => Some(
             "The text begins with a byte-order mark (the bytes EF BB BF). Save it as ASCII,\nor as UTF-8 without one.\n",
@@ -67,7 +78,9 @@ fn advice_on_bytes(look: Look) -> Option<&'static str> {
 }
 
 /// What was expected where a text stops being a position's, and what a position needs.
-pub(crate) fn advice_on_problem(fault: TextFault) -> &'static str {
+pub(crate) fn advice_on_problem(fault: TextFault) -> &'static str
+    ensures { IsPlain result.now }
+{
     match fault {
         TextFault::BadRow(_) => {
             "Expected: nine rows of nine squares each, with / between them. A digit stands\nfor so many empty squares.\n"
@@ -91,7 +104,9 @@ pub(crate) fn advice_on_problem(fault: TextFault) -> &'static str {
     }
 }
 
-fn advice_on_position(fault: BadPosition) -> &'static str {
+fn advice_on_position(fault: BadPosition) -> &'static str
+    ensures { IsPlain result.now }
+{
     match fault {
         BadPosition::TooMany(_) => {
             "A set has 18 P, 4 each of L, N, S and G, and 2 each of B and R: on the board,\npromoted or not, and in both hands together.\n"
@@ -110,7 +125,10 @@ fn advice_on_position(fault: BadPosition) -> &'static str {
 }
 
 /// What was expected where a text stops being a diagram's, and what a position needs.
-pub(crate) fn advice_on_diagram(fault: KifFault) -> &'static str {
+#[tactic(auto, using(crate::proofs::Readable::readable_plain))]
+pub(crate) fn advice_on_diagram(fault: KifFault) -> &'static str
+    ensures { IsReadable result.now }
+{
     match fault {
         KifFault::NotUtf8(_) => {
             "Expected: UTF-8. Many KIF files are Shift-JIS, which can be converted:\niconv -f CP932 -t UTF-8 FILE | tsume solve --kif\n"
@@ -164,7 +182,9 @@ pub(crate) const ON_PROBLEM_TO_CHECK: &str =
     "This looks like a problem. `tsume solve` reads problems, and prints the\ncertificates that `tsume check` reads.\n";
 
 /// What was expected where a text stops being a certificate's.
-pub(crate) fn advice_on_certificate(fault: CertFault) -> &'static str {
+pub(crate) fn advice_on_certificate(fault: CertFault) -> &'static str
+    ensures { IsPlain result.now }
+{
     match fault {
         CertFault::BadHead => {
             "Expected: `certificate 1 mate N` or `certificate 1 escape N`, then `problem`\nand an SFEN as `tsume solve` writes it; at most `checkmate ..` before these.\n"

@@ -1,4 +1,7 @@
 // What is told of a fault of a KIF text behind its first line.
+ghost use Rattle.std.specs.Prelude.{◌≡◌, true, OnOk};
+ghost use Rattle.fault_notes.specs.Shown.{is_readable, IsPlain, IsReadable};
+
 use crate::advice::{ON_SFEN_WITH_KIF, advice_on_diagram, advice_on_diagram_look};
 use crate::line::{append_mark, append_place};
 use crate::look::{Look, holds, look_of};
@@ -15,7 +18,9 @@ fn text_of(input: &[u8]) -> &str {
 }
 
 // A character as it is shown: one in which diagrams are written, which is printable, or else `?`.
-fn shown(character: char) -> char {
+fn shown(character: char) -> char
+    ensures { is_readable result ≡ true }
+{
     match character {
         ' '..='~' | '\u{3000}'..='\u{30ff}' | '\u{4e00}'..='\u{9fff}' | '\u{ff01}'..='\u{ff5e}' => {
             character
@@ -24,35 +29,72 @@ fn shown(character: char) -> char {
     }
 }
 
+// Writes readable text.
+#[tactic(auto, using(crate::proofs::Readable::readable_append))]
+fn append_readable(out: &mut Vec<u8>, text: &[u8]) -> Result<(), AllocError>
+    requires text { IsReadable text.now }
+    requires readable { IsReadable out.now.items }
+    ensures readable { OnOk result (IsReadable out.new.items) }
+{
+    out.extend_from_slice(text)
+}
+
+// Writes plain text.
+#[tactic(auto, using(crate::proofs::Readable::readable_plain))]
+fn append_plain(out: &mut Vec<u8>, text: &[u8]) -> Result<(), AllocError>
+    requires text { IsPlain text.now }
+    requires readable { IsReadable out.now.items }
+    ensures readable { OnOk result (IsReadable out.new.items) }
+{
+    append_readable(out, text)
+}
+
+// Writes a character.
+#[tactic(auto, using(crate::proofs::Readable::readable_character))]
+fn append_character(alloc: Global, out: &mut Vec<u8>, character: char) -> Result<(), AllocError>
+    requires character { is_readable character ≡ true }
+    requires readable { IsReadable out.now.items }
+    ensures readable { OnOk result (IsReadable out.new.items) }
+{
+    let mut text = String::new(alloc);
+    text.push(character)?;
+    append_readable(out, text.as_bytes())
+}
+
 // Writes the line with this number, from 1, and `..` where it is cut.
 fn append_text(
     alloc: Global,
     out: &mut Vec<u8>,
     input: &[u8],
     number: usize,
-) -> Result<(), AllocError> {
+) -> Result<(), AllocError>
+    requires readable { IsReadable out.now.items }
+    ensures readable { OnOk result (IsReadable out.new.items) }
+{
     let mut lines = text_of(input).lines();
     let line = lines.nth(number.saturating_sub(1)).unwrap_or("");
-    let mut text = String::new(alloc);
-    text.push_str("    ")?;
+    append_plain(out, b"    ")?;
     for character in line.chars().take(MOST_CHARACTERS) {
-        text.push(shown(character))?;
+        append_character(alloc, out, shown(character))?;
     }
     if line.chars().count() > MOST_CHARACTERS {
-        text.push_str("..")?;
+        append_plain(out, b"..")?;
     }
-    text.push('\n')?;
-    out.extend_from_slice(text.as_bytes())
+    append_plain(out, b"\n")
 }
 
 // Writes a line and its number.
+#[tactic(auto, using(crate::proofs::Plain::plain_append, crate::proofs::Plain::plain_decimal))]
 fn append_text_line(
     alloc: Global,
     out: &mut Vec<u8>,
     input: &[u8],
     number: usize,
-) -> Result<(), AllocError> {
-    out.extend_from_slice(format!(in alloc; "line {number}:\n")?.as_bytes())?;
+) -> Result<(), AllocError>
+    requires readable { IsReadable out.now.items }
+    ensures readable { OnOk result (IsReadable out.new.items) }
+{
+    append_plain(out, format!(in alloc; "line {number}:\n")?.as_bytes())?;
     append_text(alloc, out, input, number)
 }
 
@@ -74,22 +116,28 @@ fn number_of_row(text: &str, row: u8) -> usize {
 
 // Writes the line with this row of the diagram, and marks the cell in this column. The bar takes one column of the line, and
 // each cell three: its second character is a wide one.
+#[tactic(auto, using(crate::proofs::Plain::plain_append, crate::proofs::Plain::plain_decimal))]
 fn append_cell(
     alloc: Global,
     out: &mut Vec<u8>,
     input: &[u8],
     row: u8,
     column: u8,
-) -> Result<(), AllocError> {
+) -> Result<(), AllocError>
+    requires readable { IsReadable out.now.items }
+    ensures readable { OnOk result (IsReadable out.new.items) }
+{
     let number = number_of_row(text_of(input), row);
-    out.extend_from_slice(format!(in alloc;
-        "line {number}, row {row}, column {column}:\n"
-    )?.as_bytes())?;
+    append_plain(
+        out,
+        format!(in alloc; "line {number}, row {row}, column {column}:\n")?.as_bytes(),
+    )?;
     append_text(alloc, out, input, number)?;
     let cells = usize::from(column).saturating_sub(1);
-    append_mark(out, cells.saturating_mul(3).saturating_add(5))?;
-    out.push(b'\n')?;
-    Ok(())
+    let mut mark = Vec::new(alloc);
+    append_mark(&mut mark, cells.saturating_mul(3).saturating_add(5))?;
+    append_plain(out, &mark)?;
+    append_plain(out, b"\n")
 }
 
 // Writes what the text has where its fault is.
@@ -98,9 +146,16 @@ fn append_fault(
     out: &mut Vec<u8>,
     fault: KifFault,
     input: &[u8],
-) -> Result<(), AllocError> {
+) -> Result<(), AllocError>
+    requires readable { IsReadable out.now.items }
+    ensures readable { OnOk result (IsReadable out.new.items) }
+{
     match fault {
-        KifFault::NotUtf8(at) => append_place(alloc, out, input, at),
+        KifFault::NotUtf8(at) => {
+            let mut place = Vec::new(alloc);
+            append_place(alloc, &mut place, input, at)?;
+            append_plain(out, &place)
+        }
         KifFault::BadCell(row, column) => append_cell(alloc, out, input, row, column),
         KifFault::HandicapName(line)
         | KifFault::BadHand(line)
@@ -121,14 +176,17 @@ pub(crate) fn append_diagram_note(
     out: &mut Vec<u8>,
     fault: KifFault,
     input: &[u8],
-) -> Result<(), AllocError> {
+) -> Result<(), AllocError>
+    requires readable { IsReadable out.now.items }
+    ensures readable { OnOk result (IsReadable out.new.items) }
+{
     let look = look_of(input);
     if let Some(advice) = advice_on_diagram_look(look) {
-        return out.extend_from_slice(advice.as_bytes());
+        return append_plain(out, advice.as_bytes());
     }
     if fault == KifFault::NoDiagram && look != Look::Record && is_sfen(input) {
-        return out.extend_from_slice(ON_SFEN_WITH_KIF.as_bytes());
+        return append_plain(out, ON_SFEN_WITH_KIF.as_bytes());
     }
     append_fault(alloc, out, fault, input)?;
-    out.extend_from_slice(advice_on_diagram(fault).as_bytes())
+    append_readable(out, advice_on_diagram(fault).as_bytes())
 }

@@ -1,4 +1,7 @@
 // Lines of a text, and how one is shown.
+ghost use Rattle.std.specs.Prelude.{◌≡◌, true, OnOk};
+ghost use Rattle.fault_notes.specs.Shown.{is_plain, IsPlain};
+
 use std::alloc::{AllocError, Global};
 
 // The most bytes of a line that are shown.
@@ -35,7 +38,9 @@ pub(crate) fn line_at(text: &[u8], at: usize) -> (Line<'_>, usize) {
 }
 
 // A byte as it is shown: a character of one column.
-fn shown(byte: u8) -> u8 {
+fn shown(byte: u8) -> u8
+    ensures { is_plain result ≡ true }
+{
     if byte.is_ascii_graphic() || byte == b' ' {
         byte
     } else {
@@ -43,58 +48,82 @@ fn shown(byte: u8) -> u8 {
     }
 }
 
+/// Writes plain text.
+#[tactic(auto, using(crate::proofs::Plain::plain_append))]
+pub(crate) fn append(out: &mut Vec<u8>, text: &[u8]) -> Result<(), AllocError>
+    requires text { IsPlain text.now }
+    requires plain { IsPlain out.now.items }
+    ensures plain { OnOk result (IsPlain out.new.items) }
+{
+    out.extend_from_slice(text)
+}
+
 // Writes the part of a line that begins with this byte, and `..` where it is cut.
-fn append_part(out: &mut Vec<u8>, bytes: &[u8], from: usize) -> Result<(), AllocError> {
-    out.extend_from_slice(b"    ")?;
+fn append_part(out: &mut Vec<u8>, bytes: &[u8], from: usize) -> Result<(), AllocError>
+    requires plain { IsPlain out.now.items }
+    ensures plain { OnOk result (IsPlain out.new.items) }
+{
+    append(out, b"    ")?;
     if from > 0 {
-        out.extend_from_slice(b"..")?;
+        append(out, b"..")?;
     }
     for byte in bytes.iter().skip(from).take(MOST_SHOWN) {
-        out.push(shown(*byte))?;
+        append(out, &[shown(*byte)])?;
     }
     if bytes.len().saturating_sub(from) > MOST_SHOWN {
-        out.extend_from_slice(b"..")?;
+        append(out, b"..")?;
     }
-    out.push(b'\n')?;
-    Ok(())
+    append(out, b"\n")
 }
 
 /// Writes a line and its number.
+#[tactic(auto, using(crate::proofs::Plain::plain_append, crate::proofs::Plain::plain_decimal))]
 pub(crate) fn append_line(
     alloc: Global,
     out: &mut Vec<u8>,
     line: Line<'_>,
-) -> Result<(), AllocError> {
+) -> Result<(), AllocError>
+    requires plain { IsPlain out.now.items }
+    ensures plain { OnOk result (IsPlain out.new.items) }
+{
     let number = line.number;
-    out.extend_from_slice(format!(in alloc; "line {number}:\n")?.as_bytes())?;
+    append(out, format!(in alloc; "line {number}:\n")?.as_bytes())?;
     append_part(out, line.bytes, 0)
 }
 
 /// Writes so many spaces, and a mark.
-pub(crate) fn append_mark(out: &mut Vec<u8>, spaces: usize) -> Result<(), AllocError> {
+pub(crate) fn append_mark(out: &mut Vec<u8>, spaces: usize) -> Result<(), AllocError>
+    requires plain { IsPlain out.now.items }
+    ensures plain { OnOk result (IsPlain out.new.items) }
+{
     for _ in 0..spaces {
-        out.push(b' ')?;
+        append(out, b" ")?;
     }
-    out.push(b'^')?;
-    Ok(())
+    append(out, b"^")
 }
 
 /// Writes the line on which this byte of the text stands, from 0, cut around it where it is long, and marks the byte.
+#[tactic(auto, using(crate::proofs::Plain::plain_append, crate::proofs::Plain::plain_decimal))]
 pub(crate) fn append_place(
     alloc: Global,
     out: &mut Vec<u8>,
     text: &[u8],
     at: usize,
-) -> Result<(), AllocError> {
+) -> Result<(), AllocError>
+    requires plain { IsPlain out.now.items }
+    ensures plain { OnOk result (IsPlain out.new.items) }
+{
     let (line, before) = line_at(text, at);
     let number = line.number;
     let column = before.saturating_add(1);
-    out.extend_from_slice(format!(in alloc; "line {number}, column {column}:\n")?.as_bytes())?;
+    append(
+        out,
+        format!(in alloc; "line {number}, column {column}:\n")?.as_bytes(),
+    )?;
     let from = first_shown(line.bytes.len(), before);
     append_part(out, line.bytes, from)?;
     append_mark(out, columns_before(before, from))?;
-    out.extend_from_slice(format!(in alloc; " byte {at}\n")?.as_bytes())?;
-    Ok(())
+    append(out, format!(in alloc; " byte {at}\n")?.as_bytes())
 }
 
 // The first byte that is shown of a line so long, so that this one is.

@@ -1,20 +1,19 @@
 // What is told of a fault behind its first line.
+ghost use Rattle.std.specs.Prelude.{IfOk, OnOk};
+ghost use Rattle.fault_notes.specs.Shown.{IsPlain, IsHarmless};
+
 use crate::advice::{
     ON_DEFENDER_IN_CHECK, ON_LENGTH, ON_NO_MEMORY, ON_PROBLEM_TO_CHECK, ON_SEVERAL_LINES, ON_TABS,
     ON_WRITE, advice_on_certificate, advice_on_certificate_look, advice_on_problem,
     advice_on_problem_look,
 };
 use crate::diagram::append_diagram_note;
-use crate::line::{append_line, append_place, line_of};
+use crate::line::{append, append_line, append_place, line_of};
 use crate::look::{Look, holds, look_of};
 use crate::trouble::Trouble;
 use cert_text::CertFault;
 use sfen_text::TextFault;
 use std::alloc::{AllocError, Global};
-
-fn append(out: &mut Vec<u8>, text: &str) -> Result<(), AllocError> {
-    out.extend_from_slice(text.as_bytes())
-}
 
 // The byte at which the text stops being a position's; none where it is one's.
 fn place_of(fault: TextFault) -> Option<usize> {
@@ -53,7 +52,9 @@ fn is_worth_showing(look: Look) -> bool {
     )
 }
 
-fn advice_at(fault: TextFault, text: &[u8], at: usize) -> &'static str {
+fn advice_at(fault: TextFault, text: &[u8], at: usize) -> &'static str
+    ensures { IsPlain result.now }
+{
     if let Some(advice) = advice_on_problem_look(look_of(text)) {
         return advice;
     }
@@ -71,14 +72,17 @@ fn append_problem_note(
     out: &mut Vec<u8>,
     fault: TextFault,
     text: &[u8],
-) -> Result<(), AllocError> {
+) -> Result<(), AllocError>
+    requires plain { IsPlain out.now.items }
+    ensures plain { OnOk result (IsPlain out.new.items) }
+{
     let Some(at) = place_of(fault) else {
-        return append(out, advice_on_problem(fault));
+        return append(out, advice_on_problem(fault).as_bytes());
     };
     if is_worth_showing(look_of(text)) {
         append_place(alloc, out, text, at)?;
     }
-    append(out, advice_at(fault, text, at))
+    append(out, advice_at(fault, text, at).as_bytes())
 }
 
 // The number of the line `certificate ..`, from 1: a line of an answer may stand before it.
@@ -107,7 +111,9 @@ fn number_of_bad_line(text: &[u8]) -> usize {
 }
 
 // What is said where the head is none.
-fn advice_on_head(text: &[u8]) -> &'static str {
+fn advice_on_head(text: &[u8]) -> &'static str
+    ensures { IsPlain result.now }
+{
     if let Some(advice) = advice_on_certificate_look(look_of(text)) {
         return advice;
     }
@@ -117,15 +123,20 @@ fn advice_on_head(text: &[u8]) -> &'static str {
     advice_on_certificate(CertFault::BadHead)
 }
 
-fn append_head_note(alloc: Global, out: &mut Vec<u8>, text: &[u8]) -> Result<(), AllocError> {
+fn append_head_note(alloc: Global, out: &mut Vec<u8>, text: &[u8]) -> Result<(), AllocError>
+    requires plain { IsPlain out.now.items }
+    ensures plain { OnOk result (IsPlain out.new.items) }
+{
     if is_worth_showing(look_of(text)) {
         append_line(alloc, out, line_of(text, number_of_bad_line(text)))?;
     }
-    append(out, advice_on_head(text))
+    append(out, advice_on_head(text).as_bytes())
 }
 
 // What is said of a line behind the problem's.
-fn advice_on_line(fault: CertFault, line: &[u8]) -> &'static str {
+fn advice_on_line(fault: CertFault, line: &[u8]) -> &'static str
+    ensures { IsPlain result.now }
+{
     if line.ends_with(b"\r")
         && let Some(advice) = advice_on_certificate_look(Look::AnswerWithReturns)
     {
@@ -140,14 +151,17 @@ fn append_line_note(
     fault: CertFault,
     behind: u64,
     text: &[u8],
-) -> Result<(), AllocError> {
+) -> Result<(), AllocError>
+    requires plain { IsPlain out.now.items }
+    ensures plain { OnOk result (IsPlain out.new.items) }
+{
     let behind = usize::try_from(behind).unwrap_or(usize::MAX);
     let number = number_of_claim(text)
         .saturating_add(1)
         .saturating_add(behind);
     let line = line_of(text, number);
     append_line(alloc, out, line)?;
-    append(out, advice_on_line(fault, line.bytes))
+    append(out, advice_on_line(fault, line.bytes).as_bytes())
 }
 
 fn append_certificate_note(
@@ -155,13 +169,19 @@ fn append_certificate_note(
     out: &mut Vec<u8>,
     fault: CertFault,
     text: &[u8],
-) -> Result<(), AllocError> {
+) -> Result<(), AllocError>
+    requires plain { IsPlain out.now.items }
+    ensures plain { OnOk result (IsPlain out.new.items) }
+{
     match fault {
         CertFault::BadHead => append_head_note(alloc, out, text),
         CertFault::BadLine(behind) | CertFault::NotRising(behind) => {
             append_line_note(alloc, out, fault, behind, text)
         }
-        CertFault::WrongCount | CertFault::NoEnd => append(out, advice_on_certificate(fault)),
+        CertFault::WrongCount | CertFault::NoEnd => append(
+            out,
+            advice_on_certificate(fault).as_bytes(),
+        ),
     }
 }
 
@@ -169,16 +189,20 @@ fn append_certificate_note(
 /// marked where there is one; then what was expected, or what to do. The input is the whole text at fault; of a trouble that isn't a
 /// text's it doesn't count. Lines are of less than 80 columns, and end with a line feed. They are of printable ASCII, but of a KIF text,
 /// where they also have the Japanese characters that such texts are written in. Errors: want of memory alone.
-pub fn explain(alloc: Global, trouble: Trouble, input: &[u8]) -> Result<Vec<u8>, AllocError> {
+pub fn explain(alloc: Global, trouble: Trouble, input: &[u8]) -> Result<Vec<u8>, AllocError>
+    // Whatever the input's bytes are, what is told of them is of printable ASCII and line feeds, and of a diagram's of Japanese
+    // characters too.
+    ensures harmless { IfOk result (λ note. IsHarmless trouble note.items) }
+{
     let mut out = Vec::new(alloc);
     match trouble {
         Trouble::Problem(fault) => append_problem_note(alloc, &mut out, fault, input)?,
         Trouble::Diagram(fault) => append_diagram_note(alloc, &mut out, fault, input)?,
-        Trouble::DefenderInCheck => append(&mut out, ON_DEFENDER_IN_CHECK)?,
+        Trouble::DefenderInCheck => append(&mut out, ON_DEFENDER_IN_CHECK.as_bytes())?,
         Trouble::Certificate(fault) => append_certificate_note(alloc, &mut out, fault, input)?,
-        Trouble::TooLong => append(&mut out, ON_LENGTH)?,
-        Trouble::Write => append(&mut out, ON_WRITE)?,
-        Trouble::NoMemory => append(&mut out, ON_NO_MEMORY)?,
+        Trouble::TooLong => append(&mut out, ON_LENGTH.as_bytes())?,
+        Trouble::Write => append(&mut out, ON_WRITE.as_bytes())?,
+        Trouble::NoMemory => append(&mut out, ON_NO_MEMORY.as_bytes())?,
     }
     Ok(out)
 }

@@ -1,0 +1,2 @@
+-- What is shown to a user.
+pub mod Shown
