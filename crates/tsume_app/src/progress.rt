@@ -1,4 +1,6 @@
 // How far a search has come, for a user who waits. No clause depends on it.
+ghost use Rattle.std.specs.Prelude.{◌≡◌};
+
 use search_gate::Gate;
 use std::sync::atomic::{AtomicU64, Ordering};
 use std::time::Clock;

@@ -1,13 +1,15 @@
 // Workers over any port.
 ghost use Rattle.std.specs.Prelude.{◌≡◌, ◌<◌, true, length};
-ghost use Rattle.world_play.specs.Crew.{IsCrew};
+ghost use Rattle.visit_log.specs.Run.{Standing};
+ghost use Rattle.world_play.specs.Crew.{IsCrew, ChangesAt, IsTurned, IsStarved};
 
 use std::alloc::Global;
 use visit_log::{WorkEnd, count_laws, sound_laws};
 use worker_core::{Port, Worker, turn};
 
 /// Has one request of the worker at the place, from 0, answered by a port that goes on, whatever wraps the table and the desk of its workers; and says
-/// how the worker had ended where it has no request. What the port holds and gave stays what its workers have, all together.
+/// how the worker had ended where it has no request, and then nothing changes. The other workers stay as they were. What the port holds and gave stays
+/// what its workers have, all together.
 pub fn turn_in_crew<P: Port>(
     alloc: Global,
     port: &mut P,
@@ -19,6 +21,8 @@ pub fn turn_in_crew<P: Port>(
     requires crew { IsCrew (P.book port.old) workers.old.items }
     ensures crew { IsCrew (P.book port.new) workers.new.items }
     ensures as_many { length workers.new.items ≡ length workers.old.items }
+    ensures turned { (worker : Standing) × (next : Standing) × ChangesAt workers.old.items place worker next workers.new.items
+        × IsTurned P.turn P.book port.old port.new worker next result }
 {
     sound_laws();
     count_laws();
@@ -26,12 +30,14 @@ pub fn turn_in_crew<P: Port>(
     turn(alloc, worker, port)
 }
 
-/// Starves the worker at the place, from 0. What the port holds and gave stays what its workers have, all together. Takes no memory.
+/// Starves the worker at the place, from 0: it winds up for want of memory, unless it has ended. The other workers stay as they were. What the port
+/// holds and gave stays what its workers have, all together. Takes no memory.
 pub fn starve_in_crew<P: Port>(_port: &P, workers: &mut Vec<Worker>, place: usize)
     requires there { place < length workers.old.items }
     requires crew { IsCrew (P.book _port.now) workers.old.items }
     ensures crew { IsCrew (P.book _port.now) workers.new.items }
     ensures as_many { length workers.new.items ≡ length workers.old.items }
+    ensures starved { (worker : Standing) × (next : Standing) × ChangesAt workers.old.items place worker next workers.new.items × IsStarved worker next }
 {
     let worker = &mut workers[place];
     worker.starve();

@@ -1,3 +1,4 @@
+use Rattle.std.proofs.Common.{refl}
 use Rattle.world_play.proofs.Crews.{read_there, crew_suits, crew_turned}
 use Rattle.world_play.proofs.crew.turn_in_crew.Goals as goal
 
@@ -22,3 +23,15 @@ returns-clause-crew g c =
     let there = read_there ws c.args.place worker c.requires.there c.index_mut-worker.ensures.value in
     let e = c.turn.ensures in
     crew_turned (g.P.Port.book c.args.port.now) (g.P.Port.book c.turn.new.port) ws c.args.place worker c.turn.new.worker e.went.0 c.requires.crew there e.others e.suits e.went.1.task e.idle e.went.1.log
+
+pub returns-clause-turned : goal.returns-clause-turned
+returns-clause-turned g c =
+    let ws = c.args.workers.now.items in
+    let worker = c.index_mut-worker.result.now in
+    let there = read_there ws c.args.place worker c.requires.there c.index_mut-worker.ensures.value in
+    let e = c.turn.ensures in (
+      worker,
+      c.turn.new.worker,
+      record { there = there; others = refl },
+      record { events = e.went.0; went = e.went.1; one = e.went.2; others = e.others; suits = e.suits; less = e.less; ended = e.ended },
+    )
