@@ -16,7 +16,8 @@ pub(crate) fn advice_on_problem_look(look: Look) -> Option<&'static str>
         Look::Blank => Some(
             "The input is empty. A problem is one line, an SFEN: the board, the side to\nmove, and the hands.\n",
         ),
-        Look::GaveUp | Look::Answer | Look::AnswerWithReturns => Some(ON_ANSWER),
+        Look::GaveUp => Some(ON_GIVING_UP),
+        Look::Answer | Look::AnswerWithReturns => Some(ON_ANSWER),
         Look::Quoted => Some("Leave out the quotes: they are no part of an SFEN.\n"),
         Look::Start => Some(
             "`startpos`, the start of a game, is no tsume problem. Give the position as an\nSFEN.\n",
@@ -29,6 +30,9 @@ pub(crate) fn advice_on_problem_look(look: Look) -> Option<&'static str>
 const ON_ANSWER: &str =
     "This looks like an answer of `tsume solve`. `tsume check` reads those; the\nproblem itself stands behind the word `problem`.\n";
 
+const ON_GIVING_UP: &str =
+    "This looks like the answer of a search that gave up. There is no problem in it.\n";
+
 /// What is said of a text that looks like something else than a KIF file; none where it doesn't.
 pub(crate) fn advice_on_diagram_look(look: Look) -> Option<&'static str>
     ensures { IfSome result (λ advice. IsPlain advice.now) }
@@ -38,7 +42,8 @@ pub(crate) fn advice_on_diagram_look(look: Look) -> Option<&'static str>
             "The input is empty. With --kif a problem is the board diagram of a KIF file.\n",
         ),
         Look::Utf16 => Some("The text looks like UTF-16. Save it as UTF-8.\n"),
-        Look::GaveUp | Look::Answer | Look::AnswerWithReturns => Some(ON_ANSWER),
+        Look::GaveUp => Some(ON_GIVING_UP),
+        Look::Answer | Look::AnswerWithReturns => Some(ON_ANSWER),
         Look::ByteOrderMark | Look::Record | Look::Quoted | Look::Start | Look::Other => None,
     }
 }
@@ -52,7 +57,7 @@ pub(crate) fn advice_on_certificate_look(look: Look) -> Option<&'static str>
             "The input is empty. `tsume check` reads what `tsume solve` prints: did that\nend with a fault?\n",
         ),
         Look::GaveUp => Some(
-            "The search gave up, so there is no certificate, and nothing to check. Solve the\nproblem with more --expansions.\n",
+            "The search gave up, so there is no certificate, and nothing to check. The line\n`unknown ..` says what was used up: solve the problem with more of that.\n",
         ),
         Look::AnswerWithReturns => Some(
             "Each line ends with a line feed alone, and here carriage returns stand before\nthem. Take them out: tr -d '\\r' < FILE | tsume check\n",
@@ -171,7 +176,7 @@ pub(crate) const ON_DEFENDER_IN_CHECK: &str =
 
 /// What is said where a text has more than one line and is a problem up to the end of one.
 pub(crate) const ON_SEVERAL_LINES: &str =
-    "One problem is read at a time, and this text has more than one line. Give each\nline to a run of its own.\n";
+    "`tsume solve` reads one problem, and this text has more than one line.\n`tsume collection` reads a problem in each line.\n";
 
 /// What is said where a tab stands in the field at fault.
 pub(crate) const ON_TABS: &str =
@@ -214,4 +219,4 @@ pub(crate) const ON_WRITE: &str =
 
 /// What is said for want of memory.
 pub(crate) const ON_NO_MEMORY: &str =
-    "Memory was wanted and not there. With a smaller --expansions `tsume solve`\nwants less of it.\n";
+    "Memory was wanted and not there. With fewer --rows and less --room a search\nwants less of it, and `tsume collection` with fewer --threads.\n";

@@ -96,7 +96,7 @@ fn each_fault_is_explained(rt: HostRuntime) {
         ),
         (
             b"9/4k4/8R/9/9/9/9/9/9 b R 1\n9/4k4/8R/9/9/9/9/9/9 b G 1\n",
-            "line 1, column 26:\n    9/4k4/8R/9/9/9/9/9/9 b R 1\n                             ^ byte 25\nOne problem is read at a time, and this text has more than one line. Give each\nline to a run of its own.\n",
+            "line 1, column 26:\n    9/4k4/8R/9/9/9/9/9/9 b R 1\n                             ^ byte 25\n`tsume solve` reads one problem, and this text has more than one line.\n`tsume collection` reads a problem in each line.\n",
         ),
         (
             b"9/4k4/8R/9/9/9/9/9/9\tb\tR\n",
@@ -209,7 +209,7 @@ fn each_fault_is_explained(rt: HostRuntime) {
         ),
         (
             b"checkmate timeout\nunknown expansions 1\n",
-            "The search gave up, so there is no certificate, and nothing to check. Solve the\nproblem with more --expansions.\n",
+            "The search gave up, so there is no certificate, and nothing to check. The line\n`unknown ..` says what was used up: solve the problem with more of that.\n",
         ),
         (
             b"certificate 1 escape 1\r\nproblem 4k4/9/4P4/9/9/9/9/9/9 b P\r\nend\r\n",
@@ -275,7 +275,7 @@ fn each_fault_is_explained(rt: HostRuntime) {
         ),
         (
             Trouble::NoMemory,
-            "Memory was wanted and not there. With a smaller --expansions `tsume solve`\nwants less of it.\n",
+            "Memory was wanted and not there. With fewer --rows and less --room a search\nwants less of it, and `tsume collection` with fewer --threads.\n",
         ),
     ];
     for (trouble, wanted) in others {

@@ -27,7 +27,7 @@ pub struct Reported<'a> {
 }
 
 /// Goes over the lines of a collection that hold problems, and gives what is told of each. The problems of a stretch of lines are decided
-/// side by side, as many at a time as there are threads, each by a search of its own with one worker; that changes no report. Contracts see
+/// side by side, as many at a time as there are threads, each by a search of its own with one worker; that changes no report (by tests; no clause says it). Contracts see
 /// the settings, the form, and the lines that are still to come.
 #[derive(Drop)]
 pub struct Reports<'a> {

@@ -1,4 +1,5 @@
-//! The program `tsume` as a library: [`run`] takes the words of the command line, a source and a sink, and does the rest.
+//! The program `tsume` as a library: [`run`] takes the words of the command line, a source, a sink, a gate, stops and the handle
+//! for threads, and does the rest.
 //!
 //! Its contract carries what the program promises: a printed mate is one, a printed "no mate" means that there is none, each with a
 //! certificate that the checker accepts; and every answer that is no verdict comes only for its stated cause.

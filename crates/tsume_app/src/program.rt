@@ -242,7 +242,7 @@ fn words_ended<R: Threads + Sync, S: Source, K: Sink, G: Gate, T: Stop>(
 }
 
 /// The file that the words name for their command to read, as they have its path: the word FILE, unless it is `-`. None where the standard
-/// input is to be read, and where the words are refused or ask for help, so that nothing is opened then. Whoever calls [`run`] makes the
+/// input is to be read, and where the words are refused, ask for help, or give a problem that is none, so that nothing is opened then. Whoever calls [`run`] makes the
 /// source of it: one whose first read fails, where the file can't be opened. Errors: want of memory alone.
 pub fn named_file(alloc: Global, words: &[String]) -> Result<Option<String>, AllocError>
     // The file of a command whose problem, where the words give one, has no fault.
@@ -317,7 +317,7 @@ pub fn told_limit(alloc: Global, words: &[String]) -> Result<Option<u64>, AllocE
 /// [`MOST_CERTIFICATE_BYTES`] of a certificate; a text that is no problem or no certificate, with its first fault; a source or a
 /// sink whose count of faults rose; want of memory. The whole text is made before the first write, but for a collection, whose reports are written
 /// one by one. The gate is passed for each
-/// position whose moves are listed, as worker 1. The stops, one for each worker that there may be, are armed once, with the deadline that the words
+/// unit, one visit of a position, as worker 1. The stops, one for each worker that there may be, are armed once, with the deadline that the words
 /// give or with none, when `solve` has accepted its problem, and before that they aren't used; then worker 1 polls the first. (The tsume rule; USI protocol: `checkmate`.)
 pub fn run<R: Threads + Sync, S: Source, K: Sink, G: Gate, T: Stop>(
     rt: &R,
@@ -393,7 +393,7 @@ pub fn run<R: Threads + Sync, S: Source, K: Sink, G: Gate, T: Stop>(
     ensures asked { (wish : Wish) (fault : ProblemFault) → command_of (texts_of words.items) ≡ Some wish → IsAskedFault wish fault
         → (result ≡ Ended.Failed (Fault.Asked fault) []) ⊎ (result ≡ Ended.Failed Fault.NoMemory []) }
 
-    // A problem's and a certificate's text are answered, unless the outside fails or memory is wanted.
+    // A problem's and a certificate's text, a survey and a collection that isn't too long are answered, unless the outside fails or memory is wanted.
     ensures complete { (wish : Wish) → command_of (texts_of words.items) ≡ Some wish → IsWellPosed wish (S.left source.old)
         → ¬ Rose (S.faults source.old) (S.faults source.new) → ¬ Rose (K.faults sink.old) (K.faults sink.new)
         → IsAnswered result ⊎ WantsMemory result }

@@ -32,7 +32,7 @@ impl fmt::Display for Grouped {
     }
 }
 
-/// A gate that tells the user how many of so many positions were used, a few times a second and each time over the line before; where it isn't asked to,
+/// A gate that tells the user how many of so many visits were used, a few times a second and each time over the line before; where it isn't asked to,
 /// it is an open gate.
 #[derive(Drop)]
 pub(crate) struct Progress<'a, R> {
@@ -81,11 +81,11 @@ impl<'a, R: io::Eprint + Clock> Progress<'a, R> {
         }
     }
 
-    /// Tells how many positions were used.
+    /// Tells how many visits were used.
     pub(crate) fn tell_used(&self) {
         let used = self.used.load(Ordering::SeqCst);
         if self.limit.is_some() && used > 0 {
-            eprintln!(self.system; "tsume: {} positions used", Grouped(used)).ok();
+            eprintln!(self.system; "tsume: {} visits used", Grouped(used)).ok();
         }
     }
 }
@@ -97,12 +97,7 @@ impl<'a, R: io::Eprint + Clock + Sync> Gate for Progress<'a, R> {
         };
         let used = self.used.fetch_add(1, Ordering::SeqCst).saturating_add(1);
         if self.is_due() {
-            eprint!(self.system;
-                "\rtsume: {} of {} positions",
-                Grouped(used),
-                Grouped(limit)
-            )
-            .ok();
+            eprint!(self.system; "\rtsume: {} of {} visits", Grouped(used), Grouped(limit)).ok();
         }
     }
 }

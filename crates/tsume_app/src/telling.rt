@@ -203,7 +203,7 @@ fn run_on_file<
 
 /// The program over the words of the command line, the file that they name or the standard input, the standard output, and a writer for
 /// what the user is told: see [`named_file`] and [`run_and_tell`]. Words that are no UTF-8 are refused. Where reading failed, a second line
-/// tells what was read and what the system said. Where the words ask for progress, a line of how many positions were used is written a few times a second,
+/// tells what was read and what the system said. Where the words ask for progress, a line of how many visits were used is written a few times a second,
 /// each over the one before, and cleared when the answer is written; behind a verdict a line tells how many it took. What comes back ends the process with the exit status.
 pub fn start<
     R: Env + io::Input + Print + Eprint + Files + Clock + AllocGlobal + Threads + Sync,

@@ -10,7 +10,7 @@ pub enum Command {
         form: ProblemForm,
         watch: Watch,
     },
-    /// Check the certificate that is read, by this many threads; from the words come 1 to 64. With a `problem` (its SFEN, as
+    /// Check the certificate that is read; the workers, 1 to 64, have no effect yet. With a `problem` (its SFEN, as
     /// the words have it) the certificate has to be for that one.
     Check {
         workers: u32,

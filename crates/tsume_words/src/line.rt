@@ -90,7 +90,7 @@ fn rows_option<'a>(alloc: Global) -> Arg<'a>
         "65536",
         "Rows of the table in which it keeps what it knows, a\n\
          power of two, 16 to 1048576. A row takes 1 KB, all at\n\
-         once. More help where a million visits\n\
+         once. A larger table helps where the visits allowed\n\
          aren't enough",
     )
 }
@@ -244,7 +244,7 @@ fn progress_flag<'a>(alloc: Global) -> Arg<'a>
         .action(ArgAction::SetTrue)
         .help(
             "Tell on standard error, a few times a second, how many\n\
-             visits were used, and at the end how many it took. The\n\
+             visits were used, and behind a verdict how many. The\n\
              answer stays the same. Off unless given; it costs next\n\
              to nothing",
         )
@@ -332,7 +332,7 @@ fn collection_command<'a>(alloc: Global) -> Result<Command<'a>, AllocError>
     ensures local { IfOk result (λ command. (fields_of command).has_globals ≡ false) }
 {
     Command::new(alloc, "collection")
-        .about("Decides every problem of a text, an SFEN a line; a line for each")
+        .about("Tells of every problem of a text, an SFEN a line, what is found")
         .after_help(
             "What follows a tab in a line is a note. A line that is empty then, or of spaces\n\
              alone, or that begins with #, is skipped. A line of the output begins with the\n\
@@ -367,8 +367,8 @@ pub(crate) fn command_line<'a>(alloc: Global) -> Result<Command<'a>, AllocError>
     let collection = collection_command(alloc)?;
     Command::new(alloc, "tsume")
         .about(
-            "Solves tsume-shogi problems: every verdict comes with a certificate that can be\n\
-             checked, by this program or by one of your own",
+            "Solves tsume-shogi problems: what `solve` finds comes with a certificate that\n\
+             can be checked, by this program or by one of your own",
         )
         .after_help("`tsume solve --help`, and so on for each command, has its options.")
         .version(VERSION)

@@ -22,7 +22,7 @@ pub struct SurveyRange {
     pub seed: u64,
     /// How many, 1 to [`MOST_COUNT`], by rising number.
     pub count: u32,
-    /// How many positions may have their moves listed before the search of a problem gives up.
+    /// How many visits of positions the search of a problem may make before it gives up.
     pub expansions: Expansions,
     pub ghost seed_in_range: { seed ≤ MOST_SEED },
     pub ghost count_in_range: { IsFromTo 1 MOST_COUNT count },

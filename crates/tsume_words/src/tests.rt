@@ -345,7 +345,7 @@ static HELPED: [(&str, &str); 27] = [
     ("check --help", " Default: the certificate's own problem."),
     (
         "-h",
-        "\n  collection  Decides every problem of a text, an SFEN a line",
+        "\n  collection  Tells of every problem of a text, an SFEN a line",
     ),
     (
         "-h",
