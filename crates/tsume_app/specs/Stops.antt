@@ -32,7 +32,7 @@ deadline_in (Some (to_check workers problem)) = None
 deadline_in (Some (to_survey range)) = None
 deadline_in (Some (to_collect settings form)) = None
 
--- A search with one worker used the stops: each was armed once, for this deadline or for none, before any was polled; and then only the first was
+-- A search with one worker used the stops: each was armed once, for this deadline or for none, the first before it was polled; and only the first was
 -- polled.
 pub record AreUsed (deadline : Option ℕ) (stops : Signals) : Type 0 where
   pub armed : (first_of stops.after).armed ≡ deadline

@@ -340,8 +340,8 @@ pub fn run<R: Threads + Sync, S: Source, K: Sink, G: Gate, T: Stop>(
         → AsksToSolve form (texts_of words.items) → S.left source.old ≡ Some input
         → result ≡ Ended.Answered (Answer.Solved (Solution.NoMate c)) → StandsForNoMate form input c }
 
-    // Where it gave up, one of the stated limits was used up: the expansions, the room for notes, or their height; or the first stop signalled, which ends
-    // the search wherever it does. The worker that met it is told.
+    // Where it gave up, one of the stated limits was used up: the expansions, the room for notes, or their height; or the first stop signalled.
+    // The worker that met it is told.
     ensures gave_up { (settings : SettingsView) (form : ProblemForm) (watch : WatchView) (input : List ℕ) (cause : Cause) (crew : List Standing)
         → command_of (texts_of words.items) ≡ Some (to_solve settings form watch) → S.left source.old ≡ Some input
         → result ≡ Ended.Answered (Answer.Solved (Solution.Unknown cause crew)) → StandsForUnknown form settings (signals T.signal stops.old stops.new) input cause crew }
@@ -370,8 +370,8 @@ pub fn run<R: Threads + Sync, S: Source, K: Sink, G: Gate, T: Stop>(
     ensures ended { (wish : Wish) → command_of (texts_of words.items) ≡ Some wish
         → IsEnded wish (signals T.signal stops.old stops.new) (shown S.left S.faults source.old source.new) (shown K.kept K.faults sink.old sink.new) result }
 
-    // Each stop is armed once, for the deadline that the words give or for none, where `solve` accepted its problem, before any is polled, and then only the
-    // first is polled; else no stop is used.
+    // Each stop is armed once, for the deadline that the words give or for none, where `solve` accepted its problem, the first before it is polled; and only the
+    // first is polled. Else no stop is used.
     ensures used { AreUsedTill (deadline_in (command_of (texts_of words.items))) (signals T.signal stops.old stops.new) result }
 
     // The source's count of faults rises only where the run ends for it, and the sink's likewise.
