@@ -27,8 +27,11 @@ static void setup(void) {
 static int fails(void) { if (++count != at) return 0; errno = ENOMEM; return 1; }
 void *malloc(size_t size) { setup(); return fails() ? 0 : next_malloc(size); }
 void *realloc(void *old, size_t size) { setup(); return size && fails() ? 0 : next_realloc(old, size); }
-__attribute__((destructor)) static void done(void) {
+#include <sys/syscall.h>
+void _exit(int status) {
     if (getenv("FAIL_COUNT")) { char line[64]; write(2, line, snprintf(line, sizeof line, "allocations %ld\n", count)); }
+    syscall(SYS_exit_group, status);
+    for (;;) ;
 }
 """
 CASES = [
