@@ -1,6 +1,6 @@
 -- A stop with a deadline.
 use Rattle.std.specs.Prelude.{◌≤◌, ◌+◌, ◌-◌, ◌^◌, ℕ, min, Option, Some, None}
-use Rattle.search_gate.specs.Stop.{Signal}
+use Rattle.search_gate.specs.Stop.{Signal, one_more}
 use Rattle.search_gate.specs.declared.clock.DeadlineStop.{DeadlineStop}
 
 -- Where a stop ends that is armed for so many milliseconds when the clock shows this: that much later, at most at the greatest number of 64 bits; nowhere
@@ -14,6 +14,11 @@ abbrev pub HasPassed : Option ℕ → ℕ → Type 0
 HasPassed None now = ⊥
 HasPassed (Some end) now = end ≤ now
 
+-- How often a clock was asked, once it is asked where a time is needed: where a stop is armed for one, or has an end.
+abbrev pub asked_for : Option ℕ → ℕ → ℕ
+asked_for None asks = asks
+asked_for (Some time) asks = one_more asks
+
 -- The clock that a stop goes by.
 abbrev pub clock_of : {C : Type 0} → DeadlineStop C → C
 clock_of stop = stop.clock
@@ -22,6 +27,6 @@ clock_of stop = stop.clock
 abbrev pub end_of : {C : Type 0} → DeadlineStop C → Option ℕ
 end_of stop = stop.end
 
--- How often it was polled and signalled, and how it was armed.
+-- How often it was polled and signalled, at which poll last, and how it was armed.
 abbrev pub deadline_signal : {C : Type 0} → DeadlineStop C → Signal
-deadline_signal stop = record { polls = stop.polls; raised = stop.raised; armed = stop.armed; arms = stop.arms; early = stop.early }
+deadline_signal stop = record { polls = stop.polls; raised = stop.raised; last = stop.last; armed = stop.armed; arms = stop.arms; early = stop.early }

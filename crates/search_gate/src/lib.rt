@@ -1,4 +1,4 @@
-//! What a search is held by: how many positions it may list, a gate that it passes for each, and a stop that it polls before each. A search stands on this alone,
+//! What a search is held by: how many units of work it may do, a gate that it passes for each, and a stop that it polls before each. A search stands on this alone,
 //! and on no file or stream.
 #![tactic(auto)]
 

@@ -2,10 +2,10 @@
 ghost use Rattle.std.specs.Prelude.{◌≡◌, ◌↔◌, IsTrue, Contains, None, false};
 ghost use Rattle.search_gate.specs.Stop.{one_more, armed_with, polled};
 
-/// What tells a worker that it is to stop, a deadline for one. A worker polls it before each unit of work, and nobody else does.
+/// What tells a worker that it is to stop, a deadline for one. A worker polls it before it draws a unit of work, and nobody else does.
 ///
-/// It tells of itself how often it was polled, and how often it said so then; how often, and for what, it was armed; and how often it had been polled when
-/// it was armed last. So its callers can say that it was armed before it was polled, and that it was polled no more once it had signalled.
+/// It tells of itself how often it was polled, how often it said so then, and at which poll last; how often, and for what, it was armed; and how often it had
+/// been polled when it was armed last. So its callers can say that it was armed before it was polled, and that it was polled no more once it had signalled.
 pub trait Stop: Send {
     ghost use Rattle.std.specs.Prelude.{◌≡◌};
     ghost use Rattle.search_gate.specs.Stop.{Signal, armed_with, polled};
@@ -49,7 +49,7 @@ impl QuietStop {
 }
 
 impl Stop for QuietStop {
-    ghost signal = { λ s. record { polls = s.polls; raised = 0; armed = s.armed; arms = s.arms; early = s.early } };
+    ghost signal = { λ s. record { polls = s.polls; raised = 0; last = 0; armed = s.armed; arms = s.arms; early = s.early } };
 
     fn arm(&mut self, after_ms: Option<u64>) {
         self.armed = after_ms;
@@ -69,6 +69,7 @@ pub struct MemStop {
     at: Vec<u64>,
     polls: u64,
     raised: u64,
+    last: u64,
     armed: Option<u64>,
     arms: u64,
     early: u64,
@@ -80,6 +81,7 @@ impl MemStop {
         ensures at { result.at ≡ at }
         ensures polls { result.polls ≡ 0 }
         ensures raised { result.raised ≡ 0 }
+        ensures last { result.last ≡ 0 }
         ensures armed { result.armed ≡ None }
         ensures arms { result.arms ≡ 0 }
         ensures early { result.early ≡ 0 }
@@ -88,6 +90,7 @@ impl MemStop {
             at,
             polls: 0,
             raised: 0,
+            last: 0,
             armed: None,
             arms: 0,
             early: 0,
@@ -129,6 +132,7 @@ impl Stop for MemStop {
         let stops = self.at.contains(&self.polls);
         if stops {
             self.raised = self.raised.saturating_add(1);
+            self.last = self.polls;
         }
         stops
     }

@@ -37,12 +37,16 @@ struct ListedClock {
     times: Vec<u64>,
     next: usize,
     shown: u64,
+    asks: u64,
 }
 
 impl Clock for ListedClock {
     ghost answered = { λ clock. clock.shown };
 
+    ghost asked = { λ clock. clock.asks };
+
     fn now(&mut self) -> u64 {
+        self.asks = self.asks.saturating_add(1);
         if let Some(time) = self.times.get(self.next) {
             self.shown = *time;
             self.next = self.next.saturating_add(1);
@@ -56,6 +60,7 @@ fn stop_at(times: Vec<u64>) -> DeadlineStop<ListedClock> {
         times,
         next: 0,
         shown: 0,
+        asks: 0,
     })
 }
 

@@ -187,9 +187,9 @@ heeds_unknown problem s before after port worker end (StoppedFirst number) crew 
     let told = law worker.task way.log Stopped (visit_log problem worker way.log Stopped way.task way.idle way.leads stopped whole) in
     by_quiet way.quiet (polled true, told, refl)
   where
-    by_quiet : IsQuiet before after way.schedule way.log → WasSaid says_stop way.log → after.raised ≡ one_more before.raised
+    by_quiet : IsQuiet before after way.schedule way.log → WasSaid says_stop way.log → (after.raised ≡ one_more before.raised) × (after.last ≡ after.polls)
     by_quiet (inl q) w = absurd (q.1 w)
-    by_quiet (inr q) w = q.1
+    by_quiet (inr q) w = (q.1, q.2)
 
 -- 3. NO STOP.
 

@@ -130,6 +130,11 @@ polls_on : (mid : Signal) (stops b : Bool) → (if b then polled mid stops else 
 polls_on mid stops true = refl
 polls_on mid stops false = refl
 
+-- What a poll that isn't made changes of a stop.
+never_polled : (mid : Signal) (stops b : Bool) → (b ≡ true → ⊥) → (if b then polled mid stops else mid) ≡ mid
+never_polled mid stops true not = absurd (not refl)
+never_polled mid stops false not = refl
+
 polls_push : (log : List Exchange) (x : Exchange) (n : ℕ) → polls_after (log ++ x ∷ []) n ≡ (if is_poll x.0 then one_more (polls_after log n) else polls_after log n)
 polls_push [] x n = refl
 polls_push (y ∷ log) x n = polls_push log x (if is_poll y.0 then one_more n else n)
@@ -139,9 +144,11 @@ quiet_on : (before mid after : Signal) (stops : Bool) (port : Lone) (worker : St
     → IsQuiet before mid schedule log → IsQuiet before after (schedule ++ new_events stops) (log ++ x ∷ [])
 quiet_on before mid after true port worker x next later schedule log r w asked (inl q) =
     let said = says_yes (opened port true) (path_of worker.task worker.state.frames) x.0 x.1 next r.steps.turns (asked ∙ r.at_polls refl) refl in
+    let now : after ≡ polled mid true = r.signal ∙ once_polled mid true (is_poll (asks worker.state)) (r.at_polls refl) in
     inr (
       said_now says_stop log x said,
-      ap (λ (z : Signal). z.raised) (r.signal ∙ once_polled mid true (is_poll (asks worker.state)) (r.at_polls refl)) ∙ ap one_more q.2,
+      ap (λ (z : Signal). z.raised) now ∙ ap one_more q.2,
+      ap (λ (z : Signal). z.last) now ∙ sym (ap (λ (z : Signal). z.polls) now),
     )
 quiet_on before mid after true port worker x next later schedule log r w asked (inr q) =
     absurd (not_polling worker.state.stage worker.state.frames Stopped (w.stopped q.0) (r.at_polls refl))
@@ -153,9 +160,12 @@ quiet_on before mid after false port worker x next later schedule log r w asked 
       ap (λ (z : Signal). z.raised) r.signal ∙ (same_field (λ (z : Signal). z.raised) mid false (is_poll (asks worker.state)) refl ∙ q.2),
     )
 quiet_on before mid after false port worker x next later schedule log r w asked (inr q) =
+    let now : after ≡ mid =
+    r.signal ∙ never_polled mid false (is_poll (asks worker.state)) (not_polling worker.state.stage worker.state.frames Stopped (w.stopped q.0)) in
     inr (
       said_on says_stop log x q.0,
-      ap (λ (z : Signal). z.raised) r.signal ∙ (same_field (λ (z : Signal). z.raised) mid false (is_poll (asks worker.state)) refl ∙ q.1),
+      ap (λ (z : Signal). z.raised) now ∙ q.1,
+      ap (λ (z : Signal). z.last) now ∙ (q.2 ∙ sym (ap (λ (z : Signal). z.polls) now)),
     )
 
 abbrev tagged : Exchange → ℕ × Exchange

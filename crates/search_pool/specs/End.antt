@@ -41,8 +41,8 @@ abbrev pub polls_after : List Exchange → ℕ → ℕ
 polls_after [] polls = polls
 polls_after (exchange ∷ exchanges) polls = polls_after exchanges (if is_poll exchange.0 then one_more polls else polls)
 
--- The same where a stop, which was polled at each of the worker's polls and at nothing else, may have signalled once: only then was a stop signalled to
--- the worker.
+-- The world of one worker answers this, where a stop, which was polled as often as the worker polls (when, isn't said), may have signalled once: only then
+-- was a stop signalled to the worker.
 abbrev pub IsAloneUntil : Board → SettingsView → Signal → Signal → SearchEnd → Type 0
 IsAloneUntil problem s before after end =
     (schedule : List Event) × (All IsOwnStep schedule ⊎ (after.raised ≡ one_more before.raised)) × (run : IsEndBy problem s schedule end)
@@ -53,10 +53,10 @@ abbrev pub IsSolution : Board → SearchEnd → Type 0
 IsSolution problem (Solved note) = IsAnswer (task_for problem 1) note
 IsSolution problem (Unknown cause crew) = Unit {0}
 
--- A stop is heeded: where it signalled, which it did once, the search ended as stopped; where it didn't, it ended otherwise.
+-- A stop is heeded: where it signalled, which it did once, the search ended as stopped, and it was polled no more; where it didn't, the search ended otherwise.
 abbrev pub HeedsStop : Signal → Signal → SearchEnd → Type 0
 HeedsStop before after (Solved note) = after.raised ≡ before.raised
 HeedsStop before after (Unknown (Expansions number) crew) = after.raised ≡ before.raised
 HeedsStop before after (Unknown (Room number) crew) = after.raised ≡ before.raised
 HeedsStop before after (Unknown (Height number) crew) = after.raised ≡ before.raised
-HeedsStop before after (Unknown (Stopped worker) crew) = after.raised ≡ one_more before.raised
+HeedsStop before after (Unknown (Stopped worker) crew) = (after.raised ≡ one_more before.raised) × (after.last ≡ after.polls)

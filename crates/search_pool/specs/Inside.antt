@@ -60,15 +60,16 @@ pub record IsWindingUp (log : List Exchange) (port : Lone) (worker : Standing) :
   pub posted : WasSaid says_posted log → worker.state.stage ≡ Winding Posted
   pub is_said : IsSome port.desk.posted → WasSaid says_posted log
 
--- A stop signalled nothing, and nothing of it was said; or it signalled once, and that was said.
+-- A stop signalled nothing, and nothing of it was said; or it signalled once, that was said, and it was polled no more.
 abbrev pub IsQuiet : Signal → Signal → List Event → List Exchange → Type 0
 IsQuiet before after schedule log =
     (All IsOwnStep schedule × (WasSaid says_stop log → ⊥) × (after.raised ≡ before.raised))
-    ⊎ (WasSaid says_stop log × (after.raised ≡ one_more before.raised))
+    ⊎ (WasSaid says_stop log × (after.raised ≡ one_more before.raised) × (after.last ≡ after.polls))
 
 -- A search with one worker goes on so: the world of one worker comes by a schedule to where table, desk and worker stand; no stop waits to be
--- told; the worker stands by the log, and winds up where it was told to; what was said of the desk holds; the worker had all units and all room that the
--- desk gave; the stop was polled at its polls; and unless the stop signalled, no stop was signalled to the worker.
+-- told; the worker stands by the log, and winds up where it was told to; table and desk suit it; what was said of the desk holds, whose units and room are the
+-- settings'; the worker had all units and all room that the desk gave; the stop was polled as often as it polls, and not armed; and unless the stop signalled,
+-- no stop was signalled to the worker.
 pub record IsUnderWay (problem : Board) (s : SettingsView) (before after : Signal) (port : Lone) (worker : Standing) : Type 0 where
   pub schedule : List Event
   pub log : List Exchange

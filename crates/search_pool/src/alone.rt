@@ -32,7 +32,7 @@ fn is_stopped<T: Stop>(worker: &Worker, stop: &mut T) -> bool
     false
 }
 
-// Has the worker work over the table and the desk until it has ended, and says how. It polls the stop before each unit and passes the gate behind it.
+// Has the worker work over the table and the desk until it has ended, and says how. It polls the stop before it draws a unit and passes the gate behind that.
 fn work_alone<G: Gate, T: Stop>(
     alloc: Global,
     problem: &Problem,
@@ -58,7 +58,7 @@ fn work_alone<G: Gate, T: Stop>(
     }
 }
 
-// Why a search gave up whose worker ended so; none where that was for want of memory. (Where the worker ended since a note is posted there is one.)
+// Why a search gave up whose worker ended so; none where that was for want of memory, or since a note is posted.
 fn cause_of(settings: &Settings, end: WorkEnd) -> Option<Cause>
     ensures cause { IfSome result (IsCauseOf (settings_in settings.now) end) }
     ensures none { IfNone result ((end ≡ Posted) ⊎ (end ≡ NoMemory)) }
@@ -106,9 +106,9 @@ pub(crate) fn search_over<G: Gate, T: Stop>(
     Ok(SearchEnd::Unknown(cause, Crew::new(vec![in alloc; worker]?)))
 }
 
-/// Searches a problem with one worker, whatever the settings say of workers: it works under its own steps till it has ended. Where a note is
+/// Searches a problem with one worker, whatever the settings say of workers: it works under its own steps, and what the stop signals, till it has ended. Where a note is
 /// posted, that note answers the problem; else the search gave up, for the cause that the worker's end names, and the worker comes with it.
-/// The gate is passed for each unit, as worker 1. The stop is polled before each unit; where it says that the worker is to stop, the search ends as
+/// The gate is passed for each unit, as worker 1. The stop is polled before each unit is drawn; where it says that the worker is to stop, the search ends as
 /// stopped. Takes the table's memory at once: about 1 KB a row. Errors: want of memory alone. (df-pn: Nagai 2002.)
 pub fn search_alone_until<G: Gate, T: Stop>(
     alloc: Global,
@@ -117,11 +117,11 @@ pub fn search_alone_until<G: Gate, T: Stop>(
     gate: &G,
     stop: &mut T,
 ) -> Result<SearchEnd, AllocError>
-    // It answers what the world of one worker does, in which a stop is signalled only where the stop signalled, which is polled at the worker's polls.
+    // It answers what the world of one worker does, in which a stop is signalled only where the stop signalled, which is polled as often as the worker polls.
     ensures alone { IfOk result (IsAloneUntil problem.now.position (settings_in settings.now) (T.signal stop.old) (T.signal stop.new)) }
     // A note that solves it is valid, holds on every path, is about the problem's position and for its attacker.
     ensures solution { IfOk result (IsSolution problem.now.position) }
-    // It ends as stopped exactly where the stop signalled.
+    // It ends as stopped exactly where the stop signalled, which it does once; then it is polled no more.
     ensures heeds { IfOk result (HeedsStop (T.signal stop.old) (T.signal stop.new)) }
     // A stop is polled, and nothing else.
     ensures armed { (T.signal stop.new).armed ≡ (T.signal stop.old).armed }

@@ -44,8 +44,8 @@ impl Table {
         Table { port: None }
     }
 
-    /// Searches a problem with one worker over this table, emptied before, in the time of the rows that have entries: it answers what
-    /// [`search_alone`](crate::search_alone) does, the world of one worker under its own steps. Where the settings want another number of rows, the
+    /// Searches a problem with one worker over this table, emptied before, in the time of the rows that have entries: as
+    /// [`search_alone`](crate::search_alone), it answers what the world of one worker does under its own steps. Where the settings want another number of rows, the
     /// table is made anew: about 1 KB a row. Errors: want of memory alone.
     pub fn search(
         &mut self,

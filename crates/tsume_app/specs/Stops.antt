@@ -21,7 +21,7 @@ signals signal before after = record { before = map signal before; after = map s
 
 -- What the first stop tells, which the first worker polls.
 abbrev pub first_of : List Signal → Signal
-first_of [] = record { polls = 0; raised = 0; armed = None; arms = 0; early = 0 }
+first_of [] = record { polls = 0; raised = 0; last = 0; armed = None; arms = 0; early = 0 }
 first_of (signal ∷ others) = signal
 
 -- The deadline that words give, if any.
@@ -63,7 +63,7 @@ AreUsedBefore deadline stops (Cert fault) = AreUnused stops
 AreUsedBefore deadline stops Read = AreUnused stops
 AreUsedBefore deadline stops NoMemory = AreUsed deadline stops ⊎ AreUnused stops
 
--- The stops at the end of a run: used where a problem was accepted, and nowhere else.
+-- The stops at the end of a run: used where a problem was accepted, and nowhere else; where memory is wanted, either.
 abbrev pub AreUsedTill : Option ℕ → Signals → Ended → Type 0
 AreUsedTill deadline stops (Answered answer) = AreUsedFor deadline stops answer
 AreUsedTill deadline stops (CutShort answer) = AreUsedFor deadline stops answer

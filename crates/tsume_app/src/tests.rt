@@ -718,12 +718,16 @@ fn a_collection_that_is_cut_short_has_kept_a_prefix(rt: HostRuntime) -> Result<(
 #[derive(Drop)]
 struct TickingClock {
     shown: u64,
+    asks: u64,
 }
 
 impl Clock for TickingClock {
     ghost answered = { λ clock. clock.shown };
 
+    ghost asked = { λ clock. clock.asks };
+
     fn now(&mut self) -> u64 {
+        self.asks = self.asks.saturating_add(1);
         self.shown = self.shown.saturating_add(1);
         self.shown
     }
@@ -735,7 +739,7 @@ fn deadlines(alloc: Global) -> Result<Vec<DeadlineStop<TickingClock>>, AllocErro
 {
     let mut stops = Vec::new(alloc);
     for _ in 0..MOST_WORKERS {
-        stops.push(DeadlineStop::new(TickingClock { shown: 0 }))?;
+        stops.push(DeadlineStop::new(TickingClock { shown: 0, asks: 0 }))?;
     }
     Ok(stops)
 }

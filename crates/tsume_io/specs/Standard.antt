@@ -27,6 +27,10 @@ sink_faults sink = sink.faults
 abbrev pub last_shown : {R : Type 0} → StdClock R → ℕ
 last_shown clock = clock.shown
 
+-- how often this clock was asked, up to 2 ^ 64 - 1
+abbrev pub times_asked : {R : Type 0} → StdClock R → ℕ
+times_asked clock = clock.asks
+
 -- the reader of which failed reads are noted
 abbrev pub noted_reader : {R : Type 0} → Noted R → R
 noted_reader noted = noted.reader
