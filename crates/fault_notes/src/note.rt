@@ -110,6 +110,12 @@ fn number_of_bad_line(text: &[u8]) -> usize {
     1
 }
 
+// Whether the line may be a problem's: printable ASCII and tabs, with a `/`, as stands between an SFEN's rows.
+fn is_like_problem(line: &[u8]) -> bool {
+    let line = line.trim_ascii_end();
+    holds(line, b"/") && line.iter().all(|byte| matches!(*byte, b'\t' | b' '..=b'~'))
+}
+
 // What is said where the head is none.
 fn advice_on_head(text: &[u8]) -> &'static str
     ensures { IsPlain result.now }
@@ -117,7 +123,7 @@ fn advice_on_head(text: &[u8]) -> &'static str
     if let Some(advice) = advice_on_certificate_look(look_of(text)) {
         return advice;
     }
-    if number_of_claim(text) == 1 && holds(line_of(text, 1).bytes, b"/") {
+    if number_of_claim(text) == 1 && is_like_problem(line_of(text, 1).bytes) {
         return ON_PROBLEM_TO_CHECK;
     }
     advice_on_certificate(CertFault::BadHead)
@@ -186,8 +192,8 @@ fn append_certificate_note(
 }
 
 /// What is told of a trouble behind its first line: where a line of the input is at fault, that line with its number, and with the place
-/// marked where there is one; then what was expected, or what to do. The input is the whole text at fault; of a trouble that isn't a
-/// text's it doesn't count. Lines are of less than 80 columns, and end with a line feed. They are of printable ASCII, but of a KIF text,
+/// marked where there is one, unless the text looks like something else; then what was expected, or what to do. The input is the whole text at fault; of a trouble that isn't a
+/// text's it doesn't count. Lines are of some 80 columns at most, and end with a line feed. They are of printable ASCII, but of a KIF text,
 /// where they also have the Japanese characters that such texts are written in. Errors: want of memory alone.
 pub fn explain(alloc: Global, trouble: Trouble, input: &[u8]) -> Result<Vec<u8>, AllocError>
     // Whatever the input's bytes are, what is told of them is of printable ASCII and line feeds, and of a diagram's of Japanese

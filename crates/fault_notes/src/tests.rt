@@ -202,7 +202,7 @@ fn each_fault_is_explained(rt: HostRuntime) {
         rows.as_bytes(),
         "line 10, row 10, column 1:\n    | ・ ・ ・ ・ ・ ・ ・ ・ ・|\n     ^\nExpected: nine rows. This is a tenth line that begins with |.\n",
     );
-    let certificates: [(&[u8], &str); 11] = [
+    let certificates: [(&[u8], &str); 12] = [
         (
             b"",
             "The input is empty. `tsume check` reads what `tsume solve` prints: did that\nend with a fault?\n",
@@ -218,6 +218,10 @@ fn each_fault_is_explained(rt: HostRuntime) {
         (
             b"9/4k4/8R/9/9/9/9/9/9 b R\n",
             "line 1:\n    9/4k4/8R/9/9/9/9/9/9 b R\nThis looks like a problem. `tsume solve` reads problems, and prints the\ncertificates that `tsume check` reads.\n",
+        ),
+        (
+            b"\x7fELF\x02\x01/lib/ld.so\n",
+            "line 1:\n    ?ELF??/lib/ld.so\nExpected: `certificate 1 mate N` or `certificate 1 escape N`, then `problem`\nand an SFEN as `tsume solve` writes it; at most `checkmate ..` before these.\n",
         ),
         (
             b"checkmate nomate\ncertificate 2 escape 1\nproblem 4k4/9/4P4/9/9/9/9/9/9 b P\nend\n",

@@ -22,7 +22,7 @@ shown told faults before after = record {
 abbrev pub NeverFailed : Shown → Type 0
 NeverFailed s = s.faults_after ≡ s.faults
 
--- Nothing was read of it, or written to it, and no call failed.
+-- Nothing was read of it, or written to it, as far as it tells its bytes, and no call failed.
 pub record IsUntouched (s : Shown) : Type 0 where
   pub told : s.told_after ≡ s.told
   pub faults : NeverFailed s

@@ -88,7 +88,7 @@ IsCertificateFault (to_check workers problem) input fault = HasOneFault input fa
 IsCertificateFault (to_survey range) input fault = ⊥
 IsCertificateFault (to_collect settings form) input fault = ⊥
 
--- The bytes of an input were all that the source had left, and no more than the command takes.
+-- The bytes of an input were all that the source had left, as far as it tells its bytes, and no more than the command takes.
 pub record IsReadWhole (wish : Wish) (source : Shown) (input : List ℕ) : Type 0 where
   pub took : TookAll source.told source.told_after input
   pub short : length input ≤ limit_of wish

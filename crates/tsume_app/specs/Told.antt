@@ -3,12 +3,15 @@ use Rattle.std.specs.Prelude.{◌≡◌, ◌⊎◌, ℕ, List, [], ◌∷◌, �
 use Rattle.clap.specs.Words.{Text as Word}
 use Rattle.tsume_io.specs.Faults.{Rose}
 use Rattle.tsume_io.specs.Sink.{GrewBy, GrewByPrefix}
+use Rattle.fault_notes.specs.Shown.{IsPlain, IsReadable}
 use Rattle.tsume_words.specs.Given.{Wish, AsksForHelp}
 use Rattle.tsume_words.specs.Given.Wish.{to_solve, to_check, to_survey, to_collect}
 use Rattle.tsume_words.specs.Meaning.{command_of, FailsFirst}
 use Rattle.tsume_words.specs.declared.faults.WordFault.{WordFault}
-use Rattle.app_texts.specs.declared.fault.Fault.TheVariants.{Words, Asked, NoMemory}
+use Rattle.app_texts.specs.declared.fault.Fault.{Fault}
+use Rattle.app_texts.specs.declared.fault.Fault.TheVariants.{NotUtf8, Words, Asked, TooLong, Problem, Cert, Read, NoMemory}
 use Rattle.app_texts.specs.declared.fault.ProblemFault.{ProblemFault}
+use Rattle.app_texts.specs.declared.fault.ProblemFault.TheVariants.{Text, Diagram, DefenderInCheck}
 use Rattle.tsume_app.specs.declared.ended.Ended.{Ended}
 use Rattle.tsume_app.specs.declared.ended.Ended.TheVariants.{Answered, CutShort, Failed}
 use Rattle.tsume_app.specs.declared.telling.Told.{Told}
@@ -37,11 +40,31 @@ told_text (Answered answer) = []
 told_text (CutShort answer) = told_line (ended_text (CutShort answer))
 told_text (Failed fault input) = told_line (ended_text (Failed fault input))
 
--- A text begins with what the user is told of a run. Behind it more may stand for a reader, but not where the run was answered.
+-- What stands for a reader behind the line of a fault: printable ASCII and line feeds, and of a diagram's fault the characters of Japanese texts too.
+abbrev pub IsHarmlessFor : Fault → List ℕ → Type 0
+IsHarmlessFor NotUtf8 note = IsPlain note
+IsHarmlessFor (Words fault) note = IsPlain note
+IsHarmlessFor (Asked fault) note = IsPlain note
+IsHarmlessFor TooLong note = IsPlain note
+IsHarmlessFor (Problem (Text fault)) note = IsPlain note
+IsHarmlessFor (Problem (Diagram fault)) note = IsReadable note
+IsHarmlessFor (Problem DefenderInCheck) note = IsPlain note
+IsHarmlessFor (Cert fault) note = IsPlain note
+IsHarmlessFor Read note = IsPlain note
+IsHarmlessFor NoMemory note = IsPlain note
+
+-- The same of an ending.
+abbrev pub IsHarmlessNote : Ended → List ℕ → Type 0
+IsHarmlessNote (Answered answer) note = IsPlain note
+IsHarmlessNote (CutShort answer) note = IsPlain note
+IsHarmlessNote (Failed fault input) note = IsHarmlessFor fault note
+
+-- A text begins with what the user is told of a run. Behind it more may stand for a reader, which can't steer a terminal, but not where the run was answered.
 pub record BeginsAsTold (ended : Ended) (text : List ℕ) : Type 0 where
   pub more : List ℕ
   pub begins : text ≡ told_text ended ++ more
   pub answered : IsTrue (is_answered ended) → more ≡ []
+  pub harmless : IsHarmlessNote ended more
 
 -- The user was told a text that begins so, to its end.
 pub record IsToldWhole (errors : Shown) (ended : Ended) : Type 0 where
@@ -63,7 +86,7 @@ IsTold errors ended Whole = IsToldWhole errors ended
 IsTold errors ended InPart = IsToldInPart errors ended
 IsTold errors ended Nothing = IsUntouched errors
 
--- A run ended as runs do, the user was told of it, and the status is the ending's.
+-- A run ended as runs do, the user was told of it whole, in part or not at all, and the status is the ending's.
 pub record IsToldRun (words : List Word) (stops : Signals) (source sink errors : Shown) (status : ℕ) : Type 0 where
   pub ended : Ended
   pub told : Told

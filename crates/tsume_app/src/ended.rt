@@ -12,7 +12,8 @@ use std::fmt::{self, Write};
 pub enum Ended {
     /// With an answer, whose text was written whole.
     Answered(Answer),
-    /// With an answer that stands, though the sink failed: it kept a part of the answer's text.
+    /// With an answer that stands, though the sink failed: it kept a part of the answer's text. Of a collection these are the counts of the lines that were decided,
+    /// and a part of their reports and counts.
     CutShort(Answer),
     /// Without an answer: its fault, and the bytes of the input, all of them where its text is at fault. Where the input wasn't read
     /// whole there are none; for want of memory all or none. Nothing was written, but of a collection, for want of memory, whole reports.

@@ -2,7 +2,7 @@
 //! for threads, and does the rest.
 //!
 //! Its contract carries what the program promises: a printed mate is one, a printed "no mate" means that there is none, each with a
-//! certificate that the checker accepts; and every answer that is no verdict comes only for its stated cause.
+//! certificate that the checker accepts; and every answer that is no verdict comes only for its stated cause, but for want of memory, which needs none.
 #![tactic(auto)]
 
 mod ended;

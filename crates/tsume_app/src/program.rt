@@ -316,8 +316,8 @@ pub fn told_limit(alloc: Global, words: &[String]) -> Result<Option<u64>, AllocE
 /// Everything else ends with a named fault and its cause: more than [`MOST_PROBLEM_BYTES`] of a problem, [`MOST_COLLECTION_BYTES`] of a collection or
 /// [`MOST_CERTIFICATE_BYTES`] of a certificate; a text that is no problem or no certificate, with its first fault; a source or a
 /// sink whose count of faults rose; want of memory. The whole text is made before the first write, but for a collection, whose reports are written
-/// one by one. The gate is passed for each
-/// unit, one visit of a position, as worker 1. The stops, one for each worker that there may be, are armed once, with the deadline that the words
+/// one by one. `solve` passes the gate for each
+/// unit, one visit of a position, as worker 1 (no clause says it), and no other command does. The stops, one for each worker that there may be, are armed once, with the deadline that the words
 /// give or with none, when `solve` has accepted its problem, and before that they aren't used; then worker 1 polls the first. (The tsume rule; USI protocol: `checkmate`.)
 pub fn run<R: Threads + Sync, S: Source, K: Sink, G: Gate, T: Stop>(
     rt: &R,
@@ -346,7 +346,7 @@ pub fn run<R: Threads + Sync, S: Source, K: Sink, G: Gate, T: Stop>(
         → command_of (texts_of words.items) ≡ Some (to_solve settings form watch) → S.left source.old ≡ Some input
         → result ≡ Ended.Answered (Answer.Solved (Solution.Unknown cause crew)) → StandsForUnknown form settings (signals T.signal stops.old stops.new) input cause crew }
 
-    // Whatever the source tells of its bytes, as a file tells nothing: what ended with a mate names one.
+    // Whatever the source tells of its bytes, as a file tells nothing: what ended with a mate names one, and what ended with no mate a problem that is none.
     ensures own_mate { (c : Mating) (moves : List Move) → result ≡ Ended.Answered (Answer.Solved (Solution.Mate c moves)) → NamesMate c moves }
     ensures own_no_mate { (c : Escaping) → result ≡ Ended.Answered (Answer.Solved (Solution.NoMate c)) → NamesNoMate c }
 
@@ -360,7 +360,7 @@ pub fn run<R: Threads + Sync, S: Source, K: Sink, G: Gate, T: Stop>(
     ensures surveyed { (range : SurveyView) (summary : Summary) → command_of (texts_of words.items) ≡ Some (to_survey range)
         → result ≡ Ended.Answered (Answer.Surveyed summary) → IsSurvey range summary }
 
-    // Where `collection` ended, each line that holds a problem was told by a true report, in their order, and the counts behind them.
+    // Where `collection` was answered, each line that holds a problem was told by a true report, in their order, and the counts behind them.
     ensures collected { (settings : SettingsView) (form : CollectionView) (counts : Counts) → command_of (texts_of words.items) ≡ Some (to_collect settings form)
         → result ≡ Ended.Answered (Answer.Collected counts)
         → IsCollected settings form (shown S.left S.faults source.old source.new) (shown K.kept K.faults sink.old sink.new) counts }
@@ -371,29 +371,30 @@ pub fn run<R: Threads + Sync, S: Source, K: Sink, G: Gate, T: Stop>(
         → IsEnded wish (signals T.signal stops.old stops.new) (shown S.left S.faults source.old source.new) (shown K.kept K.faults sink.old sink.new) result }
 
     // Each stop is armed once, for the deadline that the words give or for none, where `solve` accepted its problem, the first before it is polled; and only the
-    // first is polled. Else no stop is used.
+    // first is polled. Else no stop is used; where memory is wanted, either.
     ensures used { AreUsedTill (deadline_in (command_of (texts_of words.items))) (signals T.signal stops.old stops.new) result }
 
     // The source's count of faults rises only where the run ends for it, and the sink's likewise.
     ensures counted { IsCounted (shown S.left S.faults source.old source.new) (shown K.kept K.faults sink.old sink.new) result }
 
     // Words that ask for no command end before anything is read: in help or the version, where they may ask for it, or refused with the
-    // cause.
+    // cause, or for want of memory.
     ensures words { command_of (texts_of words.items) ≡ None
         → IsEndedUnasked (texts_of words.items) (shown S.left S.faults source.old source.new) (shown K.kept K.faults sink.old sink.new) result }
 
     // A request for help or for the version is answered, unless the sink fails or memory is wanted.
     ensures help { AsksForHelp (texts_of words.items) → ¬ Rose (K.faults sink.old) (K.faults sink.new) → GivesHelp result ⊎ WantsMemory result }
 
-    // Each of the three tests after clap is named where it is the first to fail.
+    // Each of the three tests after clap is named where it is the first to fail, unless memory is wanted.
     ensures stopped { (fault : WordFault) → FailsFirst (texts_of words.items) fault
         → (result ≡ Ended.Failed (Fault.Words fault) []) ⊎ (result ≡ Ended.Failed Fault.NoMemory []) }
 
-    // A problem that the words give for a certificate, and that is none, is named with its first fault, before anything is read.
+    // A problem that the words give for a certificate, and that is none, is named with its first fault, before anything is read, unless memory is wanted.
     ensures asked { (wish : Wish) (fault : ProblemFault) → command_of (texts_of words.items) ≡ Some wish → IsAskedFault wish fault
         → (result ≡ Ended.Failed (Fault.Asked fault) []) ⊎ (result ≡ Ended.Failed Fault.NoMemory []) }
 
-    // A problem's and a certificate's text, a survey and a collection that isn't too long are answered, unless the outside fails or memory is wanted.
+    // A survey is answered, and of a source that tells its bytes, none too many, the text of a problem, of a certificate (for a problem that is one, where the words
+    // give it) and of a collection, unless the outside fails or memory is wanted.
     ensures complete { (wish : Wish) → command_of (texts_of words.items) ≡ Some wish → IsWellPosed wish (S.left source.old)
         → ¬ Rose (S.faults source.old) (S.faults source.new) → ¬ Rose (K.faults sink.old) (K.faults sink.new)
         → IsAnswered result ⊎ WantsMemory result }

@@ -2,14 +2,14 @@
 ghost use Rattle.std.specs.Prelude.{◌≡◌};
 
 use search_gate::Gate;
-use std::sync::atomic::{AtomicU64, Ordering};
+use std::sync::atomic::{AtomicBool, AtomicU64, Ordering};
 use std::time::Clock;
 use std::{fmt, io};
 
 // At least so many milliseconds lie between two lines.
 const PAUSE: u64 = 250;
 
-/// A number with a comma before each three digits.
+/// A number with a comma before each three digits, up to a billion, which no search passes.
 #[derive(Clone, Copy, Debug)]
 pub(crate) struct Grouped(pub(crate) u64);
 
@@ -22,10 +22,20 @@ impl fmt::Display for Grouped {
         if number < 1_000_000 {
             return write!(f, "{},{:03}", number / 1_000, number % 1_000);
         }
+        if number < 1_000_000_000 {
+            return write!(
+                f,
+                "{},{:03},{:03}",
+                number / 1_000_000,
+                number / 1_000 % 1_000,
+                number % 1_000
+            );
+        }
         write!(
             f,
-            "{},{:03},{:03}",
-            number / 1_000_000,
+            "{},{:03},{:03},{:03}",
+            number / 1_000_000_000,
+            number / 1_000_000 % 1_000,
             number / 1_000 % 1_000,
             number % 1_000
         )
@@ -40,6 +50,7 @@ pub(crate) struct Progress<'a, R> {
     limit: Option<u64>,
     used: AtomicU64,
     due: AtomicU64,
+    is_shown: AtomicBool,
 }
 
 impl<'a, R: io::Eprint + Clock> Progress<'a, R> {
@@ -50,6 +61,7 @@ impl<'a, R: io::Eprint + Clock> Progress<'a, R> {
             limit,
             used: AtomicU64::new(0),
             due: AtomicU64::new(0),
+            is_shown: AtomicBool::new(false),
         }
     }
 
@@ -72,9 +84,9 @@ impl<'a, R: io::Eprint + Clock> Progress<'a, R> {
                 .is_ok()
     }
 
-    /// Clears the line.
+    /// Clears the line, where one is shown.
     pub(crate) fn clear(&self) {
-        if self.limit.is_some() && self.used.load(Ordering::SeqCst) > 0 {
+        if self.is_shown.swap(false, Ordering::SeqCst) {
             eprint!(self.system;
                 "\r                                                        \r"
             ).ok();
@@ -97,12 +109,13 @@ impl<'a, R: io::Eprint + Clock + Sync> Gate for Progress<'a, R> {
         };
         let used = self.used.fetch_add(1, Ordering::SeqCst).saturating_add(1);
         if self.is_due() {
+            self.is_shown.store(true, Ordering::SeqCst);
             eprint!(self.system; "\rtsume: {} of {} visits", Grouped(used), Grouped(limit)).ok();
         }
     }
 }
 
-/// A writer that clears the progress before it writes.
+/// A writer that clears the line of progress, where one is shown, before it writes.
 #[derive(Drop)]
 pub(crate) struct Clearing<'a, R, W> {
     progress: &'a Progress<'a, R>,

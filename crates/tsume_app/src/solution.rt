@@ -52,7 +52,7 @@ pub(crate) fn solve_input<G: Gate, T: Stop>(
     requires { 0 < length stops.old }
     ensures true_of { IfOk result (IsTrueOfInput (to_solve (settings_in settings.now) form (watch_in watch.now)) (signals T.signal stops.old stops.new) input.now) }
     ensures texts { IfOk result HasTexts }
-    // The stops are used where the bytes stand for a problem.
+    // The stops are used where the bytes stand for a problem; where memory is wanted, perhaps.
     ensures used { MatchResult result (AreUsedFor watch.now.deadline (signals T.signal stops.old stops.new))
         (AreUsedBefore watch.now.deadline (signals T.signal stops.old stops.new)) }
     // Wherever these bytes were read whole.

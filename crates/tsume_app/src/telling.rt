@@ -16,6 +16,7 @@ use app_texts::Fault;
 use search_gate::{DeadlineStop, Gate, Stop};
 use std::alloc::{AllocError, Global};
 use std::env::{self, Env};
+use std::fmt;
 use std::fs::{self, Files};
 use std::io::{self, Eprint, Print};
 use std::thread::Threads;
@@ -62,7 +63,7 @@ fn text_of(alloc: Global, ended: &Ended) -> Result<Vec<u8>, AllocError>
 
 /// Tells the user how a run ended, on a sink beside that of the answer: nothing where it was answered, else a line with `tsume: ` and
 /// what the ending prints. Behind it lines may stand for a reader: what is at fault, what was expected, and what to do. No clause
-/// says which.
+/// says which, but that they are of printable ASCII, and of a diagram's fault of the characters of Japanese texts too.
 pub fn tell<K: Sink>(alloc: Global, ended: &Ended, errors: &mut K) -> Told
     ensures { IsTold (shown K.kept K.faults errors.old errors.new) ended.now result }
 {
@@ -124,6 +125,22 @@ fn opened<R: io::Input + Files>(rt: &R, file: &Option<String>) -> Opened<R::File
     }
 }
 
+// A name that prints with an escape in place of each character that doesn't print, so that no name of a file steers a terminal.
+#[derive(Clone, Copy)]
+struct Name<'a>(&'a str);
+
+impl<'a> fmt::Display for Name<'a> {
+    fn fmt<W: fmt::Write>(&self, f: &mut fmt::Formatter<W>) -> fmt::Result {
+        for character in self.0.chars() {
+            match character {
+                '\'' | '"' | '\\' => write!(f, "{character}")?,
+                _ => write!(f, "{}", character.escape_debug())?,
+            }
+        }
+        Ok(())
+    }
+}
+
 // Tells the user what the system said where reading failed: what was read, and the reason.
 fn tell_reason<K: Sink>(
     alloc: Global,
@@ -131,10 +148,10 @@ fn tell_reason<K: Sink>(
     reason: io::Error,
     errors: &mut K,
 ) -> Told {
-    let name = match file {
+    let name = Name(match file {
         Some(path) => path.as_str(),
         None => "standard input",
-    };
+    });
     let Ok(line) = format!(in alloc; "{name}: {reason}\n") else {
         return Told::Nothing;
     };
@@ -145,9 +162,9 @@ fn tell_reason<K: Sink>(
 }
 
 // Tells the user of a run that couldn't begin. What comes back is the exit status.
-fn fail<K: Sink>(alloc: Global, fault: Fault, errors: &mut K) -> u8 {
+fn fail<W: io::Write + Drop>(alloc: Global, fault: Fault, errors: W) -> u8 {
     let ended = Ended::Failed(fault, Input::none(alloc));
-    tell(alloc, &ended, errors);
+    tell(alloc, &ended, &mut StdSink::new(errors));
     ended.status()
 }
 
@@ -167,8 +184,8 @@ fn stops_by<R: Clock + AllocGlobal + Sync>(
 // The program over the file that the words name, or over the standard input. What comes back is the exit status.
 fn run_on_file<
     R: io::Input + Print + Eprint + Files + Clock + AllocGlobal + Threads + Sync,
-    K: Sink,
->(rt: &R, words: Vec<String>, errors: &mut K) -> u8 {
+    W: io::Write + Drop,
+>(rt: &R, words: Vec<String>, errors: W) -> u8 {
     let alloc = rt.alloc();
     let Ok(file) = named_file(alloc, &words) else {
         return fail(alloc, Fault::NoMemory, errors);
@@ -180,6 +197,7 @@ fn run_on_file<
         return fail(alloc, Fault::NoMemory, errors);
     };
     let progress = Progress::new(rt, limit);
+    let mut errors = StdSink::new(Clearing::new(&progress, errors));
     let mut source = StdSource::new(Noted::new(opened(rt, &file)));
     let mut sink = StdSink::new(Clearing::new(&progress, io::writer(rt)));
     let status = run_and_tell(
@@ -188,7 +206,7 @@ fn run_on_file<
         words,
         &mut source,
         &mut sink,
-        errors,
+        &mut errors,
         &progress,
         &mut stops,
     );
@@ -196,7 +214,7 @@ fn run_on_file<
         progress.tell_used();
     }
     if let Some(reason) = source.reader().reason() {
-        tell_reason(alloc, &file, reason, errors);
+        tell_reason(alloc, &file, reason, &mut errors);
     }
     status
 }
@@ -204,15 +222,14 @@ fn run_on_file<
 /// The program over the words of the command line, the file that they name or the standard input, the standard output, and a writer for
 /// what the user is told: see [`named_file`] and [`run_and_tell`]. Words that are no UTF-8 are refused. Where reading failed, a second line
 /// tells what was read and what the system said. Where the words ask for progress, a line of how many visits were used is written a few times a second,
-/// each over the one before, and cleared when the answer is written; behind a verdict a line tells how many it took. What comes back ends the process with the exit status.
+/// each over the one before, and cleared when the answer is written or the user is told of a fault; behind a verdict a line tells how many it took. What comes back ends the process with the exit status.
 pub fn start<
     R: Env + io::Input + Print + Eprint + Files + Clock + AllocGlobal + Threads + Sync,
     W: io::Write + Drop,
 >(rt: &R, errors: W) -> Exit {
-    let mut errors = StdSink::new(errors);
     let status = match words(rt) {
-        Ok(words) => run_on_file(rt, words, &mut errors),
-        Err(error) => fail(rt.alloc(), fault_of(&error), &mut errors),
+        Ok(words) => run_on_file(rt, words, errors),
+        Err(error) => fail(rt.alloc(), fault_of(&error), errors),
     };
     Exit { status }
 }
