@@ -11,7 +11,7 @@ use Rattle.app_texts.specs.declared.report.LineFault.TheVariants as line_faults
 use Rattle.app_texts.specs.declared.fault.Fault.{Fault}
 use Rattle.app_texts.specs.declared.fault.Fault.TheVariants.{NotUtf8, Words, Asked, TooLong, Problem, Cert, Read, NoMemory}
 
--- Why an input is no problem, in words: the fault of its text with its place, or that the defender is in check.
+-- Why an input is no problem, in words: the fault of its text, with its place where it has one, or that the defender is in check.
 abbrev pub problem_fault_text : ProblemFault → List ℕ
 problem_fault_text (Text fault) = fault_text fault
 problem_fault_text (Diagram fault) = diagram_fault_text fault
@@ -22,7 +22,7 @@ abbrev pub line_fault_text : LineFault → List ℕ
 line_fault_text line_faults.TooLong = codes "too long"
 line_fault_text (line_faults.Problem fault) = problem_fault_text fault
 
--- Why a run failed, in words, with the place of the input's fault.
+-- Why a run failed, in words, with the place of a fault that has one.
 abbrev pub failure_text : Fault → List ℕ
 failure_text NotUtf8 = codes "a word is not UTF-8"
 failure_text (Words fault) = word_fault_text fault

@@ -20,7 +20,7 @@ use Rattle.app_texts.specs.declared.answer.Answer.{Answer}
 use Rattle.app_texts.specs.declared.answer.Answer.TheVariants.{Solved, Judged, Surveyed, Collected, Help}
 use Rattle.usi_text.specs.Lines.{AllHaveText}
 
--- A reason against a certificate: a word, and the move that it names.
+-- A reason against a certificate: a word, and the move that it names, if it names one.
 abbrev pub why_text : Why → List ℕ
 why_text RootMissing = codes "root"
 why_text (NotACheck move) = codes "move " ++ move_text move
@@ -36,7 +36,7 @@ cause_text (Height height) = codes "height " ++ decimal height
 cause_text (Stopped worker) = codes "stopped"
 
 -- The text of an answer to `solve`. For a mate and for none the line of the USI protocol, for a mate with its moves, and the
--- certificate; for neither the line of the USI protocol, and what was used up.
+-- certificate; for neither the line of the USI protocol, and what was used up, or that it was stopped.
 abbrev pub solution_text : Solution → List ℕ
 solution_text (Mate c moves) = line (mate_text moves) ++ certificate_text (certificates.Mate c)
 solution_text (NoMate c) = line nomate_text ++ certificate_text (certificates.Escape c)

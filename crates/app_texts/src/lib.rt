@@ -1,8 +1,8 @@
 //! What the program answers, why it ends without an answer, and the texts of both.
 //!
 //! An [`Answer`] is what was found out about a problem ([`Solution`]), what was found out about a certificate ([`Judgement`]), what a survey
-//! found ([`Summary`]), how many problems of a collection ended in which way ([`Counts`]), or help; its text is that of the USI protocol, and
-//! what this program writes behind it ([`answer_text`]). What is told of one line of a collection is a [`Report`] ([`append_report`]). A
+//! found ([`Summary`]), how many problems of a collection ended in which way ([`Counts`]), or help; the text of a solution begins with the line of the
+//! USI protocol, and the rest is this program's own ([`answer_text`]). What is told of one line of a collection is a [`Report`] ([`append_report`]). A
 //! [`Fault`] prints as the line for the user. `specs/` has the texts in full.
 #![tactic(auto)]
 

@@ -12,7 +12,7 @@ pub record Coming : Type 0 where
   pub form : CollectionView
   pub lines : List NumberedLine
 
--- A report is on the first line that was left, and true of it; the others are still to come.
+-- A report is on the first line that was left, is true of it, and has a text; the others are still to come, with the same settings and in the same form.
 pub record IsNext (before : Coming) (line : NumberedLine) (report : Report) (after : Coming) : Type 0 where
   pub first : before.lines ≡ line ∷ after.lines
   pub true_of : IsTrueReport before.settings before.form line report

@@ -12,7 +12,7 @@ pub record IsReportOn (settings : SettingsView) (form : CollectionView) (line : 
   pub true_of : IsTrueReport settings form (seen line) report
   pub has_line : HasReportLine report
 
--- A report may be told of the line at a place.
+-- A report may be told of the line at a place, if there is one.
 abbrev pub IsReportAt : SettingsView → CollectionView → List Line → ℕ → Report → Type 0
 IsReportAt settings form lines place report = (d : Line) → place < length lines → IsReportOn settings form (slice_index_or lines place d) report
 

@@ -54,7 +54,7 @@ impl<'a> Model for Reports<'a> {
         × All (λ one. IsReportOn (settings_in r.settings) (collection_in r.form) one.line one.report) r.ahead.items };
 }
 
-// As many threads as the words say, or else as there are processors, and one where that isn't known.
+// As many threads as the words say, or else as there are processors, at most [`MOST_THREADS`], and one where that isn't known.
 fn threads_for<R: Threads>(rt: &R, form: &CollectionForm) -> usize
     ensures { 0 < result }
 {

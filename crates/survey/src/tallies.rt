@@ -18,7 +18,8 @@ pub const MOST_COUNT: u32 = 10_000;
 /// What the searches of so many problems of the generator come to, those of the seed and the numbers behind it, in this order; the
 /// seed is at most [`MOST_SEED`], and they are at most [`MOST_COUNT`]. Each search has one worker, so many units (1 to 1,000,000,000:
 /// visits of positions), room for 1,048,576 notes and a table of 1,024 rows, which takes about 1 MB at once. There is a thread for each processor that the
-/// system has, and each takes the next problem that no other has taken; that changes no tally (no clause says it). Errors: want of memory alone, of any search.
+/// system has, and each takes the next problem that no other has taken; that changes no tally (no clause says it). What is still
+/// open when the threads are over, since memory was wanting, is searched then, one after another. Errors: want of memory alone.
 pub fn survey<R: Threads + Sync>(
     rt: &R,
     alloc: Global,

@@ -1,4 +1,4 @@
--- Workers over any port: what its book counts is what they have, all together; and what a turn of one of them does.
+-- Workers over any port: what it holds, and the units that it gave, are what they have, all together; and what a turn of one of them does.
 use Rattle.std.specs.Prelude.{◌≡◌, ◌≤◌, ◌<◌, ◌++◌, ℕ, false, List, [], ◌∷◌, Option, Some, None, IfSome, IfNone, MatchOption, length, slice_get, slice_set}
 use Rattle.board_core.specs.Board.{Board}
 use Rattle.board_core.specs.declared.keys.Key.{Key}
@@ -22,8 +22,8 @@ pub record IsInCrew (position : Board) (worker : Standing) : Type 0 where
   pub log : List Exchange
   pub leads : Leads worker.task log worker.state
 
--- The port holds what the workers have entered, all together, and gave what they were given, at most a billion units; and all are in the search of
--- its problem.
+-- The port holds what the workers have entered, all together, and gave the units that they were given, at most a billion (of room nothing is said); and all
+-- are in the search of its problem.
 pub record IsCrew (book : Book) (workers : List Standing) : Type 0 where
   pub held : (key : Key) (slot : ℕ) → book.held key slot ≡ all_slots workers key slot
   pub size : book.size ≡ all_sizes workers
@@ -38,6 +38,7 @@ pub record ChangesAt (workers : List Standing) (place : ℕ) (worker next : Stan
 
 -- One request of the worker was answered by the port, and by whatever log it stood, it stands by that log with the request and the answer behind;
 -- where it had none, it had ended so, and nothing changes. What the port holds and gave beside the worker's own stays as it was.
+-- The port suits the worker as it stands then, and with a request less is still to come.
 pub record IsTurned {P : Type 0} (turn : P → List Key → Request → Option Answer → P → Type 0) (book : P → Book) (port after : P) (worker next : Standing) (result : Option WorkEnd) : Type 0 where
   pub events : List Exchange
   pub went : WentBy turn port after worker next events
