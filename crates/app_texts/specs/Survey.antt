@@ -2,8 +2,8 @@
 use Rattle.std.specs.Prelude.{Bool, true, false, ℕ, List, ◌∷◌, ◌++◌, codes, count_by, length}
 use Rattle.std.specs.Fmt.{decimal}
 use Rattle.cert_text.specs.Entries.{line}
-use Rattle.survey.specs.declared.tally.Tally.{Tally}
-use Rattle.survey.specs.declared.tally.Tally.TheVariants.{Mate, NoMate, Unknown}
+use Rattle.search_pool.specs.declared.tally.Tally.{Tally}
+use Rattle.search_pool.specs.declared.tally.Tally.TheVariants.{Mate, NoMate, Unknown}
 use Rattle.app_texts.specs.declared.tallies.Summary.{Summary}
 
 -- The problem is a mate.

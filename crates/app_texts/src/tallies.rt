@@ -3,7 +3,7 @@ ghost use Rattle.std.specs.Prelude.{◌≡◌, count_by};
 ghost use Rattle.app_texts.specs.Survey.{is_mate, is_no_mate, is_unknown};
 
 use std::marker::Model;
-use survey::Tally;
+use search_pool::Tally;
 
 /// How the searches of a survey ended, by the rising number of their problems. Contracts see the list.
 #[derive(Drop)]
@@ -13,7 +13,7 @@ pub struct Tallies {
 
 impl Model for Tallies {
     ghost use Rattle.std.specs.Prelude.{List};
-    ghost use Rattle.survey.specs.declared.tally.Tally.{Tally};
+    ghost use Rattle.search_pool.specs.declared.tally.Tally.{Tally};
 
     ghost Value = { List Tally };
 

@@ -12,7 +12,7 @@ use search_pool::Crew;
 use sfen_text::TextFault;
 use std::alloc::{AllocError, Global};
 use std::test::Fail;
-use survey::Tally;
+use search_pool::Tally;
 use unit_desk::Cause;
 use usi_text::read_move;
 

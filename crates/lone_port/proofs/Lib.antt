@@ -1,4 +1,4 @@
--- Lemmas about the table of a worker alone.
+-- Lemmas about the table of a worker alone, and about worlds.
 pub mod Keys
 pub mod Slots
 pub mod Rows
@@ -7,3 +7,4 @@ pub mod Asked
 pub mod Starved
 pub mod Learnt
 mod Renewed
+pub mod Stepped

@@ -20,8 +20,8 @@ use Rattle.visit_log.specs.Laws.{EndsHaveCauses}
 use Rattle.worker_core.specs.Port.{Suits}
 use Rattle.lone_port.specs.Lone.{Lone, alone_at_first, worker_at_first, book_of}
 use Rattle.search_gate.specs.Stop.{Signal, one_more}
-use Rattle.search_world.specs.declared.event.Event.{Event}
-use Rattle.search_world.specs.Alone.{IsOwn, IsOwnStep, RunsAlone, HasCause}
+use Rattle.lone_port.specs.declared.event.Event.{Event}
+use Rattle.lone_port.specs.Alone.{IsOwn, IsOwnStep, RunsAlone, HasCause}
 use Rattle.search_pool.specs.declared.end.SearchEnd.{SearchEnd}
 use Rattle.search_pool.specs.declared.end.SearchEnd.TheVariants.{Solved, Unknown}
 use Rattle.search_pool.specs.End.{IsAlone, IsAloneUntil, HeedsStop}

@@ -14,10 +14,10 @@ use Rattle.worker_core.specs.Machine.{is_poll}
 use Rattle.worker_core.specs.Port.{Suits, KeepsOthers, Goes}
 use Rattle.lone_port.specs.Lone.{Lone, book_of, opened}
 use Rattle.search_gate.specs.Stop.{Signal, one_more, polled}
-use Rattle.search_world.specs.declared.event.Event.{Event}
-use Rattle.search_world.specs.declared.event.Event.TheVariants.{Step, Raise}
-use Rattle.search_world.specs.World.{World, Steps, IsAtWork, StepsAt, Plays, world_at_first}
-use Rattle.search_world.specs.Alone.{IsOwn, IsOwnStep, for_one, told_to_one, world_of}
+use Rattle.lone_port.specs.declared.event.Event.{Event}
+use Rattle.lone_port.specs.declared.event.Event.TheVariants.{Step, Raise}
+use Rattle.lone_port.specs.World.{World, Steps, IsAtWork, StepsAt, Plays, world_at_first}
+use Rattle.lone_port.specs.Alone.{IsOwn, IsOwnStep, for_one, told_to_one, world_of}
 use Rattle.search_pool.specs.End.{polls_after}
 use Rattle.search_pool.specs.Inside.{says_stop, WasSaid, IsWindingUp, IsQuiet, IsUnderWay}
 use Rattle.search_pool.proofs.Desk.{told_on, limits_stay}

@@ -11,8 +11,8 @@ use Rattle.visit_log.specs.Run.{Standing}
 use Rattle.visit_log.specs.Sound.{IsAnswer}
 use Rattle.worker_core.specs.Machine.{is_poll}
 use Rattle.lone_port.specs.Lone.{Lone}
-use Rattle.search_world.specs.declared.event.Event.{Event}
-use Rattle.search_world.specs.Alone.{RunsAlone, HasCause, IsOwnStep}
+use Rattle.lone_port.specs.declared.event.Event.{Event}
+use Rattle.lone_port.specs.Alone.{RunsAlone, HasCause, IsOwnStep}
 use Rattle.search_pool.specs.declared.end.SearchEnd.{SearchEnd}
 use Rattle.search_pool.specs.declared.end.SearchEnd.TheVariants.{Solved, Unknown}
 

@@ -18,9 +18,9 @@ use Rattle.visit_log.specs.Visit.{Event as Exchange}
 use Rattle.visit_log.specs.Run.{Standing, Leads}
 use Rattle.worker_core.specs.Port.{Suits}
 use Rattle.lone_port.specs.Lone.{Lone, book_of}
-use Rattle.search_world.specs.World.{Plays, world_at_first}
-use Rattle.search_world.specs.declared.event.Event.{Event}
-use Rattle.search_world.specs.Alone.{IsOwn, IsOwnStep, for_one, told_to_one, world_of}
+use Rattle.lone_port.specs.World.{Plays, world_at_first}
+use Rattle.lone_port.specs.declared.event.Event.{Event}
+use Rattle.lone_port.specs.Alone.{IsOwn, IsOwnStep, for_one, told_to_one, world_of}
 use Rattle.search_pool.specs.End.{polls_after}
 
 -- Whether the answer says that all units were drawn; that all room was claimed; that a note is posted, now or before; that the worker is to stop.

@@ -14,7 +14,7 @@ use crate::{Crew, SearchEnd};
 use lone_port::LonePort;
 use notes::HEIGHT_LIMIT;
 use search_gate::{Gate, OpenGate, QuietStop, Stop};
-use search_world::step;
+use lone_port::step;
 use shogi_rules::Problem;
 use std::alloc::{AllocError, Global};
 use unit_desk::{Cause, Settings};

@@ -2,7 +2,7 @@
 use crate::trees::problem_of;
 use crate::words::Asked;
 use notes::{Conclusion, Note};
-use search_world::Event;
+use lone_port::Event;
 use shogi_rules::Problem;
 use std::io::{self, BufRead, BufReader};
 use unit_desk::Settings;

@@ -1,7 +1,7 @@
 -- What the private functions of this crate say of one another; no public clause cites these.
 use Rattle.std.specs.Prelude.{◌<◌, ◌+◌, ℕ, List, Option, None, IfSome, length, slice_index_or}
 use Rattle.survey.specs.declared.apart.Made.{Made}
-use Rattle.survey.specs.declared.tally.Tally.{Tally}
+use Rattle.search_pool.specs.declared.tally.Tally.{Tally}
 use Rattle.survey.specs.Tally.{IsTallied}
 
 -- What was made of the problem at a place is its tally.

@@ -10,8 +10,8 @@ use Rattle.unit_desk.specs.Sizes.{SettingsView, numbers_of}
 use Rattle.search_pool.specs.declared.end.SearchEnd.{SearchEnd}
 use Rattle.search_pool.specs.declared.end.SearchEnd.TheVariants as ends
 use Rattle.search_pool.specs.End.{IsAlone}
-use Rattle.survey.specs.declared.tally.Tally.{Tally}
-use Rattle.survey.specs.declared.tally.Tally.TheVariants.{Mate, NoMate, Unknown}
+use Rattle.search_pool.specs.declared.tally.Tally.{Tally}
+use Rattle.search_pool.specs.declared.tally.Tally.TheVariants.{Mate, NoMate, Unknown}
 
 -- What a note about a problem concludes of it.
 abbrev pub tally_by : Conclusion → Tally

@@ -5,7 +5,7 @@ ghost use Rattle.survey.specs.declared.tallies.TheConstants.{MOST_SEED};
 ghost use Rattle.survey.specs.Tally.{IsTallied, AreTallied};
 ghost use Rattle.survey.specs.Inside.{IsMade, AreTalliesAt};
 
-use crate::Tally;
+use search_pool::Tally;
 use crate::decide::decide;
 use problem_gen::problem_of;
 use std::alloc::{AllocError, Global};

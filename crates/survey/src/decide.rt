@@ -7,7 +7,7 @@ ghost use Rattle.visit_log.specs.Frame.{task_for};
 ghost use Rattle.visit_log.specs.Sound.{IsAnswer};
 ghost use Rattle.survey.specs.Tally.{tally_by, IsTrueOf, ComesTo, survey_settings};
 
-use crate::Tally;
+use search_pool::Tally;
 use mate_def::escape_is_no_mate;
 use notes::{Conclusion, Note};
 use search_pool::{SearchEnd, search_alone};

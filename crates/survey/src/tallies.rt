@@ -4,7 +4,7 @@ ghost use Rattle.unit_desk.specs.declared.settings.TheConstants.{MOST_EXPANSIONS
 ghost use Rattle.survey.specs.declared.tallies.TheConstants.{MOST_SEED, MOST_COUNT};
 ghost use Rattle.survey.specs.Tally.{AreTallied};
 
-use crate::Tally;
+use search_pool::Tally;
 use crate::apart::{Asked, decide_apart};
 use std::alloc::{AllocError, Global};
 use std::thread::Threads;

@@ -1,5 +1,5 @@
 // What the standard input asks for: a problem, and the settings of its search.
-use search_world::Event;
+use lone_port::Event;
 use sfen_text::{TextFault, read_sfen};
 use shogi_rules::{Problem, accept_problem};
 use std::alloc::Global;

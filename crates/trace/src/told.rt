@@ -3,7 +3,7 @@ ghost use Rattle.std.specs.Prelude.{◌<◌, IfSome, length};
 
 use crate::lines::Lines;
 use crate::recorder::Recorder;
-use search_world::Event;
+use lone_port::Event;
 use std::alloc::{AllocError, Global};
 use std::marker::Model;
 use worker_core::Worker;
@@ -24,7 +24,7 @@ impl Model for Told {
     ghost use Rattle.std.specs.Coded.{codes};
     ghost use Rattle.lone_port.specs.contracts.lone.LonePort as port_facts;
     ghost use Rattle.worker_core.specs.contracts.worker.Worker as worker_facts;
-    ghost use Rattle.search_world.specs.World.{World as Meant};
+    ghost use Rattle.lone_port.specs.World.{World as Meant};
     ghost use Rattle.trace.specs.Told.{IsTold};
 
     ghost Value = { Meant };

@@ -4,7 +4,7 @@ use crate::lines::Lines;
 use crate::recorder::Recorder;
 use crate::told::Told;
 use lone_port::LonePort;
-use search_world::Event;
+use lone_port::Event;
 use std::alloc::{AllocError, Global};
 use worker_core::{Worker, work};
 use world_play::World;

@@ -20,7 +20,7 @@ use Rattle.visit_log.specs.Frame.{Visiting}
 use Rattle.visit_log.specs.Run.{Standing}
 use Rattle.visit_log.specs.Counts.{own_slots, slot_of}
 use Rattle.lone_port.specs.Lone.{IsLone, IsBelow, held_at, pins_of}
-use Rattle.search_world.specs.World.{World}
+use Rattle.lone_port.specs.World.{World}
 use Rattle.world_play.specs.Fair.{IsFair, all_slots, all_below, own_below, key_once}
 use Rattle.world_play.proofs.Suited.{one_within}
 use Rattle.world_play.proofs.Promised.{holds}

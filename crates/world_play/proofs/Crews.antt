@@ -12,7 +12,7 @@ use Rattle.visit_log.specs.Laws.{WorkersAreSound, WorkersAreCounted, IsLeftAlone
 use Rattle.worker_core.specs.Port.{Book, Suits, KeepsOthers, entering}
 use Rattle.unit_desk.specs.Desk.{IsDesk}
 use Rattle.lone_port.specs.Lone.{book_of}
-use Rattle.search_world.specs.World.{World}
+use Rattle.lone_port.specs.World.{World}
 use Rattle.world_play.specs.Fair.{IsFair}
 use Rattle.world_play.specs.Crew.{IsInCrew, IsCrew}
 use Rattle.world_play.proofs.Suited.{one_within, all_with_one, enters_within}

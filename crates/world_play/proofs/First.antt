@@ -19,7 +19,7 @@ use Rattle.visit_log.specs.Run.{Standing}
 use Rattle.visit_log.specs.Counts.{own_slots, own_size}
 use Rattle.visit_log.specs.Laws.{HasCause}
 use Rattle.lone_port.specs.Lone.{held_in, held_at, pins_of, worker_at_first, alone_at_first, Lone}
-use Rattle.search_world.specs.World.{World, world_at_first, workers_from}
+use Rattle.lone_port.specs.World.{World, world_at_first, workers_from}
 use Rattle.world_play.specs.Fair.{IsFair, IsMember, IsToldOf}
 use Rattle.world_play.proofs.Suited.{some_is}
 

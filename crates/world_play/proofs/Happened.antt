@@ -12,9 +12,9 @@ use Rattle.visit_log.specs.Laws.{IsLeftAlone}
 use Rattle.worker_core.specs.Port.{KeepsOthers, Goes}
 use Rattle.worker_core.specs.Machine.{is_poll}
 use Rattle.lone_port.specs.Lone.{Lone, book_of, opened}
-use Rattle.search_world.specs.World.{World, Steps, StepsAt, IsAtWork, IsIdle, Happens, Plays}
-use Rattle.search_world.specs.declared.event.Event.{Event}
-use Rattle.search_world.specs.declared.event.Event.TheVariants.{Step, Raise, Starve}
+use Rattle.lone_port.specs.World.{World, Steps, StepsAt, IsAtWork, IsIdle, Happens, Plays}
+use Rattle.lone_port.specs.declared.event.Event.{Event}
+use Rattle.lone_port.specs.declared.event.Event.TheVariants.{Step, Raise, Starve}
 use Rattle.world_play.specs.Fair.{IsFair}
 use Rattle.world_play.specs.Logs.{GoOnBy}
 use Rattle.world_play.proofs.Desks.{desk_same, keeps}

@@ -23,7 +23,7 @@ use Rattle.visit_log.specs.Run.{Standing}
 use Rattle.visit_log.specs.Counts.{own_slots, own_size}
 use Rattle.visit_log.specs.Laws.{WorkersAreSound, WorkersAreCounted, LogsAreWhole, EndsHaveCauses}
 use Rattle.lone_port.specs.Lone.{held_at, pins_of}
-use Rattle.search_world.specs.World.{World}
+use Rattle.lone_port.specs.World.{World}
 use Rattle.world_play.specs.Fair.{IsFair, IsToldOf}
 use Rattle.world_play.proofs.Suited.{some_is}
 use Rattle.world_play.specs.Promises.{HoldsWhatIsEntered, AreSoundWorkers, AreToldOf, HasEnded, AllHaveEnded, IsOver, IsLeft}

@@ -13,7 +13,7 @@ use Rattle.visit_log.specs.Sound.{IsTask}
 use Rattle.visit_log.specs.Counts.{own_slots, own_size}
 use Rattle.worker_core.specs.Port.{KeepsOthers}
 use Rattle.lone_port.specs.Lone.{Lone, book_of, opened}
-use Rattle.search_world.specs.World.{World, Steps}
+use Rattle.lone_port.specs.World.{World, Steps}
 use Rattle.world_play.specs.Fair.{IsFair, IsMember}
 use Rattle.world_play.proofs.Desks.{KeepsDesk, keeps, told_still, told_on}
 use Rattle.world_play.proofs.Suited.{some_is}

@@ -14,7 +14,7 @@ use Rattle.visit_log.specs.Counts.{own_slots, own_size, slots_in}
 use Rattle.visit_log.specs.Laws.{WorkersAreSound, WorkersAreCounted}
 use Rattle.worker_core.specs.Port.{Suits, entering}
 use Rattle.lone_port.specs.Lone.{book_of, opened}
-use Rattle.search_world.specs.World.{World}
+use Rattle.lone_port.specs.World.{World}
 use Rattle.world_play.specs.Fair.{IsFair}
 
 -- 1. SUMS.

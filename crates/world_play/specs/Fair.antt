@@ -15,7 +15,7 @@ use Rattle.visit_log.specs.Sound.{IsTask}
 use Rattle.visit_log.specs.Counts.{own_slots, own_size}
 use Rattle.visit_log.specs.Laws.{HasCause}
 use Rattle.lone_port.specs.Lone.{held_in}
-use Rattle.search_world.specs.World.{World}
+use Rattle.lone_port.specs.World.{World}
 
 -- 1. WHAT THE WORKERS HAVE, ALL TOGETHER.
 

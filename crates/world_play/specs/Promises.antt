@@ -12,7 +12,7 @@ use Rattle.visit_log.specs.Run.{Standing}
 use Rattle.visit_log.specs.Sound.{IsSound}
 use Rattle.visit_log.specs.Laws.{IsCounted}
 use Rattle.lone_port.specs.Lone.{Lone, IsLone, held_in}
-use Rattle.search_world.specs.World.{World, Steps}
+use Rattle.lone_port.specs.World.{World, Steps}
 use Rattle.world_play.specs.Fair.{all_slots, IsToldOf}
 
 -- Each slot that a visit has entered for a key holds an entry of that key.

@@ -2,7 +2,7 @@
 use super::*;
 use board_core::key;
 use notes::{Conclusion, Note};
-use search_world::Event;
+use lone_port::Event;
 use sfen_text::read_sfen;
 use shogi_rules::{Problem, accept_problem};
 use std::alloc::Global;

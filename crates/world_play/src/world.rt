@@ -3,8 +3,8 @@ ghost use Rattle.std.specs.Prelude.{◌≡◌, ◌<◌, ◌+◌, ◌↔◌, ℕ,
 ghost use Rattle.unit_desk.specs.Settings.{settings_in};
 ghost use Rattle.visit_log.specs.Visit.{Event as Exchange};
 ghost use Rattle.visit_log.specs.Run.{Standing};
-ghost use Rattle.search_world.specs.World.{Happens, Plays, IsAtWork, IsIdle, world_at_first};
-ghost use Rattle.search_world.specs.declared.event.Event.TheVariants.{Step, Raise, Starve};
+ghost use Rattle.lone_port.specs.World.{Happens, Plays, IsAtWork, IsIdle, world_at_first};
+ghost use Rattle.lone_port.specs.declared.event.Event.TheVariants.{Step, Raise, Starve};
 ghost use Rattle.unit_desk.specs.Desk.{IsDesk};
 ghost use Rattle.lone_port.specs.Lone.{IsLone, book_of};
 ghost use Rattle.table_shard.specs.Row.{IsRow};
@@ -16,7 +16,7 @@ ghost use Rattle.world_play.specs.Logs.{GoOnBy};
 use board_core::Key;
 use lone_port::LonePort;
 use notes::Note;
-use search_world::{Event, step};
+use lone_port::{Event, step};
 use shogi_rules::Problem;
 use std::alloc::{AllocError, Global};
 use std::marker::Model;
@@ -40,7 +40,7 @@ impl Model for World {
     ghost use Rattle.std.specs.Coded.{codes};
     ghost use Rattle.lone_port.specs.contracts.lone.LonePort as port_facts;
     ghost use Rattle.worker_core.specs.contracts.worker.Worker as worker_facts;
-    ghost use Rattle.search_world.specs.World.{World as Meant};
+    ghost use Rattle.lone_port.specs.World.{World as Meant};
     ghost use Rattle.world_play.specs.Fair.{IsFair};
 
     ghost Value = { Meant };

@@ -1,5 +1,5 @@
 use Rattle.std.proofs.Common.{ap, ◌∙◌}
-use Rattle.search_world.specs.World.{World}
+use Rattle.lone_port.specs.World.{World}
 use Rattle.world_play.specs.Fair.{all_below}
 use Rattle.world_play.proofs.Below.{below_is}
 use Rattle.world_play.proofs.world.World.below.Goals as goal

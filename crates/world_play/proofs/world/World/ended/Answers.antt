@@ -1,7 +1,7 @@
 use Rattle.std.proofs.Common.{◌≡◌, ◌<◌, ◌≤◌, List, length, get_or, ap, ◌∙◌, subst, refl}
 use Rattle.std.proofs.lemmas.Bool.{false≢true}
 use Rattle.visit_log.specs.Run.{Standing}
-use Rattle.search_world.specs.World.{World}
+use Rattle.lone_port.specs.World.{World}
 use Rattle.world_play.proofs.Promised.{not_all_ended, one_more_ended, all_have_ended}
 use Rattle.world_play.proofs.world.World.ended.Goals as goal
 

@@ -1,4 +1,4 @@
-use Rattle.search_world.specs.World.{World}
+use Rattle.lone_port.specs.World.{World}
 use Rattle.world_play.proofs.Crews.{fair_crew}
 use Rattle.world_play.proofs.world.World.into_crew.Goals as goal
 

@@ -1,5 +1,5 @@
 use Rattle.std.proofs.Common.{subst}
-use Rattle.search_world.specs.World.{World}
+use Rattle.lone_port.specs.World.{World}
 use Rattle.world_play.specs.Promises.{HoldsWhatIsEntered, AreSoundWorkers, AreToldOf, AllHaveEnded, IsOver, IsLeft}
 use Rattle.world_play.proofs.Promised.{holds, sound_workers, told_of, over, left}
 use Rattle.world_play.proofs.world.World.laws.Goals as goal

@@ -1,5 +1,5 @@
 use Rattle.std.proofs.Common.{◌≡◌, false, replicate}
-use Rattle.search_world.specs.World.{workers_from}
+use Rattle.lone_port.specs.World.{workers_from}
 use Rattle.world_play.proofs.world.World.make.Given as goal
 
 -- the workers so far, to none of which a stop was signalled

@@ -1,7 +1,7 @@
 use Rattle.std.proofs.Common.{List, take, get_or, sym, subst}
 use Rattle.std.proofs.lemmas.List.{take_more}
-use Rattle.search_world.specs.declared.event.Event.{Event}
-use Rattle.search_world.specs.declared.event.Event.TheVariants.{Step}
+use Rattle.lone_port.specs.declared.event.Event.{Event}
+use Rattle.lone_port.specs.declared.event.Event.TheVariants.{Step}
 use Rattle.world_play.proofs.Happened.{Played, played_push}
 use Rattle.world_play.proofs.world.World.play.Goals as goal
 

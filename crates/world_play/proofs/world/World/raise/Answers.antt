@@ -1,7 +1,7 @@
 use Rattle.std.proofs.Common.{set, arith, refl, sym, subst, true}
 use Rattle.std.proofs.lemmas.Option.{slice_get_within}
-use Rattle.search_world.specs.World.{World, IsAtWork}
-use Rattle.search_world.specs.declared.event.Event.TheVariants.{Raise}
+use Rattle.lone_port.specs.World.{World, IsAtWork}
+use Rattle.lone_port.specs.declared.event.Event.TheVariants.{Raise}
 use Rattle.world_play.proofs.Happened.{Comes, raise_fair, raise_comes, idle_raise}
 use Rattle.world_play.proofs.world.World.raise.Goals as goal
 

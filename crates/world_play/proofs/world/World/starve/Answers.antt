@@ -1,7 +1,7 @@
 use Rattle.std.proofs.Common.{set, arith, refl, sym, subst}
 use Rattle.std.proofs.lemmas.Option.{slice_get_within}
-use Rattle.search_world.specs.World.{World, IsAtWork}
-use Rattle.search_world.specs.declared.event.Event.TheVariants.{Starve}
+use Rattle.lone_port.specs.World.{World, IsAtWork}
+use Rattle.lone_port.specs.declared.event.Event.TheVariants.{Starve}
 use Rattle.world_play.proofs.Happened.{Comes, at_work_by, starve_fair, starve_comes, idle_starve}
 use Rattle.world_play.proofs.world.World.starve.Goals as goal
 

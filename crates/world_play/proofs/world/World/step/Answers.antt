@@ -2,8 +2,8 @@ use Rattle.std.proofs.Common.{set, arith, refl, sym, subst}
 use Rattle.std.proofs.lemmas.Option.{slice_get_within}
 use Rattle.worker_core.specs.Port.{Suits}
 use Rattle.lone_port.specs.Lone.{Lone, book_of}
-use Rattle.search_world.specs.World.{World, IsAtWork}
-use Rattle.search_world.specs.declared.event.Event.TheVariants.{Step}
+use Rattle.lone_port.specs.World.{World, IsAtWork}
+use Rattle.lone_port.specs.declared.event.Event.TheVariants.{Step}
 use Rattle.world_play.proofs.Suited.{suited}
 use Rattle.world_play.proofs.Happened.{Comes, at_work_by, requested, step_fair, step_comes, idle_step}
 use Rattle.world_play.proofs.world.World.step.Goals as goal

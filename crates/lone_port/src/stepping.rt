@@ -6,9 +6,9 @@ ghost use Rattle.visit_log.specs.Run.{Leads};
 ghost use Rattle.visit_log.specs.Counts.{to_come};
 ghost use Rattle.worker_core.specs.Port.{Suits, KeepsOthers};
 ghost use Rattle.lone_port.specs.Lone.{book_of};
-ghost use Rattle.search_world.specs.World.{Steps};
+ghost use Rattle.lone_port.specs.World.{Steps};
 
-use lone_port::LonePort;
+use super::LonePort;
 use std::alloc::Global;
 use visit_log::WorkEnd;
 use worker_core::{Worker, turn};

@@ -2,8 +2,8 @@ use Rattle.std.proofs.Common.{◌≡◌, sym, ◌∙◌}
 use Rattle.std.specs.Prelude.{Some}
 use Rattle.visit_log.specs.declared.words.WorkEnd.{WorkEnd}
 use Rattle.visit_log.specs.Machine.{end_of}
-use Rattle.search_world.proofs.Stepped.{opened_suits, stepped, not_ended, others_opened, where_none}
-use Rattle.search_world.proofs.stepping.step.Goals as goal
+use Rattle.lone_port.proofs.Stepped.{opened_suits, stepped, not_ended, others_opened, where_none}
+use Rattle.lone_port.proofs.stepping.step.Goals as goal
 
 pub turn-requires-clause-suits : goal.turn-requires-clause-suits
 turn-requires-clause-suits c = opened_suits c.args.worker.now c.args.port.now c.open.new.self c.args.stops c.open.ensures c.requires.suits

@@ -10,9 +10,9 @@ use Rattle.visit_log.specs.Visit.{Event as Exchange}
 use Rattle.visit_log.specs.Machine.{end_of}
 use Rattle.visit_log.specs.Run.{Standing, IsReached}
 use Rattle.lone_port.specs.Lone.{Lone}
-use Rattle.search_world.specs.World.{World, Plays, world_at_first}
-use Rattle.search_world.specs.declared.event.Event.{Event}
-use Rattle.search_world.specs.declared.event.Event.TheVariants.{Step, Raise, Starve}
+use Rattle.lone_port.specs.World.{World, Plays, world_at_first}
+use Rattle.lone_port.specs.declared.event.Event.{Event}
+use Rattle.lone_port.specs.declared.event.Event.TheVariants.{Step, Raise, Starve}
 
 -- The same settings, with one worker.
 abbrev pub for_one : SettingsView → SettingsView

@@ -8,8 +8,8 @@ use Rattle.visit_log.specs.Run.{Standing}
 use Rattle.worker_core.specs.Port.{Goes}
 use Rattle.worker_core.specs.Machine.{is_poll}
 use Rattle.lone_port.specs.Lone.{Lone, Turns, opened, alone_at_first, worker_at_first}
-use Rattle.search_world.specs.declared.event.Event.{Event}
-use Rattle.search_world.specs.declared.event.Event.TheVariants.{Step, Raise, Starve}
+use Rattle.lone_port.specs.declared.event.Event.{Event}
+use Rattle.lone_port.specs.declared.event.Event.TheVariants.{Step, Raise, Starve}
 
 -- 1. A STEP.
 

@@ -7,7 +7,7 @@ use Rattle.visit_log.specs.Machine.{State, end_of, path_of}
 use Rattle.visit_log.specs.Run.{Leads, Standing}
 use Rattle.worker_core.specs.Port.{Suits, KeepsOthers, WentBy, Goes}
 use Rattle.lone_port.specs.Lone.{Lone, Turns, opened, book_of}
-use Rattle.search_world.specs.World.{Steps}
+use Rattle.lone_port.specs.World.{Steps}
 
 -- What suits the worker suits it once it is opened.
 pub opened_suits : (worker : Standing) (port ready : Lone) (stops : Bool) → ready ≡ opened port stops → Suits worker (book_of port) → Suits worker (book_of ready)

@@ -1,2 +1,0 @@
--- Lemmas about worlds.
-pub mod Stepped
