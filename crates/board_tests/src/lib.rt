@@ -11,4 +11,6 @@ mod paths;
 #[cfg(test)]
 mod positions;
 #[cfg(test)]
+mod same;
+#[cfg(test)]
 mod squares;

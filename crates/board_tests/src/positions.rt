@@ -1,4 +1,8 @@
 // What the rules of shogi say of positions and of the order of moves, by examples.
+use crate::same::same;
+use BadPosition::{DeadPiece, NoDefenderKing, TooMany, TwoKings, TwoPawns};
+use Kind::{Bishop, Gold, Knight, Lance, Pawn, Rook, Silver};
+use Side::{Black, White};
 use board_core::{
     BadPosition, Hand, Key, Kind, Move, Piece, Position, Side, Square, key, rest, same_key,
 };
@@ -17,26 +21,35 @@ const OTHERS: [u8; 7] = [8, 0, 4, 0, 3, 0, 1];
 
 const ONE_FILE: &str = "k5a +P1a +P1b +p1c +P1d +p1e +P1f +P1g +p1h +p1i";
 
-use BadPosition::{DeadPiece, NoDefenderKing, TooMany, TwoKings, TwoPawns};
-use Kind::{Bishop, Gold, Knight, Lance, Pawn, Rook, Silver};
-use Side::{Black, White};
+// A piece and its square by a word as `+P5c`: a letter, capital for Black and behind a `+` where it is promoted, and then
+// the square.
+fn placed(word: &str) -> Option<(Piece, Square)> {
+    let plain = word.strip_prefix("+").unwrap_or(word).as_bytes();
+    let [letter, file, row] = plain else {
+        return None;
+    };
+    let (file, row) = (file.wrapping_sub(b'0'), row.wrapping_sub(b'`'));
+    if file < 1 || 9 < file || row < 1 || 9 < row {
+        return None;
+    }
+    let kind = Kind::of_letter(letter.to_ascii_uppercase())?;
+    let piece = Piece {
+        kind,
+        promoted: plain.len() < word.len() && kind.can_promote(),
+        side: if letter.is_ascii_uppercase() {
+            Black
+        } else {
+            White
+        },
+    };
+    Some((piece, Square::on(file, row)))
+}
 
-// The cells of a text as `k5a +P5c`: of each piece its letter, capital for Black and behind a `+` where it is promoted, and
-// its square.
 fn cells_of(rt: &impl Abort, pieces: &str) -> [Option<Piece>; 81] {
     let mut cells = [None; 81];
     for word in pieces.split_whitespace() {
-        let plain = word.strip_prefix("+").unwrap_or(word).as_bytes();
-        assert!(rt; plain.len() == 3, "piece {word}");
-        let capital = plain[0].to_ascii_uppercase();
-        let kind = Kind::of_letter(capital).expect(rt, word);
-        let (file, row) = (plain[1].wrapping_sub(b'1'), plain[2].wrapping_sub(b'a'));
-        assert!(rt; file < 9 && row < 9, "square of {word}");
-        cells[(file * 9 + row) as usize] = Some(Piece {
-            kind,
-            promoted: plain.len() < word.len() && kind.can_promote(),
-            side: if plain[0] == capital { Black } else { White },
-        });
+        let (piece, square) = placed(word).expect(rt, word);
+        cells[square.number as usize] = Some(piece);
     }
     cells
 }
@@ -78,7 +91,7 @@ fn the_first_kind_with_too_many_is_named(rt: HostRuntime) {
         ("+r5e R5f", NONE, [0, 0, 0, 0, 0, 0, 1], Rook),
     ] {
         let built = built(&rt, &(pieces, black, white, Black));
-        assert_eq!(rt; built.err(), Some(TooMany(kind)), "{pieces}");
+        same(&rt, pieces, built.err(), Some(TooMany(kind)));
     }
 }
 
@@ -106,7 +119,7 @@ fn a_fault_of_the_pieces_is_named_in_order(rt: HostRuntime) {
         ("k5a P9b P9i", Black, TwoPawns(9)),
     ] {
         let built = built(&rt, &(pieces, NONE, NONE, side));
-        assert_eq!(rt; built.err(), Some(fault), "{pieces}");
+        same(&rt, pieces, built.err(), Some(fault));
     }
 }
 
@@ -135,10 +148,10 @@ fn what_may_stand_stands(rt: HostRuntime) {
         ("k5a S1a G2a B3a R4a", NONE, NONE, Black),
     ] {
         let position = stand(&rt, &(pieces, black, white, side));
-        assert_eq!(rt; position.hand(Black), Hand::of(black), "{pieces}");
-        assert_eq!(rt; position.hand(White), Hand::of(white), "{pieces}");
-        assert_eq!(rt; position.side(), side, "{pieces}");
-        assert!(rt; stands_as(&position, &cells_of(&rt, pieces)), "{pieces}");
+        let hands = (position.hand(Black), position.hand(White));
+        same(&rt, pieces, hands, (Hand::of(black), Hand::of(white)));
+        let stands = stands_as(&position, &cells_of(&rt, pieces));
+        same(&rt, pieces, (position.side(), stands), (side, true));
     }
 }
 
@@ -148,10 +161,11 @@ fn kings_are_found_and_positions_compared(rt: HostRuntime) -> Result<(), Fail> {
     let empty = Hand::empty();
     let one = Position::build(&cells, empty, empty, Black)?;
     let two = Position::build(&cells, empty, Hand::of([0, 0, 0, 0, 1, 0, 0]), Black)?;
-    assert_eq!(rt; one.king_square(White), Some(Square::on(5, 1)));
-    assert_eq!(rt; one.king_square(Black), None);
-    assert!(rt; one.is_same(&Position::build(&cells, empty, empty, Black)?));
-    assert!(rt; !one.is_same(&two));
+    let kings = (one.king_square(White), one.king_square(Black));
+    same(&rt, "kings", kings, (Some(Square::on(5, 1)), None));
+    let again = Position::build(&cells, empty, empty, Black)?;
+    let found = (one.is_same(&again), one.is_same(&two));
+    same(&rt, "compared", found, (true, false));
     Ok(())
 }
 
@@ -174,7 +188,7 @@ fn moves_sort_into_their_order(rt: HostRuntime) -> Result<(), Fail> {
         want[7], want[3], want[5], want[2], want[6], want[0], want[4], want[1],
     ]?;
     moves.sort()?;
-    assert_eq!(rt; moves.as_slice(), want.as_slice());
+    same(&rt, "sorted", moves.as_slice(), want.as_slice());
     Ok(())
 }
 
@@ -214,7 +228,7 @@ fn a_key_is_as_laid_out(rt: HostRuntime) {
         ),
     ];
     for (row, (position, words)) in rows.iter().enumerate() {
-        assert_eq!(rt; key(&stand(&rt, position)), Key(*words), "row {row}");
+        same(&rt, row, key(&stand(&rt, position)), Key(*words));
     }
 }
 
@@ -230,8 +244,8 @@ fn no_two_positions_have_one_key(rt: HostRuntime) {
     ];
     for (row, one) in positions.iter().enumerate() {
         for (column, two) in positions.iter().enumerate() {
-            let same = same_key(&stand(&rt, one), &stand(&rt, two));
-            assert_eq!(rt; same, row == column, "rows {row} and {column}");
+            let found = same_key(&stand(&rt, one), &stand(&rt, two));
+            same(&rt, (row, column), found, row == column);
         }
     }
 }
@@ -255,9 +269,9 @@ fn the_rest_is_in_the_defenders_hand(rt: HostRuntime) {
     for (row, (given, black, white)) in rows.iter().enumerate() {
         let before = stand(&rt, given);
         let after = rest(&before);
-        assert_eq!(rt; after.hand(Black), Hand::of(*black), "row {row}");
-        assert_eq!(rt; after.hand(White), Hand::of(*white), "row {row}");
-        assert_eq!(rt; after.side(), before.side(), "row {row}");
-        assert!(rt; stands_as(&after, &cells_of(&rt, given.0)), "row {row}");
+        let hands = (after.hand(Black), after.hand(White));
+        same(&rt, row, hands, (Hand::of(*black), Hand::of(*white)));
+        let stands = stands_as(&after, &cells_of(&rt, given.0));
+        same(&rt, row, (after.side(), stands), (before.side(), true));
     }
 }

@@ -1,4 +1,5 @@
 // Squares, pieces and sets of squares by examples.
+use crate::same::same;
 use Kind::{Bishop, Gold, King, Knight, Pawn, Rook, Silver};
 use Side::{Black, White};
 use bit_boards::{
@@ -6,7 +7,6 @@ use bit_boards::{
     lines, mask_laws, open_ray, ray, steps, steps_to,
 };
 use std::process::Abort;
-use std::test::Fail;
 
 // A square by its number: 0 is 1a, 40 is 5e, 80 is 9i.
 fn square(rt: &impl Abort, number: u8) -> Square {
@@ -41,13 +41,9 @@ fn a_ray_ends_with_the_first_occupied_square(rt: HostRuntime) {
     for (row, (from, direction, occupied, seen, met)) in rows.iter().enumerate() {
         let from = square(&rt, *from);
         let occupied = set(&rt, occupied);
-        assert_eq!(rt;
-            ray(from, *direction, occupied),
-            set(&rt, seen),
-            "row {row}"
-        );
+        same(&rt, row, ray(from, *direction, occupied), set(&rt, seen));
         let found = first_met(from, *direction, occupied).map(|square| square.number);
-        assert_eq!(rt; found, *met, "row {row}");
+        same(&rt, row, found, *met);
     }
 }
 
@@ -64,16 +60,13 @@ fn the_ends_do_not_lie_between(rt: HostRuntime) {
     for (row, (a, b, squares)) in rows.iter().enumerate() {
         let (a, b) = (square(&rt, *a), square(&rt, *b));
         let squares = set(&rt, squares);
-        assert_eq!(rt; between(a, b), squares, "row {row}");
-        assert_eq!(rt; between(b, a), squares, "row {row}");
-        match direction_to(a, b) {
-            Some(direction) => {
-                assert!(rt; open_ray(a, direction).contains(b), "row {row}");
-                assert!(rt; lines(a).contains(b), "row {row}");
-                let back = Some(direction.opposite());
-                assert_eq!(rt; direction_to(b, a), back, "row {row}");
-            }
-            None => assert!(rt; !lines(a).contains(b), "row {row}"),
+        same(&rt, row, (between(a, b), between(b, a)), (squares, squares));
+        let there = direction_to(a, b);
+        let back = there.map(|direction| direction.opposite());
+        same(&rt, row, direction_to(b, a), back);
+        same(&rt, row, lines(a).contains(b), there.is_some());
+        if let Some(direction) = there {
+            same(&rt, row, open_ray(a, direction).contains(b), true);
         }
     }
 }
@@ -102,11 +95,12 @@ fn pieces_step_forward_for_their_side(rt: HostRuntime) {
         };
         let from = square(&rt, *from);
         let mut to = steps(piece, from);
-        assert_eq!(rt; to, set(&rt, squares), "row {row}");
+        same(&rt, row, to, set(&rt, squares));
         'squares: while let Some(square) = to.pop_first() {
-            assert!(rt; steps_to(piece, square).contains(from), "row {row}");
-            assert!(rt; around(square).contains(from), "row {row}");
-            assert!(rt; fits(piece, from, square), "row {row}");
+            let back = steps_to(piece, square).contains(from);
+            let near = around(square).contains(from);
+            let found = (back, near, fits(piece, from, square));
+            same(&rt, (row, square.number), found, (true, true, true));
         }
     }
 }
@@ -114,61 +108,63 @@ fn pieces_step_forward_for_their_side(rt: HostRuntime) {
 #[test]
 fn squares_come_in_rising_order(rt: HostRuntime) {
     let mask = set(&rt, &[80, 7, 40, 0]);
-    assert_eq!(rt; mask.len(), 4);
-    assert_eq!(rt; mask.last().map(|square| square.number), Some(80));
+    let last = mask.last().map(|square| square.number);
+    same(&rt, "whole", (mask.len(), last), (4, Some(80)));
     let mut rest = mask;
     for number in [0, 7, 40, 80] {
         let next = square(&rt, number);
-        assert_eq!(rt; rest.first(), Some(next));
-        assert_eq!(rt; rest.pop_first(), Some(next));
-        assert!(rt; mask.contains(next) && !rest.contains(next));
+        let found = (rest.first(), rest.pop_first());
+        same(&rt, number, found, (Some(next), Some(next)));
+        let held = (mask.contains(next), rest.contains(next));
+        same(&rt, number, held, (true, false));
     }
-    assert!(rt; rest.is_empty() && rest == Mask::empty());
-    assert_eq!(rt;
-        (rest.pop_first(), rest.first(), rest.last()),
-        (None, None, None)
-    );
+    same(&rt, "empty", (rest.is_empty(), rest), (true, Mask::empty()));
+    let found = (rest.pop_first(), rest.first(), rest.last());
+    same(&rt, "empty", found, (None, None, None));
 }
 
 #[test]
 fn files_and_rows_cross_in_a_square(rt: HostRuntime) {
     let five = square(&rt, 40);
     let (file, row) = (Mask::file(5), Mask::row(5));
-    assert_eq!(rt; file.and(row), Mask::of(five));
-    assert_eq!(rt; file.or(row).len(), 17);
-    assert_eq!(rt; file.minus(row), file.without(five));
-    assert_eq!(rt;
-        Mask::full().minus(Mask::full().without(five)),
-        Mask::of(five)
-    );
-    assert_eq!(rt; (lines(five).len(), around(five).len()), (32, 12));
-    assert_eq!(rt; (five.file(), five.row(), five.height(White)), (5, 5, 4));
-    assert_eq!(rt; Square::on(5, 5), five);
+    let rows = [
+        (file.and(row), Mask::of(five)),
+        (file.minus(row), file.without(five)),
+        (
+            Mask::full().minus(Mask::full().without(five)),
+            Mask::of(five),
+        ),
+    ];
+    for (row, (found, wanted)) in rows.into_iter().enumerate() {
+        same(&rt, row, found, wanted);
+    }
+    let many = (file.or(row).len(), lines(five).len(), around(five).len());
+    same(&rt, "many", many, (17, 32, 12));
+    let place = (five.file(), five.row(), five.height(White));
+    same(&rt, "place", place, (5, 5, 4));
+    same(&rt, "5e", Square::on(5, 5), five);
 }
 
 #[test]
 fn the_squares_of_a_set_come_in_order(rt: HostRuntime) {
     let mut squares = set(&rt, &[38, 80, 0]).squares();
     for number in [0, 38, 80] {
-        assert_eq!(rt; squares.next(), Some(square(&rt, number)));
+        same(&rt, number, squares.next(), Some(square(&rt, number)));
     }
-    assert_eq!(rt; squares.next(), None);
+    same(&rt, "end", squares.next(), None);
 }
 
 #[test]
-fn kinds_have_a_letter_each(rt: HostRuntime) -> Result<(), Fail> {
+fn kinds_have_a_letter_each(rt: HostRuntime) {
     mask_laws();
     for (place, kind) in Kind::ALL.into_iter().enumerate() {
-        assert_eq!(rt; kind.place() as usize, place);
-        assert_eq!(rt; Kind::of_letter(kind.letter()), Some(kind));
+        let found = (kind.place() as usize, Kind::of_letter(kind.letter()));
+        same(&rt, place, found, (place, Some(kind)));
     }
-    assert_eq!(rt; Kind::of_letter(b'X'), None);
-    assert_eq!(rt;
-        (Pawn.total(), King.total(), Knight.rows_needed()),
-        (18, 2, 2)
-    );
+    same(&rt, "X", Kind::of_letter(b'X'), None);
+    let found = (Pawn.total(), King.total(), Knight.rows_needed());
+    same(&rt, "totals", found, (18, 2, 2));
     for (place, direction) in Direction::ALL.into_iter().enumerate() {
-        assert_eq!(rt; direction.place() as usize, place);
+        same(&rt, place, direction.place() as usize, place);
     }
-    Ok(())
 }
