@@ -1,56 +1,10 @@
 // Attackers and lines by examples, from the rules of shogi.
+use crate::letters::{named, piece, set, standing};
+use crate::same::same;
 use Side::{Black, White};
 use attack_lines::{Sight, attackers, attackers_without, reached, shields, stops};
 use bit_boards::Mask;
-use board_core::{Hand, Kind, Piece, Position, Side, Square};
-use std::process::Abort;
-
-// The square of a digit and a letter, as 5e.
-fn square(rt: &impl Abort, file: u8, row: u8) -> Square {
-    let (file, row) = (file.wrapping_sub(b'0'), row.wrapping_sub(b'`'));
-    assert!(rt;
-        1 <= file && file <= 9 && 1 <= row && row <= 9,
-        "square {file} {row}"
-    );
-    Square::on(file, row)
-}
-
-fn named(rt: &impl Abort, word: &str) -> Square {
-    let bytes = word.as_bytes();
-    assert!(rt; bytes.len() == 2, "square {word}");
-    square(rt, bytes[0], bytes[1])
-}
-
-fn set(rt: &impl Abort, words: &str) -> Mask {
-    let mut set = Mask::empty();
-    for word in words.split_whitespace() {
-        set = set.with(named(rt, word));
-    }
-    set
-}
-
-// A piece and its square, as `+P5c`: a letter, capital for Black and behind a `+` where it is promoted.
-fn piece(rt: &impl Abort, word: &str) -> (Piece, Square) {
-    let plain = word.strip_prefix("+").unwrap_or(word).as_bytes();
-    assert!(rt; plain.len() == 3, "piece {word}");
-    let capital = plain[0].to_ascii_uppercase();
-    let kind = Kind::of_letter(capital).expect(rt, word);
-    let piece = Piece {
-        kind,
-        promoted: plain.len() < word.len() && kind.can_promote(),
-        side: if plain[0] == capital { Black } else { White },
-    };
-    (piece, square(rt, plain[1], plain[2]))
-}
-
-fn position(rt: &impl Abort, pieces: &str) -> Position {
-    let mut cells = [None; 81];
-    for word in pieces.split_whitespace() {
-        let (piece, square) = piece(rt, word);
-        cells[square.number as usize] = Some(piece);
-    }
-    Position::build(&cells, Hand::empty(), Hand::empty(), Black).expect(rt, pieces)
-}
+use board_core::{Hand, Side};
 
 #[test]
 fn who_attacks_and_who_stands_between(rt: HostRuntime) {
@@ -68,20 +22,26 @@ fn who_attacks_and_who_stands_between(rt: HostRuntime) {
         ("k5e B2b +r4d P4f N4g n4c P5f", "5e", White, "4d 4c", ""),
     ];
     for (pieces, to, by, attacking, shielding) in rows.iter() {
-        let (position, to) = (position(&rt, pieces), named(&rt, to));
+        let position = standing(&rt, pieces, Hand::empty());
+        let to = named(&rt, to);
         let found = (attackers(&position, to, *by), shields(&position, to, *by));
-        assert_eq!(rt; found.0, set(&rt, attacking), "{pieces}");
-        assert_eq!(rt; found.1, set(&rt, shielding), "{pieces}");
+        same(
+            &rt,
+            pieces,
+            found,
+            (set(&rt, attacking), set(&rt, shielding)),
+        );
     }
 }
 
 #[test]
 fn a_lifted_king_hides_no_square_behind_him(rt: HostRuntime) {
-    let position = position(&rt, "k5e R5i b8b");
+    let position = standing(&rt, "k5e R5i b8b", Hand::empty());
     let (king, behind) = (named(&rt, "5e"), named(&rt, "5d"));
-    assert_eq!(rt; attackers(&position, behind, Black), Mask::empty());
+    let hidden = attackers(&position, behind, Black);
+    same(&rt, "there", hidden, Mask::empty());
     let found = attackers_without(&position, king, behind, Black);
-    assert_eq!(rt; found, set(&rt, "5i"));
+    same(&rt, "lifted", found, set(&rt, "5i"));
 }
 
 #[test]
@@ -96,15 +56,14 @@ fn all_attackers_are_stopped_at_once(rt: HostRuntime) {
     ];
     let king = named(&rt, "5e");
     for (from, want) in rows.iter() {
-        let found = stops(set(&rt, from), king);
-        assert_eq!(rt; found, set(&rt, want), "{from}");
+        same(&rt, from, stops(set(&rt, from), king), set(&rt, want));
     }
-    assert_eq!(rt; stops(Mask::empty(), king), Mask::full());
+    same(&rt, "none", stops(Mask::empty(), king), Mask::full());
 }
 
 #[test]
 fn pieces_reach_up_to_and_with_the_first_piece(rt: HostRuntime) {
-    let position = position(&rt, "k5a p5d P3e b8b");
+    let position = standing(&rt, "k5a p5d P3e b8b", Hand::empty());
     // A piece and its square; the squares that it reaches, and those from which such a piece reaches that one.
     let rows = [
         ("L5g", "5f 5e 5d", "5h 5i"),
@@ -124,8 +83,8 @@ fn pieces_reach_up_to_and_with_the_first_piece(rt: HostRuntime) {
     ];
     for (word, to, from) in rows.iter() {
         let (piece, square) = piece(&rt, word);
-        assert_eq!(rt; reached(&position, piece, square), set(&rt, to), "{word}");
-        let found = Sight::of(&position, square).reached_from(piece);
-        assert_eq!(rt; found, set(&rt, from), "{word}");
+        let ahead = reached(&position, piece, square);
+        let back = Sight::of(&position, square).reached_from(piece);
+        same(&rt, word, (ahead, back), (set(&rt, to), set(&rt, from)));
     }
 }

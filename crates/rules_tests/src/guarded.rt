@@ -1,54 +1,14 @@
 // Where pieces may go and be dropped, by examples, from the rules of shogi.
-use Side::{Black, White};
-use bit_boards::Mask;
-use board_core::{Hand, Kind, Piece, Position, Side, Square};
+use crate::letters::{named, set, standing};
+use crate::same::same;
+use board_core::{Hand, Kind, Position};
 use legal_moves::{Guard, Landings};
 use shogi_rules::in_check;
 use std::process::Abort;
 
-// The square of a digit and a letter, as 5e.
-fn square(rt: &impl Abort, file: u8, row: u8) -> Square {
-    let (file, row) = (file.wrapping_sub(b'0'), row.wrapping_sub(b'`'));
-    assert!(rt;
-        1 <= file && file <= 9 && 1 <= row && row <= 9,
-        "square {file} {row}"
-    );
-    Square::on(file, row)
-}
-
-fn named(rt: &impl Abort, word: &str) -> Square {
-    let bytes = word.as_bytes();
-    assert!(rt; bytes.len() == 2, "square {word}");
-    square(rt, bytes[0], bytes[1])
-}
-
-fn set(rt: &impl Abort, words: &str) -> Mask {
-    let mut set = Mask::empty();
-    for word in words.split_whitespace() {
-        set = set.with(named(rt, word));
-    }
-    set
-}
-
-// A piece and its square, as `P5c`: a letter, capital for Black.
-fn piece(rt: &impl Abort, word: &str) -> (Piece, Square) {
-    let bytes = word.as_bytes();
-    assert!(rt; bytes.len() == 3, "piece {word}");
-    let capital = bytes[0].to_ascii_uppercase();
-    let kind = Kind::of_letter(capital).expect(rt, word);
-    let side = if bytes[0] == capital { Black } else { White };
-    (Piece::plain(kind, side), square(rt, bytes[1], bytes[2]))
-}
-
 // Black is to move, with a pawn and a gold in hand.
 fn position(rt: &impl Abort, pieces: &str) -> Position {
-    let mut cells = [None; 81];
-    for word in pieces.split_whitespace() {
-        let (piece, square) = piece(rt, word);
-        cells[square.number as usize] = Some(piece);
-    }
-    let hand = Hand::of([1, 0, 0, 0, 1, 0, 0]);
-    Position::build(&cells, hand, Hand::empty(), Black).expect(rt, pieces)
+    standing(rt, pieces, Hand::of([1, 0, 0, 0, 1, 0, 0]))
 }
 
 #[test]
@@ -79,8 +39,8 @@ fn a_piece_goes_where_its_king_is_safe(rt: HostRuntime) {
         let from = named(&rt, from);
         let guard = Guard::of(&position);
         let found = guard.board_moves(&position, from, Landings::full());
-        assert_eq!(rt; found.plain, set(&rt, plain), "{pieces}");
-        assert_eq!(rt; found.promoted, set(&rt, promoted), "{pieces}");
+        let wanted = (set(&rt, plain), set(&rt, promoted));
+        same(&rt, (pieces, from), (found.plain, found.promoted), wanted);
     }
 }
 
@@ -94,7 +54,7 @@ fn a_mated_king_has_no_move_on_the_board(rt: HostRuntime) {
     for (pieces, want) in rows.iter() {
         let position = position(&rt, pieces);
         let found = Guard::of(&position).has_board_move(&position);
-        assert_eq!(rt; found, *want, "{pieces}");
+        same(&rt, pieces, found, *want);
     }
 }
 
@@ -125,8 +85,11 @@ fn a_piece_is_dropped_where_the_rules_allow_it(rt: HostRuntime) {
     ];
     for (pieces, kind, wanted, want) in rows.iter() {
         let position = position(&rt, pieces);
-        assert!(rt; !in_check(&position, position.side().other()), "{pieces}");
-        let found = Guard::of(&position).drops(&position, *kind, set(&rt, wanted));
-        assert_eq!(rt; found, set(&rt, want), "{pieces}");
+        let checked = in_check(&position, position.side().other());
+        same(&rt, pieces, checked, false);
+        if !checked {
+            let found = Guard::of(&position).drops(&position, *kind, set(&rt, wanted));
+            same(&rt, (pieces, kind), found, set(&rt, want));
+        }
     }
 }

@@ -1,4 +1,5 @@
 // A list that is filled, cleared and filled again.
+use crate::same::same;
 use bit_boards::Mask;
 use board_core::{Kind, Move, Square};
 use move_lists::Moves;
@@ -34,11 +35,12 @@ fn a_list_is_filled_in_order_and_again_once_it_is_cleared(rt: HostRuntime) -> Re
     let mut moves = Moves::new(rt.alloc());
     moves.add_board(from, both, Mask::of(far))?;
     let board = [plain(from, near), plain(from, far), promoted(from, far)];
-    assert!(rt; moves.len() == 3 && moves.as_slice() == board.as_slice());
+    same(&rt, "board", moves.as_slice(), board.as_slice());
+    same(&rt, "filled", moves.len(), 3);
     moves.clear();
-    assert!(rt; moves.len() == 0);
+    same(&rt, "cleared", moves.len(), 0);
     moves.add_drops(Kind::Gold, both)?;
     let drops = [drop(near), drop(far)];
-    assert!(rt; moves.as_slice() == drops.as_slice());
+    same(&rt, "drops", moves.as_slice(), drops.as_slice());
     Ok(())
 }

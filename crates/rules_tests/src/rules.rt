@@ -1,56 +1,45 @@
 // What the rules say of single moves and positions, in the letters of SFEN: expected values from the rules of shogi and
 // from an independent program.
-mod letters;
 mod wandering;
 
+use crate::letters::{accepted, by, moves, named, position, problem};
+use crate::same::same;
 use Illegal::{
     BadPromotion, Blocked, DeadDrop, KingLeft, NoStep, NotInHand, NotThere, Occupied, OwnPiece,
     PawnMate, TwoPawns,
 };
-use board_core::{Move, Side, key};
-use letters::{by, named, position};
+use board_core::{Side, key};
+use sfen_text::write_sfen;
 use shogi_rules::trial::{trial_checks, trial_evasions};
-use shogi_rules::{
-    DefenderInCheck, Illegal, Problem, accept_problem, apply, attacked, in_check, key_after, legal,
-};
+use shogi_rules::{Illegal, apply, attacked, in_check, key_after, legal};
+use std::alloc::{AllocError, Global};
 use std::process::Abort;
 use std::test::Fail;
-
-fn problem(rt: &impl Abort, text: &str) -> Result<Problem, DefenderInCheck> {
-    let position = position(rt, text);
-    let defender = position.king_square(position.side().other());
-    assert!(rt; defender.is_some(), "no defender: {text}");
-    accept_problem(position)
-}
 
 // A position, a move, and the position after it or the reason against it.
 type Verdict<'a> = (&'a str, &'a str, Result<&'a str, Illegal>);
 
-fn judge(rt: &impl Abort, rows: &[Verdict]) {
-    for (text, word, want) in rows.iter() {
-        let position_now = position(rt, text);
+fn judge(rt: &impl Abort, alloc: Global, rows: &[Verdict]) -> Result<(), AllocError> {
+    for (text, word, wanted) in rows.iter() {
+        let problem = problem(rt, text);
         let by = by(rt, word);
-        assert!(rt;
-            !in_check(&position_now, position_now.side().other()),
-            "not quiet: {text}"
-        );
-        match (legal(&position_now, by), want) {
-            (Ok(()), Ok(next)) => {
-                assert!(rt;
-                    apply(&position_now, by).is_same(&position(rt, next)),
-                    "{word} of {text}"
-                );
+        match legal(&problem.position, by) {
+            Ok(()) => {
+                let after = write_sfen(alloc, &apply(&problem.position, by))?;
+                let found = str::from_utf8(&after).unwrap_or("no text");
+                same(rt, (text, word), Ok(found), *wanted);
             }
-            (Err(why), Err(reason)) => assert_eq!(rt; why, *reason, "{word} of {text}"),
-            (found, _) => panic!(rt; "{word} of {text}: {found:?}"),
+            Err(why) => same(rt, (text, word), Err(why), *wanted),
         }
     }
+    Ok(())
 }
 
 #[test]
-fn each_move_is_made_or_refused_by_the_first_reason(rt: HostRuntime) {
+fn each_move_is_made_or_refused_by_the_first_reason(rt: HostRuntime) -> Result<(), Fail> {
     judge(
         &rt,
+        rt.alloc(),
         &[
             // No piece of the mover there: none, the other side's; also where the mover's own piece is met.
             ("9/4k4/9/9/9/9/9/K8/9 b Np", "2a5b", Err(NotThere)),
@@ -98,13 +87,15 @@ fn each_move_is_made_or_refused_by_the_first_reason(rt: HostRuntime) {
                 Ok("9/9/9/9/4g4/9/9/9/8K b r"),
             ),
         ],
-    );
+    )?;
+    Ok(())
 }
 
 #[test]
-fn promotion_is_forced_where_the_piece_could_never_move(rt: HostRuntime) {
+fn promotion_is_forced_where_the_piece_could_never_move(rt: HostRuntime) -> Result<(), Fail> {
     judge(
         &rt,
+        rt.alloc(),
         &[
             // A knight on the last two rows, a lance and a pawn on the last: of either side.
             ("8k/9/6NG1/9/9/9/9/9/9 b P", "3c2a", Err(BadPromotion)),
@@ -139,13 +130,15 @@ fn promotion_is_forced_where_the_piece_could_never_move(rt: HostRuntime) {
             ),
             ("k8/8P/9/9/9/9/9/9/9 b -", "1b1a", Err(BadPromotion)),
         ],
-    );
+    )?;
+    Ok(())
 }
 
 #[test]
-fn promotion_is_by_a_move_from_or_into_the_zone(rt: HostRuntime) {
+fn promotion_is_by_a_move_from_or_into_the_zone(rt: HostRuntime) -> Result<(), Fail> {
     judge(
         &rt,
+        rt.alloc(),
         &[
             // Starting in the zone, ending in it, and outside it: of either side.
             (
@@ -171,13 +164,15 @@ fn promotion_is_by_a_move_from_or_into_the_zone(rt: HostRuntime) {
             ),
             ("9/9/9/9/4s4/9/9/9/8K w -", "5e5f+", Err(BadPromotion)),
         ],
-    );
+    )?;
+    Ok(())
 }
 
 #[test]
-fn a_gold_a_king_and_a_promoted_piece_never_promote(rt: HostRuntime) {
+fn a_gold_a_king_and_a_promoted_piece_never_promote(rt: HostRuntime) -> Result<(), Fail> {
     judge(
         &rt,
+        rt.alloc(),
         &[
             // A gold and a king never, no piece twice; also where the mover's king would be attacked.
             ("8k/9/4G4/9/9/9/9/9/9 b -", "5c5b+", Err(BadPromotion)),
@@ -185,13 +180,15 @@ fn a_gold_a_king_and_a_promoted_piece_never_promote(rt: HostRuntime) {
             ("8k/9/4+S4/9/9/9/9/9/9 b -", "5c5b+", Err(BadPromotion)),
             ("4k4/4r4/9/9/9/9/9/4S4/4K4 b -", "5h4g+", Err(BadPromotion)),
         ],
-    );
+    )?;
+    Ok(())
 }
 
 #[test]
-fn drops_are_made_or_refused_by_the_first_reason(rt: HostRuntime) {
+fn drops_are_made_or_refused_by_the_first_reason(rt: HostRuntime) -> Result<(), Fail> {
     judge(
         &rt,
+        rt.alloc(),
         &[
             // The square isn't empty; also where no such piece is in hand, as never a king.
             ("9/9/K8/9/9/9/9/9/2k6 b -", "G*7i", Err(Occupied)),
@@ -234,13 +231,15 @@ fn drops_are_made_or_refused_by_the_first_reason(rt: HostRuntime) {
             ("9/9/9/1k7/9/G8/9/4p4/7K1 w -", "8d9e", Err(KingLeft)),
             ("8k/9/6NG1/9/9/9/9/9/r7K b P", "P*1b", Err(KingLeft)),
         ],
-    );
+    )?;
+    Ok(())
 }
 
 #[test]
-fn a_dropped_pawn_may_check_and_not_mate(rt: HostRuntime) {
+fn a_dropped_pawn_may_check_and_not_mate(rt: HostRuntime) -> Result<(), Fail> {
     judge(
         &rt,
+        rt.alloc(),
         &[
             // Mate, of either side.
             ("8k/9/6NG1/9/9/9/9/9/9 b P", "P*1b", Err(PawnMate)),
@@ -281,7 +280,8 @@ fn a_dropped_pawn_may_check_and_not_mate(rt: HostRuntime) {
                 Ok("8k/8L/6NG1/9/9/9/9/9/9 w -"),
             ),
         ],
-    );
+    )?;
+    Ok(())
 }
 
 #[test]
@@ -297,24 +297,20 @@ fn the_key_after_a_move_is_that_of_the_position_after_it(rt: HostRuntime) {
         ("9/9/9/9/9/4s4/9/4+L4/K8 w -", "5f5g+"),
         ("9/9/9/9/9/9/4s4/4+L4/K8 w l", "5g5h+"),
         ("8k/9/9/9/9/9/9/9/9 b 18P4l", "P*1i"),
-        ("9/9/9/9/9/9/9/9/8K w 2R3g", "g*9a"),
+        ("9/9/9/9/9/9/9/9/8K w 2R3g", "G*9a"),
     ];
     for (text, word) in rows.iter() {
-        let (before, by) = (position(&rt, text), by(&rt, word));
-        let defender = before.side().other();
-        assert!(rt; !in_check(&before, defender), "not quiet: {text}");
-        assert!(rt; legal(&before, by).is_ok(), "{word} of {text}");
-        let next = key_after(&before, &key(&before), by);
-        assert!(rt; next == key(&apply(&before, by)), "{word} of {text}");
+        let problem = problem(&rt, text);
+        let before = &problem.position;
+        let by = by(&rt, word);
+        match legal(before, by) {
+            Ok(()) => {
+                let next = key_after(before, &key(before), by);
+                same(&rt, (text, word), next, key(&apply(before, by)));
+            }
+            Err(why) => same(&rt, (text, word), Err(why), Ok(())),
+        }
     }
-}
-
-// The moves are those of a text, in its order.
-fn is_listed(rt: &impl Abort, moves: &[Move], want: &str, of: &str) {
-    for (place, word) in want.split_whitespace().enumerate() {
-        assert_eq!(rt; moves.get(place), Some(&by(rt, word)), "{word} of {of}");
-    }
-    assert_eq!(rt; moves.len(), want.split_whitespace().count(), "of {of}");
 }
 
 // A problem, and its checks in order.
@@ -348,9 +344,10 @@ fn checks_are_listed_whole_and_in_order(rt: HostRuntime) -> Result<(), Fail> {
         ),
     ];
     for (text, want) in rows.iter() {
-        let problem = problem(&rt, text)?;
-        let moves = trial_checks(rt.alloc(), &problem, &problem.position)?;
-        is_listed(&rt, moves.as_slice(), want, text);
+        let problem = problem(&rt, text);
+        let found = trial_checks(rt.alloc(), &problem, &problem.position)?;
+        let wanted = moves(&rt, rt.alloc(), want)?;
+        same(&rt, text, found.as_slice(), wanted.as_slice());
     }
     Ok(())
 }
@@ -384,11 +381,17 @@ fn evasions_are_listed_whole_and_in_order(rt: HostRuntime) -> Result<(), Fail> {
         ),
     ];
     for (text, word, want) in rows.iter() {
-        let problem = problem(&rt, text)?;
+        let problem = problem(&rt, text);
         let check = by(&rt, word);
-        assert!(rt; legal(&problem.position, check).is_ok(), "{word} of {text}");
-        let moves = trial_evasions(rt.alloc(), &problem, &apply(&problem.position, check))?;
-        is_listed(&rt, moves.as_slice(), want, text);
+        match legal(&problem.position, check) {
+            Ok(()) => {
+                let checked = apply(&problem.position, check);
+                let found = trial_evasions(rt.alloc(), &problem, &checked)?;
+                let wanted = moves(&rt, rt.alloc(), want)?;
+                same(&rt, (text, word), found.as_slice(), wanted.as_slice());
+            }
+            Err(why) => same(&rt, (text, word), Err(why), Ok(())),
+        }
     }
     Ok(())
 }
@@ -406,11 +409,16 @@ fn a_problem_is_refused_where_the_defender_is_in_check(rt: HostRuntime) {
         ("9/9/9/9/9/9/9/4P4/4K4 w -", false),
     ];
     for (text, refused) in rows {
-        assert_eq!(rt; problem(&rt, text).is_err(), refused, "{text}");
+        same(&rt, text, accepted(&rt, text).is_err(), refused);
     }
     let knight = position(&rt, "8k/9/9/9/4N4/9/9/9/9 b -");
-    assert!(rt; !in_check(&knight, Side::Black), "no king, no check");
-    assert!(rt; attacked(&knight, named(&rt, b'4', b'c'), Side::Black));
-    assert!(rt; !attacked(&knight, named(&rt, b'3', b'd'), Side::Black));
-    assert!(rt; !attacked(&knight, named(&rt, b'4', b'c'), Side::White));
+    same(&rt, "no king", in_check(&knight, Side::Black), false);
+    for (square, side, wanted) in [
+        ("4c", Side::Black, true),
+        ("3d", Side::Black, false),
+        ("4c", Side::White, false),
+    ] {
+        let found = attacked(&knight, named(&rt, square), side);
+        same(&rt, (square, side), found, wanted);
+    }
 }

@@ -1,5 +1,6 @@
 // Positions met by wandering: pseudo-random legal moves, some of them taken back.
-use super::letters::position;
+use crate::letters::position;
+use crate::same::same;
 use board_core::{Kind, Move, Position, Side, Square};
 use shogi_rules::{apply, in_check, legal};
 
@@ -53,6 +54,17 @@ fn sets_agree(position: &Position) -> bool {
     true
 }
 
+// The position after a move, where it is legal.
+fn moved(position: &Position, by: Move) -> Option<Position> {
+    if in_check(position, position.side().other()) {
+        return None;
+    }
+    if legal(position, by).is_err() {
+        return None;
+    }
+    Some(apply(position, by))
+}
+
 #[test]
 fn sets_of_squares_follow_thousands_of_moves_and_take_backs(rt: HostRuntime) {
     let start = "lnsgkgsnl/1r5b1/ppppppppp/9/9/9/PPPPPPPPP/1B5R1/LNSGKGSNL b -";
@@ -65,10 +77,14 @@ fn sets_of_squares_follow_thousands_of_moves_and_take_backs(rt: HostRuntime) {
         state = next(state);
         let by = some_move(state);
         idle = idle.wrapping_add(1);
-        assert!(rt; !in_check(&now, now.side().other()), "after {made} moves");
-        if legal(&now, by).is_ok() {
-            let after = apply(&now, by);
-            assert!(rt; sets_agree(&after), "after {made} moves and {by:?}");
+        if let Some(after) = moved(&now, by) {
+            let checked = in_check(&after, after.side().other());
+            same(
+                &rt,
+                (made, by),
+                (checked, sets_agree(&after)),
+                (false, true),
+            );
             made = made.wrapping_add(1);
             idle = 0;
             // One move in eight is taken back, with the one before it.
@@ -85,5 +101,5 @@ fn sets_of_squares_follow_thousands_of_moves_and_take_backs(rt: HostRuntime) {
             idle = 0;
         }
     }
-    assert!(rt; made > 2_000, "{made} moves");
+    same(&rt, made, made > 2_000, true);
 }
