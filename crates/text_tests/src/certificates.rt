@@ -1,3 +1,4 @@
+use crate::same::{same, shown};
 use cert_text::{CertEnd, append_cert, read_cert, write_cert};
 use std::alloc::{AllocError, Global};
 use std::process::Abort;
@@ -36,7 +37,7 @@ fn certificates_are_read_and_written(rt: HostRuntime) {
         let again = write_cert(rt.alloc(), &certificate)
             .ok()
             .expect(&rt, "memory");
-        assert!(rt; again.as_slice() == written.as_bytes(), "{text}");
+        same(&rt, text, shown(&again), written);
     }
 }
 
@@ -57,11 +58,11 @@ fn a_text_is_written_behind_the_line_in_front(rt: HostRuntime) {
     append_cert(&mut whole, &certificate)
         .ok()
         .expect(&rt, "memory");
-    assert!(rt; whole.starts_with(front.as_bytes()));
+    let begins = whole.starts_with(front.as_bytes());
     let again = read_cert(rt.alloc(), whole.as_slice())
         .ok()
         .expect(&rt, "a certificate");
-    assert!(rt; again.count() == 1);
+    same(&rt, text, (begins, again.count()), (true, 1));
 }
 
 // A text that is no certificate's, and its first fault.
@@ -70,9 +71,9 @@ fn refused(alloc: Global, rt: &impl Abort, text: &str, wanted: &str) -> Result<(
     match end.expect(rt, "a fault") {
         CertEnd::Fault(fault) => {
             let found = format!(in alloc; "{fault}")?;
-            assert!(rt; found.as_str() == wanted, "{text}");
+            same(rt, text, found.as_str(), wanted);
         }
-        CertEnd::NoMemory => panic!(rt; "no memory: {text}"),
+        CertEnd::NoMemory => same(rt, text, "no memory", wanted),
     }
     Ok(())
 }

@@ -1,4 +1,5 @@
 // Texts, and the lines that are listed of them.
+use crate::same::{same, shown};
 use problem_lines::{Lines, MOST_BYTES};
 use std::alloc::{AllocError, Global};
 use std::process::Abort;
@@ -17,12 +18,15 @@ fn listed(alloc: Global, text: &[u8]) -> Result<Vec<u8>, AllocError> {
     Ok(told)
 }
 
-fn check(rt: &impl Abort, alloc: Global, text: &[u8], wanted: &str) -> Result<(), Fail> {
-    assert_eq!(rt;
-        listed(alloc, text)?.as_slice(),
-        wanted.as_bytes(),
-        "{text:?}"
-    );
+fn check(
+    rt: &impl Abort,
+    alloc: Global,
+    row: &str,
+    text: &[u8],
+    wanted: &str,
+) -> Result<(), AllocError> {
+    let found = listed(alloc, text)?;
+    same(rt, row, shown(&found), wanted);
     Ok(())
 }
 
@@ -44,7 +48,7 @@ fn ends_of_lines_are_told_from_their_bytes(rt: HostRuntime) -> Result<(), Fail> 
         (b"a\n\n", "1<a>"),
     ];
     for (text, wanted) in rows {
-        check(&rt, rt.alloc(), text, wanted)?;
+        check(&rt, rt.alloc(), shown(text), text, wanted)?;
     }
     Ok(())
 }
@@ -72,7 +76,7 @@ fn notes_and_skipped_lines_hold_no_problem(rt: HostRuntime) -> Result<(), Fail> 
         ),
     ];
     for (text, wanted) in rows {
-        check(&rt, rt.alloc(), text, wanted)?;
+        check(&rt, rt.alloc(), shown(text), text, wanted)?;
     }
     Ok(())
 }
@@ -111,11 +115,8 @@ fn a_line_of_too_many_bytes_is_told(rt: HostRuntime) -> Result<(), Fail> {
         let text = padded(alloc, front, byte, count, back)?;
         let mut told = listed(alloc, &text)?;
         told.retain(|b| *b != b'a');
-        assert_eq!(rt;
-            told.as_slice(),
-            wanted.as_bytes(),
-            "{front:?} {count} {back:?}"
-        );
+        let row = (shown(front), count, shown(back));
+        same(&rt, row, shown(&told), wanted);
     }
     Ok(())
 }
@@ -124,5 +125,6 @@ fn a_line_of_too_many_bytes_is_told(rt: HostRuntime) -> Result<(), Fail> {
 fn a_text_of_many_line_feeds_is_read_through(rt: HostRuntime) -> Result<(), Fail> {
     let alloc = rt.alloc();
     let text = padded(alloc, b"", b'\n', 16_777_215, b"a")?;
-    check(&rt, alloc, &text, "16777216<a>")
+    check(&rt, alloc, "line feeds", &text, "16777216<a>")?;
+    Ok(())
 }

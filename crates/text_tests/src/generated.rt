@@ -1,7 +1,7 @@
 // Problems of the generator, as its statement gives them.
+use crate::same::{same, shown};
 use problem_gen::problem_of;
 use sfen_text::write_sfen;
-use std::process::Abort;
 use std::test::Fail;
 
 #[test]
@@ -16,7 +16,7 @@ fn each_number_has_its_problem(rt: HostRuntime) -> Result<(), Fail> {
         (u64::MAX, "9/9/7kp/9/5S3/9/9/9/9 b BNP"),
     ] {
         let written = write_sfen(alloc, &problem_of(number).position)?;
-        assert_eq!(rt; written.as_slice(), text.as_bytes(), "{number}");
+        same(&rt, number, shown(&written), text);
     }
     Ok(())
 }

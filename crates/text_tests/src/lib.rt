@@ -1,4 +1,4 @@
-//! The public calls on texts (moves, positions, certificates, collections) and on problems by number, tried by examples.
+//! The public calls on texts (moves, positions, certificates, collections) and on problems by number, by examples.
 //!
 //! The tests of this layer stand here and not in its libraries, so that no library is proved twice. Without tests this
 //! crate is empty.
@@ -16,5 +16,7 @@ mod diagrams;
 mod generated;
 #[cfg(test)]
 mod moves;
+#[cfg(test)]
+mod same;
 #[cfg(test)]
 mod sfen;

@@ -1,5 +1,7 @@
+// Moves and the lines of answers as texts of the USI protocol, by examples.
 ghost use Rattle.board_core.specs.Text.{HasText};
 
+use crate::same::{same, shown};
 use board_core::{Kind, Move, Square};
 use std::process::Abort;
 use std::test::Fail;
@@ -18,9 +20,9 @@ fn moves_are_read_and_written(rt: HostRuntime) -> Result<(), Fail> {
     ];
     for (text, m) in table {
         let found = read(&rt, text.as_bytes());
-        assert!(rt; found == m, "{text}");
+        same(&rt, text, found, m);
         let written = format!(in rt.alloc(); "{}", write_move(found))?;
-        assert!(rt; written.as_str() == text, "{text}");
+        same(&rt, text, written.as_str(), text);
     }
     Ok(())
 }
@@ -32,7 +34,7 @@ fn other_texts_are_no_moves(rt: HostRuntime) {
         "g*5b", "K*5b", "G*5j", "G*0a", "G*5b+", "+R*5b", "G5b", "resign",
     ];
     for text in table {
-        assert!(rt; read_move(text.as_bytes()).is_none(), "{text}");
+        same(&rt, text, read_move(text.as_bytes()), None);
     }
 }
 
@@ -40,11 +42,11 @@ fn other_texts_are_no_moves(rt: HostRuntime) {
 fn the_three_lines(rt: HostRuntime) {
     let moves = [read(&rt, b"G*5b"), read(&rt, b"8h2b+")];
     let line = mate_line(rt.alloc(), &moves).expect(&rt, "memory");
-    assert!(rt; line.as_slice() == b"checkmate G*5b 8h2b+".as_slice());
+    same(&rt, "line", shown(&line), "checkmate G*5b 8h2b+");
     let line = nomate_line(rt.alloc()).expect(&rt, "memory");
-    assert!(rt; line.as_slice() == b"checkmate nomate".as_slice());
+    same(&rt, "line", shown(&line), "checkmate nomate");
     let line = timeout_line(rt.alloc()).expect(&rt, "memory");
-    assert!(rt; line.as_slice() == b"checkmate timeout".as_slice());
+    same(&rt, "line", shown(&line), "checkmate timeout");
 }
 
 fn read(rt: &impl Abort, text: &[u8]) -> Move

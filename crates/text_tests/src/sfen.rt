@@ -1,5 +1,5 @@
+use crate::same::{same, shown};
 use sfen_text::{read_sfen, write_sfen};
-use std::process::Abort;
 use std::test::Fail;
 
 // Texts, and what each stands for, written again.
@@ -34,73 +34,70 @@ fn positions_are_read_and_written(rt: HostRuntime) {
         ),
     ];
     for (text, written) in table {
-        let position = read_sfen(text.as_bytes()).ok().expect(&rt, "a position");
+        let position = read_sfen(text.as_bytes()).ok().expect(&rt, text);
         let again = write_sfen(rt.alloc(), &position).expect(&rt, "memory");
-        assert!(rt; again.as_slice() == written.as_bytes(), "{text}");
+        same(&rt, text, shown(&again), written);
     }
 }
 
-fn refused(rt: &impl Abort, found: &str, wanted: &str, text: &str) {
-    assert!(rt; found == wanted, "{text}");
-}
-
 // Texts that stand for no position, and the first fault of each.
+const FAULTS: &[(&str, &str)] = &[
+    ("", "bad row at 0"),
+    (" \r\n ", "bad row at 4"),
+    ("4k4/9/4P5/9/9/9/9/9/9 b G 1", "bad row at 8"),
+    ("4k4/9/4X4/9/9/9/9/9/9 b G 1", "bad piece at 7"),
+    ("sfen 9/8k/9/9/8S/9/9/9/19 bl RBPp 2209", "bad row at 24"),
+    ("9/7k/8/8S/8L/9/9/9/9 b BP2687", "bad row at 4"),
+    (
+        "position sfen +s3n2/9/2N6/9/8k/9/9/9/7K1 w RB 425",
+        "bad row at 19",
+    ),
+    ("9/9/9/9/9/9/9/9/9/9 b -", "bad row at 17"),
+    ("9/9/9/9/9/9/9/9 b -", "bad row at 15"),
+    ("4k4/9/4+G4/9/9/9/9/9/9 b -", "bad piece at 7"),
+    ("4k4/9/9+/9/9/9/9/9/9 b -", "bad piece at 7"),
+    ("n8/9/K8/9/9/+b-8/5k3/9/9 w n 1876", "bad piece at 14"),
+    (
+        "position 3fen 9/9/9/+9/9/9/9/b8/sg5 b\t- 423",
+        "bad piece at 1",
+    ),
+    ("position sfen", "bad piece at 1"),
+    ("sfen sfen 9/9/9/9/9/9/9/9/9 b -", "bad piece at 6"),
+    ("4k4/9/9/9/9/9/9/9/9 x - 1", "bad side at 20"),
+    ("4k4/9/9/9/9/9/9/9/9", "bad side at 19"),
+    ("7+p1/9/7n1/7k1/9/8K/9/9/9 bSP", "bad side at 26"),
+    ("4k4/9/9/9/9/9/9/9/9 b", "bad hand at 21"),
+    ("4k4/9/9/9/9/9/9/9/9 b 19P", "bad hand at 22"),
+    ("4k4/9/9/9/9/9/9/9/9 b 0P", "bad hand at 22"),
+    ("4k4/9/9/9/9/9/9/9/9 b G190P", "bad hand at 23"),
+    ("4k4/9/9/9/9/9/9/9/9 b GK", "bad hand at 23"),
+    ("4k4/9/9/9/9/9/9/9/9 b G-", "bad hand at 23"),
+    ("sfen 1k7/1g1S5/9/9/9/9/9/9/9 b G2S1182", "bad hand at 34"),
+    ("4k4/9/9/9/9/9/9/9/9 b PP", "hand twice at 23"),
+    (
+        "3b3r1/1s2S4/4K2p1/1+pS6/1+p7/3g1p2n/9/9/9 w RLBL",
+        "hand twice at 47",
+    ),
+    ("4k4/9/9/9/9/9/9/9/9 b - 1 x", "trailing at 26"),
+    ("4k4/9/9/9/9/9/9/9/9 b - 1234567890", "trailing at 24"),
+    (
+        "position sfen 9/9/2k6/p8/2S6/L8/9/9/9 b BG  215x2",
+        "trailing at 44",
+    ),
+    ("4k4/9/4P4/9/9/9/9/9/9 b 18P 1", "too many P"),
+    ("9/9/9/9/9/9/9/9/p8 b 18P 1", "too many P"),
+    ("9/9/9/9/9/9/9/9/9 b - 1", "no defender king"),
+    ("4k4/4k4/9/9/9/9/9/9/9 b - 1", "two kings"),
+    ("4k4/9/9/9/9/9/9/9/p8 b - 1", "dead piece at 9i"),
+    ("4k4/9/4P4/4P4/9/9/9/9/9 b - 1", "two pawns on file 5"),
+];
+
 #[test]
 fn the_first_fault_is_named_with_its_place(rt: HostRuntime) -> Result<(), Fail> {
-    let table = [
-        ("", "bad row at 0"),
-        (" \r\n ", "bad row at 4"),
-        ("4k4/9/4P5/9/9/9/9/9/9 b G 1", "bad row at 8"),
-        ("4k4/9/4X4/9/9/9/9/9/9 b G 1", "bad piece at 7"),
-        ("sfen 9/8k/9/9/8S/9/9/9/19 bl RBPp 2209", "bad row at 24"),
-        ("9/7k/8/8S/8L/9/9/9/9 b BP2687", "bad row at 4"),
-        (
-            "position sfen +s3n2/9/2N6/9/8k/9/9/9/7K1 w RB 425",
-            "bad row at 19",
-        ),
-        ("9/9/9/9/9/9/9/9/9/9 b -", "bad row at 17"),
-        ("9/9/9/9/9/9/9/9 b -", "bad row at 15"),
-        ("4k4/9/4+G4/9/9/9/9/9/9 b -", "bad piece at 7"),
-        ("4k4/9/9+/9/9/9/9/9/9 b -", "bad piece at 7"),
-        ("n8/9/K8/9/9/+b-8/5k3/9/9 w n 1876", "bad piece at 14"),
-        (
-            "position 3fen 9/9/9/+9/9/9/9/b8/sg5 b\t- 423",
-            "bad piece at 1",
-        ),
-        ("position sfen", "bad piece at 1"),
-        ("sfen sfen 9/9/9/9/9/9/9/9/9 b -", "bad piece at 6"),
-        ("4k4/9/9/9/9/9/9/9/9 x - 1", "bad side at 20"),
-        ("4k4/9/9/9/9/9/9/9/9", "bad side at 19"),
-        ("7+p1/9/7n1/7k1/9/8K/9/9/9 bSP", "bad side at 26"),
-        ("4k4/9/9/9/9/9/9/9/9 b", "bad hand at 21"),
-        ("4k4/9/9/9/9/9/9/9/9 b 19P", "bad hand at 22"),
-        ("4k4/9/9/9/9/9/9/9/9 b 0P", "bad hand at 22"),
-        ("4k4/9/9/9/9/9/9/9/9 b G190P", "bad hand at 23"),
-        ("4k4/9/9/9/9/9/9/9/9 b GK", "bad hand at 23"),
-        ("4k4/9/9/9/9/9/9/9/9 b G-", "bad hand at 23"),
-        ("sfen 1k7/1g1S5/9/9/9/9/9/9/9 b G2S1182", "bad hand at 34"),
-        ("4k4/9/9/9/9/9/9/9/9 b PP", "hand twice at 23"),
-        (
-            "3b3r1/1s2S4/4K2p1/1+pS6/1+p7/3g1p2n/9/9/9 w RLBL",
-            "hand twice at 47",
-        ),
-        ("4k4/9/9/9/9/9/9/9/9 b - 1 x", "trailing at 26"),
-        ("4k4/9/9/9/9/9/9/9/9 b - 1234567890", "trailing at 24"),
-        (
-            "position sfen 9/9/2k6/p8/2S6/L8/9/9/9 b BG  215x2",
-            "trailing at 44",
-        ),
-        ("4k4/9/4P4/9/9/9/9/9/9 b 18P 1", "too many P"),
-        ("9/9/9/9/9/9/9/9/p8 b 18P 1", "too many P"),
-        ("9/9/9/9/9/9/9/9/9 b - 1", "no defender king"),
-        ("4k4/4k4/9/9/9/9/9/9/9 b - 1", "two kings"),
-        ("4k4/9/9/9/9/9/9/9/p8 b - 1", "dead piece at 9i"),
-        ("4k4/9/4P4/4P4/9/9/9/9/9 b - 1", "two pawns on file 5"),
-    ];
-    for (text, wanted) in table {
-        let fault = read_sfen(text.as_bytes()).err().expect(&rt, "a fault");
+    for (text, wanted) in FAULTS {
+        let fault = read_sfen(text.as_bytes()).err().expect(&rt, text);
         let found = format!(in rt.alloc(); "{fault}")?;
-        refused(&rt, found.as_str(), wanted, text);
+        same(&rt, text, found.as_str(), wanted);
     }
     Ok(())
 }
