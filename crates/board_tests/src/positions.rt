@@ -21,7 +21,7 @@ const OTHERS: [u8; 7] = [8, 0, 4, 0, 3, 0, 1];
 
 const ONE_FILE: &str = "k5a +P1a +P1b +p1c +P1d +p1e +P1f +P1g +p1h +p1i";
 
-// A piece and its square by a word as `+P5c`: a letter, capital for Black and behind a `+` where it is promoted, and then
+// A piece and its square by a word as `+P5c`: a letter, capital for Black and behind a `+` where it is promoted, and
 // the square.
 fn placed(word: &str) -> Option<(Piece, Square)> {
     let plain = word.strip_prefix("+").unwrap_or(word).as_bytes();
