@@ -1,12 +1,11 @@
 // The checker on certificates whose verdicts are known from elsewhere.
+use crate::same::same;
+use crate::texts::{CHASE, MATE_IN_ONE, TWO_ROOKS};
 use board_core::{Kind, Move, Square};
 use cert_check::{Verdict, Why, check};
 use cert_text::{Certificate, read_cert};
 use std::alloc::Global;
 use std::test::Fail;
-
-const MATE_IN_ONE: &str =
-    "certificate 1 mate 1\nproblem 4k4/9/4P4/9/9/9/9/9/9 b G\n1 G*5b 4k4/9/4P4/9/9/9/9/9/9 b G\nend\n";
 
 // The attacker's gold isn't guarded where it is dropped: the king leaves the list.
 const UNGUARDED: &str =
@@ -14,9 +13,6 @@ const UNGUARDED: &str =
 
 const NO_CHECK: &str =
     "certificate 1 mate 1\nproblem 4k4/9/4P4/9/9/9/9/9/9 b G\n1 G*9i 4k4/9/4P4/9/9/9/9/9/9 b G\nend\n";
-
-const TWO_ROOKS: &str =
-    "certificate 1 mate 4\nproblem 9/4k4/8R/9/9/9/9/9/9 b R\n1 1c1a 3k5/R8/8R/9/9/9/9/9/9 b -\n1 1c1a 4k4/R8/8R/9/9/9/9/9/9 b -\n1 1c1a 5k3/R8/8R/9/9/9/9/9/9 b -\n2 R*9b 9/4k4/8R/9/9/9/9/9/9 b R\nend\n";
 
 // The root's rank is that of the positions after it.
 const EQUAL_RANKS: &str =
@@ -31,10 +27,6 @@ const PAWN_DROPS: &str =
 // The third entry is left out.
 const OPEN_ESCAPE: &str =
     "certificate 1 escape 2\nproblem 4k4/9/4P4/9/9/9/9/9/9 b P\n4k4/9/4P4/9/9/9/9/9/9 b P\n9/4k4/9/9/9/9/9/9/9 b Pp\nend\n";
-
-// A rook chases a king round two positions.
-const CHASE: &str =
-    "certificate 1 escape 6\nproblem 5k3/9/9/9/9/9/9/9/4R4 b -\n4k4/9/9/9/9/9/9/9/5R3 b -\n4k4/9/9/9/9/9/9/9/9 b r\n5k3/9/9/9/9/9/9/9/4R4 b -\n5k3/9/9/9/9/9/9/9/9 b r\n9/4k4/9/9/9/9/9/9/9 b r\n9/5k3/9/9/9/9/9/9/9 b r\nend\n";
 
 // The second position of the round is left out.
 const BROKEN_CHASE: &str =
@@ -89,7 +81,7 @@ fn certificates_are_accepted_or_refused_with_the_first_reason(rt: HostRuntime) -
     ];
     for (text, expected) in &cases {
         let verdict = verdict_of(rt.alloc(), *text)?;
-        assert!(rt; verdict == *expected);
+        same(&rt, text, verdict, *expected);
     }
     Ok(())
 }

@@ -5,10 +5,20 @@
 #![tactic(auto)]
 
 #[cfg(test)]
+mod chase;
+#[cfg(test)]
+mod checked;
+#[cfg(test)]
 mod checking;
 #[cfg(test)]
 mod derivations;
 #[cfg(test)]
 mod extraction;
 #[cfg(test)]
+mod letters;
+#[cfg(test)]
 mod main_lines;
+#[cfg(test)]
+mod same;
+#[cfg(test)]
+mod texts;

@@ -1,4 +1,6 @@
 // Main lines that are known from elsewhere.
+use crate::same::{same, shown};
+use crate::texts::{MATE_IN_ONE, TWO_ROOKS};
 use cert_check::{Verdict, check};
 use cert_text::{Certificate, read_cert};
 use play_line::main_line;
@@ -6,14 +8,7 @@ use std::alloc::Global;
 use std::test::Fail;
 use usi_text::mate_line;
 
-const MATE_IN_ONE: &str =
-    "certificate 1 mate 1\nproblem 4k4/9/4P4/9/9/9/9/9/9 b G\n1 G*5b 4k4/9/4P4/9/9/9/9/9/9 b G\nend\n";
-
-// The king goes to 4a, 5a or 6a, and all last as long.
-const TWO_ROOKS: &str =
-    "certificate 1 mate 4\nproblem 9/4k4/8R/9/9/9/9/9/9 b R\n1 1c1a 3k5/R8/8R/9/9/9/9/9/9 b -\n1 1c1a 4k4/R8/8R/9/9/9/9/9/9 b -\n1 1c1a 5k3/R8/8R/9/9/9/9/9/9 b -\n2 R*9b 9/4k4/8R/9/9/9/9/9/9 b R\nend\n";
-
-// The same with a rank above the others at 6a.
+// The mate by two rooks with a rank above the others at 6a.
 const LONGEST_AT_LAST: &str =
     "certificate 1 mate 4\nproblem 9/4k4/8R/9/9/9/9/9/9 b R\n2 1c1a 3k5/R8/8R/9/9/9/9/9/9 b -\n1 1c1a 4k4/R8/8R/9/9/9/9/9/9 b -\n1 1c1a 5k3/R8/8R/9/9/9/9/9/9 b -\n3 R*9b 9/4k4/8R/9/9/9/9/9/9 b R\nend\n";
 
@@ -41,7 +36,7 @@ fn main_lines_follow_the_longest_defence(rt: HostRuntime) -> Result<(), Fail> {
     ];
     for (text, expected) in &cases {
         let line = line_of(rt.alloc(), *text)?;
-        assert!(rt; line.as_slice() == expected.as_bytes());
+        same(&rt, text, shown(&line), *expected);
     }
     Ok(())
 }

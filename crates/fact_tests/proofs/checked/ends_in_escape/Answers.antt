@@ -1,5 +1,5 @@
 use Rattle.std.proofs.Common.{arith}
-use Rattle.fact_tests.proofs.extraction.checked.ends_in_escape.Goals as goal
+use Rattle.fact_tests.proofs.checked.ends_in_escape.Goals as goal
 
 pub returns : goal.returns
 returns c = λ ends. record {

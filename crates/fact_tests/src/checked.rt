@@ -14,12 +14,12 @@ use notes::{
 use shogi_rules::{Problem, apply, in_check, is_check, is_evasion, legal};
 use std::alloc::{AllocError, AllocFailed, Global};
 
-// Why a rule made no note.
+/// Why a rule made no note.
 #[derive(Clone, Copy, PartialEq, Eq, Debug)]
-pub(super) enum Unmade {
-    // One of its conditions doesn't hold.
+pub enum Unmade {
+    /// One of its conditions doesn't hold.
     Unmet,
-    // All of them hold.
+    /// All of them hold.
     Ended(NoteEnd),
 }
 
@@ -189,18 +189,16 @@ fn mates_after_all(
     ))
 }
 
-pub(super) fn ended_escape(
-    alloc: Global,
-    problem: &Problem,
-    position: &Position,
-) -> Result<Note, Unmade> {
+/// The escape where the attacker has no check.
+pub fn ended_escape(alloc: Global, problem: &Problem, position: &Position) -> Result<Note, Unmade> {
     if !is_in_play(problem, position) || !ends_in_escape(alloc, problem, position)? {
         return Err(Unmade::Unmet);
     }
     Ok(escape_end(alloc, problem, position)?)
 }
 
-pub(super) fn escaped_by(
+/// The escape by an evasion, over one of the position after it.
+pub fn escaped_by(
     alloc: Global,
     problem: &Problem,
     position: &Position,
@@ -216,7 +214,8 @@ pub(super) fn escaped_by(
     Ok(escape_by(alloc, problem, position, evasion, note)?)
 }
 
-pub(super) fn repeated(
+/// The escape by an evasion to a position that the note depends on.
+pub fn repeated(
     alloc: Global,
     problem: &Problem,
     position: &Position,
@@ -229,7 +228,8 @@ pub(super) fn repeated(
     Ok(escape_repeat(alloc, problem, position, evasion, repeat)?)
 }
 
-pub(super) fn escaped_all(
+/// The escape from all checks, over one after each.
+pub fn escaped_all(
     alloc: Global,
     problem: &Problem,
     position: &Position,
@@ -241,18 +241,16 @@ pub(super) fn escaped_all(
     Ok(escape_all(alloc, problem, position, notes)?)
 }
 
-pub(super) fn ended_mate(
-    alloc: Global,
-    problem: &Problem,
-    position: &Position,
-) -> Result<Note, Unmade> {
+/// The mate where the defender has no evasion.
+pub fn ended_mate(alloc: Global, problem: &Problem, position: &Position) -> Result<Note, Unmade> {
     if !is_in_play(problem, position) || !ends_in_mate(alloc, problem, position)? {
         return Err(Unmade::Unmet);
     }
     Ok(mate_end(alloc, problem, position)?)
 }
 
-pub(super) fn mated_by(
+/// The mate by a check, over one of the position after it.
+pub fn mated_by(
     alloc: Global,
     problem: &Problem,
     position: &Position,
@@ -268,7 +266,8 @@ pub(super) fn mated_by(
     Ok(mate_by(alloc, problem, position, check, note)?)
 }
 
-pub(super) fn mated_all(
+/// The mate whatever the evasion, over one after each.
+pub fn mated_all(
     alloc: Global,
     problem: &Problem,
     position: &Position,

@@ -1,7 +1,7 @@
 use Rattle.std.proofs.Common.{length, arith, refl, below_more}
 use Rattle.std.proofs.lemmas.Option.{slice_get_read, slice_get_within}
 use Rattle.fact_tests.proofs.Said.{said_there}
-use Rattle.fact_tests.proofs.extraction.checked.say_each.Goals as goal
+use Rattle.fact_tests.proofs.checked.say_each.Goals as goal
 
 pub loop-at-preserved : goal.loop-at-preserved
 loop-at-preserved c =
