@@ -6,8 +6,6 @@
 mod attacking;
 mod reach;
 mod sight;
-#[cfg(test)]
-mod tests;
 
 pub use attacking::{attackers, attackers_without, count_attackers, shields, stops};
 pub use reach::reached;

@@ -18,8 +18,6 @@ mod square;
 mod squares;
 mod standing;
 mod tables;
-#[cfg(test)]
-mod tests;
 
 pub use direction::Direction;
 pub use laws::mask_laws;

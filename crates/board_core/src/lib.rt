@@ -18,8 +18,6 @@ mod pack;
 mod position;
 mod scan;
 mod sets;
-#[cfg(test)]
-mod tests;
 
 pub use bit_boards::{Kind, Piece, Side, Square};
 pub use build::BadPosition;

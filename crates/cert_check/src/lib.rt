@@ -7,8 +7,6 @@
 
 mod places;
 mod reasons;
-#[cfg(test)]
-mod tests;
 mod verdict;
 
 pub use places::{Places, places_of};

@@ -4,4 +4,3 @@ pub mod Rules
 pub mod Escapes
 pub mod Texts
 pub mod Mates
-pub mod Said

@@ -15,8 +15,6 @@ ghost use Rattle.cert_extract.specs.Extracted.{claim_by, ComesFrom};
 mod escape;
 mod mate;
 mod steps;
-#[cfg(test)]
-mod tests;
 
 use cert_order::{escape_certificate, mate_certificate};
 use cert_text::Certificate;

@@ -29,6 +29,3 @@ pub use limits::{MOST_ENTRIES, MOST_RANK};
 pub use rank::Rank;
 pub use read::read_cert;
 pub use write::{append_cert, append_escape_cert, append_mate_cert, append_number, write_cert};
-
-#[cfg(test)]
-mod tests;

@@ -13,6 +13,3 @@ mod trouble;
 
 pub use note::explain;
 pub use trouble::Trouble;
-
-#[cfg(test)]
-mod tests;

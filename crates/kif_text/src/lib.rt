@@ -17,6 +17,3 @@ mod row;
 pub use fault::KifFault;
 pub use laws::kif_laws;
 pub use read::read_kif;
-
-#[cfg(test)]
-mod tests;

@@ -10,8 +10,6 @@ mod guard;
 mod guarding;
 mod landings;
 mod rows;
-#[cfg(test)]
-mod tests;
 
 pub use guard::Guard;
 pub use landings::Landings;

@@ -2,7 +2,5 @@
 #![tactic(auto)]
 
 mod moves;
-#[cfg(test)]
-mod tests;
 
 pub use moves::Moves;

@@ -1,4 +1,3 @@
 mod Gathered
 mod Meeting
-mod Said
 mod Truth

@@ -12,8 +12,6 @@ mod lists;
 mod mates;
 mod note;
 mod rule;
-#[cfg(test)]
-mod tests;
 mod words;
 
 pub use escapes::{escape_all, escape_by, escape_end, escape_repeat};

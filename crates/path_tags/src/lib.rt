@@ -10,8 +10,6 @@ mod laws;
 mod merge;
 mod path;
 mod tag;
-#[cfg(test)]
-mod tests;
 
 pub use laws::{path_laws, tag_laws};
 pub use path::Path;

@@ -6,7 +6,5 @@
 mod defence;
 mod finding;
 mod line;
-#[cfg(test)]
-mod tests;
 
 pub use line::main_line;

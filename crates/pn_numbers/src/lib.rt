@@ -11,8 +11,6 @@ mod limiting;
 mod node;
 mod numbers;
 mod selecting;
-#[cfg(test)]
-mod tests;
 
 pub use combining::{and_numbers, or_numbers};
 pub use limiting::{SLACK, child_thresholds};

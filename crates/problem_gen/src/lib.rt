@@ -8,7 +8,5 @@ mod drawn;
 mod draws;
 mod problem;
 mod putting;
-#[cfg(test)]
-mod tests;
 
 pub use problem::problem_of;

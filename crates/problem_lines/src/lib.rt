@@ -8,8 +8,6 @@
 mod cut;
 mod line;
 mod lines;
-#[cfg(test)]
-mod tests;
 
 pub use line::{Line, MOST_BYTES};
 pub use lines::Lines;

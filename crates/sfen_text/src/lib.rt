@@ -18,6 +18,3 @@ pub use fault::TextFault;
 pub use laws::sfen_laws;
 pub use read::read_sfen;
 pub use write::{append_sfen, write_sfen};
-
-#[cfg(test)]
-mod tests;

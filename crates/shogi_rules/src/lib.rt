@@ -13,8 +13,6 @@ mod legality;
 mod movement;
 mod moving;
 mod problem;
-#[cfg(test)]
-mod tests;
 pub mod trial;
 mod tsume;
 

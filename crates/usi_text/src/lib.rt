@@ -16,6 +16,3 @@ pub use lines::{
 };
 pub use read::read_move;
 pub use write::{MoveText, write_move};
-
-#[cfg(test)]
-mod tests;

@@ -1,0 +1,89 @@
+// Notes of mates and escapes that are known by the rules of shogi, and the texts of their certificates.
+use crate::chase::Chase;
+use crate::checked::{ended_mate, mated_all, mated_by};
+use crate::letters::{by, moved, problem};
+use crate::same::{same, shown};
+use crate::texts::{CHASE, MATE_IN_ONE};
+use board_core::Position;
+use cert_extract::extract;
+use cert_text::write_cert;
+use evasions::answers;
+use notes::Note;
+use shogi_rules::Problem;
+use std::alloc::Global;
+use std::process::Abort;
+use std::test::Fail;
+
+// The problem is met again below: there one rook mates it at once.
+const ROOKS_AGAIN: &str =
+    "certificate 1 mate 8\nproblem 4k4/R8/8R/9/9/9/9/9/9 b -\n1 1c1a 2k6/R8/8R/9/9/9/9/9/9 b -\n1 1c1a 3k5/R8/8R/9/9/9/9/9/9 b -\n1 1c1a 4k4/R8/8R/9/9/9/9/9/9 b -\n1 1c1a 5k3/R8/8R/9/9/9/9/9/9 b -\n1 1c1a 6k2/R8/8R/9/9/9/9/9/9 b -\n2 9a9b R8/3k5/8R/9/9/9/9/9/9 b -\n2 9a9b R8/4k4/8R/9/9/9/9/9/9 b -\n2 9a9b R8/5k3/8R/9/9/9/9/9/9 b -\nend\n";
+
+// The text of the certificate that a note is extracted to; nothing, where it isn't closed or isn't about the problem.
+fn text_of(alloc: Global, problem: &Problem, note: &Note) -> Result<Vec<u8>, Fail> {
+    if !note.is_closed() {
+        return Ok(Vec::new(alloc));
+    }
+    if !note.position().is_same(&problem.position) {
+        return Ok(Vec::new(alloc));
+    }
+    if note.attacker() != problem.attacker() {
+        return Ok(Vec::new(alloc));
+    }
+    Ok(write_cert(alloc, &extract(alloc, problem, note)?)?)
+}
+
+#[test]
+fn the_rook_chase_is_listed_with_both_its_positions(rt: HostRuntime) -> Result<(), Fail> {
+    let alloc = rt.alloc();
+    let chase = Chase::begun(&rt, alloc)?;
+    // The second position is an escape back to the first.
+    let second = chase.second_escaped(alloc, &chase.repeated(alloc)?)?;
+    let there = chase.gone_there(alloc, &second)?;
+    let note = chase.first_escaped(alloc, &there)?;
+    let text = text_of(alloc, &chase.problem, &note)?;
+    same(&rt, "chase", (note.height(), shown(&text)), (5, CHASE));
+    Ok(())
+}
+
+// The note of a mate by these checks, one after the other, whatever the evasions.
+fn mated(
+    rt: &impl Abort,
+    alloc: Global,
+    problem: &Problem,
+    position: &Position,
+    checks: &[&str],
+) -> Result<Note, Fail> {
+    let Some((check, rest)) = checks.split_first() else {
+        return Err(Fail::from("no check is left"));
+    };
+    let check = by(rt, check);
+    let checked = moved(rt, position, check);
+    let mut notes = Vec::new(alloc);
+    for evasion in answers(alloc, problem, &checked)?.as_slice() {
+        notes.push(mated(rt, alloc, problem, &moved(rt, &checked, *evasion), rest)?)?;
+    }
+    let below = if notes.is_empty() {
+        ended_mate(alloc, problem, &checked)?
+    } else {
+        mated_all(alloc, problem, &checked, &notes)?
+    };
+    Ok(mated_by(alloc, problem, position, check, &below)?)
+}
+
+#[test]
+fn a_mate_is_listed_with_the_least_height_that_is_met(rt: HostRuntime) -> Result<(), Fail> {
+    let alloc = rt.alloc();
+    let gold = problem(&rt, "4k4/9/4P4/9/9/9/9/9/9 b G");
+    let note = mated(&rt, alloc, &gold, &gold.position, &["G*5b"])?;
+    let text = text_of(alloc, &gold, &note)?;
+    let found = (note.height(), shown(&text));
+    same(&rt, "gold", found, (2, MATE_IN_ONE));
+
+    let rooks = problem(&rt, "4k4/R8/8R/9/9/9/9/9/9 b -");
+    let checks = ["9b9a", "9a9b", "1c1a"];
+    let note = mated(&rt, alloc, &rooks, &rooks.position, &checks)?;
+    let text = text_of(alloc, &rooks, &note)?;
+    let found = (note.height(), shown(&text));
+    same(&rt, "rooks", found, (6, ROOKS_AGAIN));
+    Ok(())
+}

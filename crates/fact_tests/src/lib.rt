@@ -1,0 +1,24 @@
+//! The public calls on notes and certificates, tried by examples.
+//!
+//! The tests of this layer stand here and not in its libraries, so that no library is proved twice. Without tests this
+//! crate is empty.
+#![tactic(auto)]
+
+#[cfg(test)]
+mod chase;
+#[cfg(test)]
+mod checked;
+#[cfg(test)]
+mod checking;
+#[cfg(test)]
+mod derivations;
+#[cfg(test)]
+mod extraction;
+#[cfg(test)]
+mod letters;
+#[cfg(test)]
+mod main_lines;
+#[cfg(test)]
+mod same;
+#[cfg(test)]
+mod texts;

@@ -1,6 +1,0 @@
--- Each line that is given is one less to come.
-use Rattle.std.proofs.Common.{length}
-use Rattle.problem_lines.proofs.tests.listed.Given as goal
-
-abbrev pub decreases-loop-line : goal.decreases-loop-line
-decreases-loop-line l = length l.lines

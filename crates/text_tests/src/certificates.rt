@@ -1,0 +1,160 @@
+use crate::same::{same, shown};
+use cert_text::{CertEnd, append_cert, read_cert, write_cert};
+use std::alloc::{AllocError, Global};
+use std::process::Abort;
+use std::test::Fail;
+
+// Texts of certificates, and each written again, without the line in front.
+#[test]
+fn certificates_are_read_and_written(rt: HostRuntime) {
+    let one =
+        "certificate 1 mate 1\nproblem 4k4/9/4P4/9/9/9/9/9/9 b G\n1 G*5b 4k4/9/4P4/9/9/9/9/9/9 b G\nend\n";
+    let none =
+        "certificate 1 escape 3\nproblem 4k4/9/4P4/9/9/9/9/9/9 b P\n4k4/9/4P4/9/9/9/9/9/9 b P\n9/4k4/9/9/9/9/9/9/9 b Pp\n9/9/4k4/9/9/9/9/9/9 b 2p\nend\n";
+    let rooks =
+        "certificate 1 mate 4\nproblem 9/4k4/8R/9/9/9/9/9/9 b R\n1 1c1a 3k5/R8/8R/9/9/9/9/9/9 b -\n1 1c1a 4k4/R8/8R/9/9/9/9/9/9 b -\n1 1c1a 5k3/R8/8R/9/9/9/9/9/9 b -\n2 R*9b 9/4k4/8R/9/9/9/9/9/9 b R\nend\n";
+    let table = [
+        (one, one),
+        (
+            "checkmate G*5b\ncertificate 1 mate 1\nproblem 4k4/9/4P4/9/9/9/9/9/9 b G\n1 G*5b 4k4/9/4P4/9/9/9/9/9/9 b G\nend\n",
+            one,
+        ),
+        (
+            "checkmate 7g7f 8h2b+\ncertificate 1 mate 1\nproblem 4k4/9/4P4/9/9/9/9/9/9 b G\n1 G*5b 4k4/9/4P4/9/9/9/9/9/9 b G\nend\n",
+            one,
+        ),
+        (none, none),
+        (
+            "checkmate nomate\ncertificate 1 escape 3\nproblem 4k4/9/4P4/9/9/9/9/9/9 b P\n4k4/9/4P4/9/9/9/9/9/9 b P\n9/4k4/9/9/9/9/9/9/9 b Pp\n9/9/4k4/9/9/9/9/9/9 b 2p\nend\n",
+            none,
+        ),
+        (rooks, rooks),
+    ];
+    for (text, written) in table {
+        let certificate = read_cert(rt.alloc(), text.as_bytes())
+            .ok()
+            .expect(&rt, "a certificate");
+        let again = write_cert(rt.alloc(), &certificate)
+            .ok()
+            .expect(&rt, "memory");
+        same(&rt, text, shown(&again), written);
+    }
+}
+
+// A text is written behind the line that may stand in front of it, and read with it.
+#[test]
+fn a_text_is_written_behind_the_line_in_front(rt: HostRuntime) {
+    let text =
+        "certificate 1 mate 1\nproblem 4k4/9/4P4/9/9/9/9/9/9 b G\n1 G*5b 4k4/9/4P4/9/9/9/9/9/9 b G\nend\n";
+    let front = "checkmate G*5b\n";
+    let certificate = read_cert(rt.alloc(), text.as_bytes())
+        .ok()
+        .expect(&rt, "a certificate");
+    let mut whole = Vec::new(rt.alloc());
+    whole
+        .extend_from_slice(front.as_bytes())
+        .ok()
+        .expect(&rt, "memory");
+    append_cert(&mut whole, &certificate)
+        .ok()
+        .expect(&rt, "memory");
+    let begins = whole.starts_with(front.as_bytes());
+    let again = read_cert(rt.alloc(), whole.as_slice())
+        .ok()
+        .expect(&rt, "a certificate");
+    same(&rt, text, (begins, again.count()), (true, 1));
+}
+
+// A text that is no certificate's, and its first fault.
+fn refused(alloc: Global, rt: &impl Abort, text: &str, wanted: &str) -> Result<(), AllocError> {
+    let end = read_cert(alloc, text.as_bytes()).err();
+    match end.expect(rt, "a fault") {
+        CertEnd::Fault(fault) => {
+            let found = format!(in alloc; "{fault}")?;
+            same(rt, text, found.as_str(), wanted);
+        }
+        CertEnd::NoMemory => same(rt, text, "no memory", wanted),
+    }
+    Ok(())
+}
+
+#[test]
+fn a_bad_head_is_named(rt: HostRuntime) -> Result<(), Fail> {
+    for text in [
+        "",
+        "checkmate\ncertificate 1 mate 1\nproblem 8k/6P2/8S/9/9/9/9/9/9 b B2GPp\n1 G*1b 8k/6P2/8S/9/9/9/9/9/9 b B2GPp\nend\n",
+        "checkmate nomate\ncertificate 1 mate 1\nproblem 8k/6P2/8S/9/9/9/9/9/9 b B2GPp\n1 G*1b 8k/6P2/8S/9/9/9/9/9/9 b B2GPp\nend\n",
+        "checkmate 1a1a\ncertificate 1 mate 1\nproblem 8k/6P2/8S/9/9/9/9/9/9 b B2GPp\n",
+        "certificate 1 mate 01\nproblem 8k/6P2/8S/9/9/9/9/9/9 b B2GPp\nend\n",
+        "certificate 1 mate 0\nproblem 8k/6P2/8S/9/9/9/9/9/9 b B2GPp\nend\n",
+        "certificate 1 mate 1400001\nproblem 8k/6P2/8S/9/9/9/9/9/9 b B2GPp\nend\n",
+        "certificate 1 mate 1\nproblem 8k/6P2/8S/9/9/9/9/9/9 b B2GPp",
+        "certificate 1 mate 1\nproblem 8k/6P2/8S/9/9/9/9/9/9 b B2GPp 1\nend\n",
+        "certificate 1 mate 1\r\nproblem 8k/6P2/8S/9/9/9/9/9/9 b B2GPp\nend\n",
+    ] {
+        refused(rt.alloc(), &rt, text, "bad head")?;
+    }
+    Ok(())
+}
+
+#[test]
+fn the_first_line_that_is_bad_or_does_not_rise_is_named(rt: HostRuntime) -> Result<(), Fail> {
+    for (text, wanted) in [
+        (
+            "certificate 1 mate 1\nproblem 8k/6P2/8S/9/9/9/9/9/9 b B2GPp\n1 G*1b 8k/6P2/8S/9/9/9/9/9/9 b B2GPp\nen7\n",
+            "bad line 2",
+        ),
+        (
+            "certificate 1 mate 1\nproblem 8k/6P2/8S/9/9/9/9/9/9 b B2GPp\n0 G*1b 8k/6P2/8S/9/9/9/9/9/9 b B2GPp\nend\n",
+            "bad line 1",
+        ),
+        (
+            "certificate 1 mate 1\nproblem 8k/6P2/8S/9/9/9/9/9/9 b B2GPp\n1 G*1b 8k/6P2/8S/9/9/9/9/9/9 b 2GBPp\nend\n",
+            "bad line 1",
+        ),
+        (
+            "certificate 1 mate 1\nproblem 8k/6P2/8S/9/9/9/9/9/9 b B2GPp\n1 G*1b 8K/6P2/8S/9/9/9/9/9/9 w B2GPp\nend\n",
+            "bad line 1",
+        ),
+        (
+            "certificate 1 mate 2\nproblem k8/9/1p7/P8/9/9/9/9/9 b BGSNP\n2 B*1i k8/9/1p7/P8/9/9/9/9/9 b BGSNP\n2 B*1i k8/9/1p7/P8/9/9/9/9/9 b BGSNP\nend\n",
+            "not rising 2",
+        ),
+        (
+            "certificate 1 escape 2\nproblem 4k4/9/4P4/9/9/9/9/9/9 b P\n9/4k4/9/9/9/9/9/9/9 b Pp\n4k4/9/4P4/9/9/9/9/9/9 b P\nend\n",
+            "not rising 2",
+        ),
+    ] {
+        refused(rt.alloc(), &rt, text, wanted)?;
+    }
+    Ok(())
+}
+
+#[test]
+fn a_wrong_count_and_a_missing_end_are_named(rt: HostRuntime) -> Result<(), Fail> {
+    for (text, wanted) in [
+        (
+            "certificate 1 mate 3\nproblem 8k/6P2/8S/9/9/9/9/9/9 b B2GPp\n1 G*1b 8k/6P2/8S/9/9/9/9/9/9 b B2GPp\nend\n",
+            "wrong count",
+        ),
+        (
+            "certificate 1 mate 1\nproblem 8k/6P2/8S/9/9/9/9/9/9 b B2GPp\nend\n",
+            "wrong count",
+        ),
+        (
+            "certificate 1 mate 1\nproblem 8k/6P2/8S/9/9/9/9/9/9 b B2GPp\n1 G*1b 8k/6P2/8S/9/9/9/9/9/9 b B2GPp\nend",
+            "no end",
+        ),
+        (
+            "certificate 1 mate 1\nproblem 8k/6P2/8S/9/9/9/9/9/9 b B2GPp\n1 G*1b 8k/6P2/8S/9/9/9/9/9/9 b B2GPp\nend\n\n",
+            "no end",
+        ),
+        (
+            "certificate 1 mate 3\nproblem k8/2S6/9/9/9/9/9/9/9 b 2RBNPp\nend\n1 R*9c k8/1pS6/2B6/9/9/9/9/9/9 b 2RNP\n",
+            "no end",
+        ),
+    ] {
+        refused(rt.alloc(), &rt, text, wanted)?;
+    }
+    Ok(())
+}

@@ -1,0 +1,22 @@
+//! The public calls on texts (moves, positions, certificates, collections) and on problems by number, by examples.
+//!
+//! The tests of this layer stand here and not in its libraries, so that no library is proved twice. Without tests this
+//! crate is empty.
+#![tactic(auto)]
+
+#[cfg(test)]
+mod advice;
+#[cfg(test)]
+mod certificates;
+#[cfg(test)]
+mod collections;
+#[cfg(test)]
+mod diagrams;
+#[cfg(test)]
+mod generated;
+#[cfg(test)]
+mod moves;
+#[cfg(test)]
+mod same;
+#[cfg(test)]
+mod sfen;
