@@ -4,6 +4,4 @@ pub mod Slots
 pub mod Rows
 pub mod Places
 pub mod Asked
-pub mod Starved
-pub mod Learnt
 mod Renewed

@@ -6,7 +6,5 @@
 #![tactic(auto)]
 
 mod lone;
-#[cfg(test)]
-mod tests;
 
 pub use lone::LonePort;

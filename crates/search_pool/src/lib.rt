@@ -8,8 +8,6 @@
 mod alone;
 mod end;
 mod table;
-#[cfg(test)]
-mod tests;
 
 pub use alone::{search_alone, search_alone_gated, search_alone_until};
 pub use end::{Crew, SearchEnd};

@@ -9,8 +9,6 @@ mod apart;
 mod decide;
 mod tallies;
 mod tally;
-#[cfg(test)]
-mod tests;
 
 pub use tallies::{MOST_COUNT, MOST_SEED, survey};
 pub use tally::Tally;
