@@ -1,34 +1,8 @@
 // Settings at the ends of their ranges and beyond, and desks whose units and room run out.
-use unit_desk::*;
-use board_core::{Hand, Kind, Piece, Position, Side};
+use crate::problems::{problem, settings};
+use crate::same::same;
 use notes::{Claim, Draw};
-use shogi_rules::{Problem, accept_problem};
-use std::process::Abort;
-
-// A problem: the king of the side not to move stands alone.
-fn problem(rt: &impl Abort) -> Problem {
-    let mut cells = [None; 81];
-    cells[4] = Some(Piece {
-        kind: Kind::King,
-        promoted: false,
-        side: Side::White,
-    });
-    let position = Position::build(&cells, Hand::empty(), Hand::empty(), Side::Black).expect(
-        rt,
-        "a lone king",
-    );
-    match accept_problem(position) {
-        Ok(problem) => problem,
-        Err(_) => panic!(rt; "a lone king is in check"),
-    }
-}
-
-fn settings(rt: &impl Abort, expansions: u64, room: u32) -> Settings {
-    match Settings::new(1, expansions, room, 16, 1) {
-        Ok(settings) => settings,
-        Err(fault) => panic!(rt; "{fault:?}"),
-    }
-}
+use unit_desk::{Desk, Setting, Settings, SettingsFault, Size};
 
 #[test]
 fn settings_lie_in_their_ranges_and_sizes_are_powers_of_two(rt: HostRuntime) {
@@ -53,39 +27,42 @@ fn settings_lie_in_their_ranges_and_sizes_are_powers_of_two(rt: HostRuntime) {
         (1, 1, 1, 16, 48, Some(NotPowerOfTwo(Size::Shards))),
         (1, 1, 1, 16, 32, Some(MoreShardsThanRows)),
     ];
-    for (workers, expansions, room, rows, shards, fault) in table {
-        match Settings::new(workers, expansions, room, rows, shards) {
-            Ok(made) => {
-                assert!(rt; fault.is_none());
-                assert!(rt;
-                    made.workers == workers && made.expansions == expansions && made.room == room
-                );
-                assert!(rt; made.rows == rows && made.shards == shards);
-            }
-            Err(told) => assert!(rt; fault == Some(told), "{told:?}"),
-        }
+    for row in table {
+        let (workers, expansions, room, rows, shards, _) = row;
+        let found = match Settings::new(workers, expansions, room, rows, shards) {
+            Ok(made) => (
+                made.workers,
+                made.expansions,
+                made.room,
+                made.rows,
+                made.shards,
+                None,
+            ),
+            Err(fault) => (workers, expansions, room, rows, shards, Some(fault)),
+        };
+        same(&rt, "settings", found, row);
     }
 }
 
 #[test]
 fn units_and_room_are_handed_out_each_once_until_none_is_left(rt: HostRuntime) {
-    let problem = problem(&rt);
+    let alone = problem(&rt, "9/9/9/9/8k/9/9/9/9 b -");
     for (expansions, room) in [(1, 1), (3, 1), (1, 4), (5, 2)] {
-        let mut desk = Desk::make(&problem, &settings(&rt, expansions, room));
+        let mut desk = Desk::make(&alone, &settings(&rt, 1, expansions, room));
         for unit in 1..=expansions {
-            assert!(rt; desk.drawn() == unit - 1);
-            assert!(rt; desk.draw() == Draw::Go(unit));
+            same(&rt, "drawn before", desk.drawn(), unit - 1);
+            same(&rt, "a unit", desk.draw(), Draw::Go(unit));
         }
         for note in 1..=room {
-            assert!(rt; desk.claimed() == note - 1);
-            assert!(rt; desk.claim() == Claim::Room(note));
+            same(&rt, "claimed before", desk.claimed(), note - 1);
+            same(&rt, "a note", desk.claim(), Claim::Room(note));
         }
-        for _ in 0..2 {
-            assert!(rt; desk.draw() == Draw::Spent);
-            assert!(rt; desk.claim() == Claim::NoRoom);
-            assert!(rt; desk.drawn() == expansions && desk.claimed() == room);
+        for row in ["none is left", "nor later"] {
+            same(&rt, row, desk.draw(), Draw::Spent);
+            same(&rt, row, desk.claim(), Claim::NoRoom);
+            same(&rt, row, (desk.drawn(), desk.claimed()), (expansions, room));
         }
-        assert!(rt; desk.posted().is_none());
-        assert!(rt; desk.into_note().is_none());
+        same(&rt, "posted", desk.posted().is_some(), false);
+        same(&rt, "kept", desk.into_note().is_some(), false);
     }
 }

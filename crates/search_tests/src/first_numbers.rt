@@ -1,29 +1,31 @@
 // Start numbers by examples that another program made.
-use start_numbers::start;
+use crate::problems::problem;
+use crate::same::same;
 use board_core::{Move, Position, Side};
 use pn_numbers::Numbers;
 use sfen_text::read_sfen;
-use shogi_rules::{Problem, accept_problem, in_check, legal};
+use shogi_rules::{Problem, in_check, legal};
+use start_numbers::start;
 use std::process::Abort;
 use usi_text::read_move;
 
 // A problem whose attacker is this side.
-fn problem(rt: &impl Abort, attacker: Side) -> Problem {
-    let text = match attacker {
-        Side::Black => "4k4/9/9/9/9/9/9/9/9 b -",
-        Side::White => "4K4/9/9/9/9/9/9/9/9 w -",
-    };
-    let position = read_sfen(text.as_bytes()).expect(rt, text);
-    accept_problem(position).expect(rt, text)
+fn problem_of(rt: &impl Abort, attacker: Side) -> Problem {
+    match attacker {
+        Side::Black => problem(rt, "4k4/9/9/9/9/9/9/9/9 b -"),
+        Side::White => problem(rt, "4K4/9/9/9/9/9/9/9/9 w -"),
+    }
 }
 
-fn started(rt: &impl Abort, attacker: Side, position: &Position, by: Move) -> Numbers {
-    assert!(rt;
-        !in_check(position, position.side().other()),
-        "not quiet: {position:?}"
-    );
-    assert!(rt; legal(position, by).is_ok(), "{by:?} at {position:?}");
-    start(&problem(rt, attacker), position, by)
+// The numbers after a move, or why the row is no example.
+fn started(problem: &Problem, position: &Position, by: Move) -> Result<Numbers, &'static str> {
+    if in_check(position, position.side().other()) {
+        return Err("not quiet");
+    }
+    if legal(position, by).is_err() {
+        return Err("not legal");
+    }
+    Ok(start(problem, position, by))
 }
 
 // The first word of a row, and the rest.
@@ -31,8 +33,8 @@ fn split<'a>(rt: &impl Abort, row: &'a str) -> (&'a str, &'a str) {
     row.split_once(' ').expect(rt, row)
 }
 
-// A row has the move, the two numbers, and the position with the attacker to move; the position is the one at hand, or that with the
-// defender to move.
+// A row has the move, the two numbers, and the position with the attacker to move; the position is the one at
+// hand, or that with the defender to move.
 fn compare(rt: &impl Abort, row: &str, is_evasion: bool) {
     let (by, rest) = split(rt, row);
     let (pn, rest) = split(rt, rest);
@@ -47,7 +49,8 @@ fn compare(rt: &impl Abort, row: &str, is_evasion: bool) {
         dn: dn.parse::<u32>().expect(rt, row),
     };
     let by = read_move(by.as_bytes()).expect(rt, row);
-    assert_eq!(rt; started(rt, attacker, &position, by), numbers, "{row}");
+    let found = started(&problem_of(rt, attacker), &position, by);
+    same(rt, row, found, Ok(numbers));
 }
 
 #[test]

@@ -1,3 +1,5 @@
+// Counts of expansions, gates and stops.
+use crate::same::same;
 use search_gate::{
     Clock, DeadlineStop, Expansions, Gate, MOST_EXPANSIONS, MemStop, OpenGate, QuietStop, Stop,
 };
@@ -5,13 +7,16 @@ use std::test::Fail;
 
 #[test]
 fn expansions_are_counted_from_1_to_their_limit(rt: HostRuntime) {
-    assert!(rt; Expansions::of(0).is_none());
-    assert_eq!(rt;
-        Expansions::of(1).map(|expansions| expansions.count),
-        Some(1)
-    );
-    assert!(rt; Expansions::of(MOST_EXPANSIONS).is_some());
-    assert!(rt; Expansions::of(MOST_EXPANSIONS + 1).is_none());
+    let table = [
+        (0, None),
+        (1, Some(1)),
+        (MOST_EXPANSIONS, Some(MOST_EXPANSIONS)),
+        (MOST_EXPANSIONS + 1, None),
+    ];
+    for (count, wanted) in table {
+        let found = Expansions::of(count).map(|expansions| expansions.count);
+        same(&rt, count, found, wanted);
+    }
 }
 
 #[test]
@@ -22,12 +27,13 @@ fn an_open_gate_lets_everybody_pass() {
 #[test]
 fn a_stop_signals_at_the_listed_polls(rt: HostRuntime) -> Result<(), Fail> {
     let mut stop = MemStop::new(vec![in rt.alloc(); 2, 4]?);
-    for expected in [false, true, false, true, false] {
-        assert_eq!(rt; stop.poll(), expected, "{}", stop.polls());
+    for wanted in [false, true, false, true, false] {
+        let found = stop.poll();
+        same(&rt, stop.polls(), found, wanted);
     }
     let mut quiet = QuietStop::new();
     quiet.arm(Some(1));
-    assert!(rt; !quiet.poll());
+    same(&rt, 0, quiet.poll(), false);
     Ok(())
 }
 
@@ -75,17 +81,19 @@ fn a_deadline_stops_from_its_end_on(rt: HostRuntime) -> Result<(), Fail> {
         1_501,
         u64::MAX,
     ]?);
-    assert!(rt; !stop.poll(), "it isn't armed yet");
+    same(&rt, "it isn't armed yet", stop.poll(), false);
     stop.arm(Some(500));
-    for expected in [false, false, true, false, true] {
-        assert_eq!(rt; stop.poll(), expected);
+    for wanted in [false, false, true, false, true] {
+        same(&rt, "it is armed for 500", stop.poll(), wanted);
     }
     stop.arm(None);
-    assert!(rt; !stop.poll(), "it is armed for no time");
+    same(&rt, "it is armed for no time", stop.poll(), false);
     stop.arm(Some(2));
-    assert!(rt;
+    same(
+        &rt,
+        "the end is the greatest number, which is shown",
         stop.poll(),
-        "the end is the greatest number, which is shown"
+        true,
     );
     Ok(())
 }

@@ -7,7 +7,7 @@ ghost use Rattle.table_shard.specs.Entry.{IsAbout};
 ghost use Rattle.table_shard.specs.Row.{HoldsAt};
 ghost use Rattle.table_shard.specs.Shard.{row_of};
 
-use table_shard::Shard;
+use crate::same::same;
 use board_core::{Key, key as key_of};
 use escapes::{Leaving, checked, evasions, note_of, path_through};
 use notes::{Kept, Note, Rule, Seen, Update};
@@ -15,6 +15,7 @@ use path_tags::Path;
 use pn_numbers::Numbers;
 use std::alloc::{AllocError, Global};
 use std::test::Fail;
+use table_shard::Shard;
 
 fn key(word: u64) -> Key {
     Key([word, 0, 0, 0, 0, 0, 0, word])
@@ -50,10 +51,12 @@ fn a_full_row_gives_up_an_entry_that_no_worker_is_below(rt: HostRuntime) -> Resu
     let numbers = Numbers { pn: 2, dn: 3 };
     // The rows of one key, among many and among few.
     let board = Key([0, 0, 0, 1046, 0, 0, 0, 16384]);
-    for (rows, place) in [(16_384, 7515), (16, 11)] {
-        let shard = Shard::make(rt.alloc(), rows)?;
-        assert_eq!(rt; shard.spot_of(&board).place, place);
-    }
+    let (many, few) = (
+        Shard::make(rt.alloc(), 16_384)?,
+        Shard::make(rt.alloc(), 16)?,
+    );
+    same(&rt, "of many rows", many.spot_of(&board).place, 7515);
+    same(&rt, "of few rows", few.spot_of(&board).place, 11);
     let all = [1, 1, 1, 1, 1, 1, 1, 1];
     // The counts, what entering answers, and the entry that is given up.
     let table = [
@@ -64,19 +67,24 @@ fn a_full_row_gives_up_an_entry_that_no_worker_is_below(rt: HostRuntime) -> Resu
     for (pins, kept, given_up) in table {
         let mut shard = Shard::make(rt.alloc(), 1)?;
         for word in 0..8 {
-            assert!(rt; entered(&mut shard, word, numbers, &all) == Kept::Slot(word as u8));
+            let found = entered(&mut shard, word, numbers, &all);
+            same(&rt, word, found, Kept::Slot(word as u8));
         }
-        assert!(rt; entered(&mut shard, 5, Numbers::ONE, &all) == Kept::Slot(5));
-        assert!(rt; entered(&mut shard, 8, Numbers::ONE, &pins) == kept);
+        let again = entered(&mut shard, 5, Numbers::ONE, &all);
+        same(&rt, "once more", again, Kept::Slot(5));
+        let ninth = entered(&mut shard, 8, Numbers::ONE, &pins);
+        same(&rt, pins, ninth, kept);
         for word in 0..8 {
             let shown = looked(&shard, word, &path, &pins)?;
-            let is_gone = given_up == Some(word);
-            assert!(rt; shown.is_none() == is_gone);
-            assert!(rt; is_gone || shown == Some((2, 3, pins[word as usize])));
+            let wanted = if given_up == Some(word) {
+                None
+            } else {
+                Some((2, 3, pins[word as usize]))
+            };
+            same(&rt, (pins, word), shown, wanted);
         }
         let ninth = looked(&shard, 8, &path, &pins)?;
-        assert!(rt; ninth.is_some() == given_up.is_some());
-        assert!(rt; ninth.is_none() || ninth == Some((1, 1, 0)));
+        same(&rt, pins, ninth, given_up.map(|_| (1, 1, 0)));
     }
     Ok(())
 }
@@ -122,8 +130,8 @@ fn a_note_counts_where_its_position_is_on_the_path(rt: HostRuntime) -> Result<()
     let [first, second, third, fourth, fifth] = moves;
     let (one, two) = (Rule::EscapeRepeat(first), Rule::EscapeRepeat(second));
     let closed = Rule::EscapeBy(first);
-    // A note that is left, and the rules of those that show where the path has the position after the first evasion, where it has
-    // those after all, and where it has none.
+    // A note that is left, and the rules of those that show where the path has the position after the first evasion,
+    // where it has those after all, and where it has none.
     let table = [
         (Leaving::Repeat(first), [Some(one), Some(one), None]),
         (Leaving::Repeat(second), [Some(one), Some(one), None]),
@@ -154,8 +162,9 @@ fn a_note_counts_where_its_position_is_on_the_path(rt: HostRuntime) -> Result<()
     };
     for (leaving, wanted) in table {
         let note = note_of(alloc, &problem, &position, leaving);
-        assert!(rt; leave(&mut shard, slot, &key, note));
-        assert!(rt; rules_on(&shard, &key, &paths)? == wanted);
+        let left = leave(&mut shard, slot, &key, note);
+        same(&rt, "left", left, true);
+        same(&rt, "rules", rules_on(&shard, &key, &paths)?, wanted);
     }
     Ok(())
 }

@@ -5,8 +5,8 @@ ghost use Rattle.visit_log.specs.Run.{Standing};
 ghost use Rattle.worker_core.specs.Port.{Suits};
 ghost use Rattle.lone_port.specs.Lone.{worker_at_first, book_of};
 
-use lone_port::LonePort;
 use board_core::key;
+use lone_port::LonePort;
 use notes::{Note, Update};
 use pn_numbers::Numbers;
 use shogi_rules::Problem;

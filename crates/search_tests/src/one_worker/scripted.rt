@@ -4,8 +4,8 @@ ghost use Rattle.worker_core.specs.Port.{Book, Suits};
 ghost use Rattle.visit_log.specs.Run.{Standing};
 ghost use Rattle.lone_port.specs.Lone.{worker_at_first, book_of};
 
-use lone_port::LonePort;
 use board_core::Key;
+use lone_port::LonePort;
 use notes::{Claim, Draw, Kept, Note, Seen, Update};
 use path_tags::Path;
 use pn_numbers::Numbers;
