@@ -1,6 +1,8 @@
 // Collections whose reports are known, over any number of threads.
-use problem_answers::Reports;
+use crate::lines::words_of;
+use crate::same::same;
 use app_texts::append_report;
+use problem_answers::Reports;
 use std::alloc::{AllocError, Global};
 use std::test::Fail;
 use std::thread::Threads;
@@ -15,18 +17,15 @@ const NONE: &str = "4k4/9/9/9/9/9/9/9/9 b -\r";
 const FAULT: &str = "4k4/9/4X4/9/9/9/9/9/9 b G";
 
 // What is told of each line of a text, with the words of a command.
-fn told<R: Threads + AllocGlobal + Sync>(rt: &R, line: &str, text: &[u8]) -> Result<Vec<u8>, Fail> {
+fn told<R: Threads + AllocGlobal + Sync>(rt: &R, line: &str, text: &str) -> Result<String, Fail> {
     let alloc = rt.alloc();
-    let mut words = Vec::new(alloc);
-    for word in line.split(' ') {
-        words.push(word.to_string(alloc)?)?;
-    }
+    let words = words_of(alloc, line)?;
     let mut out = Vec::new(alloc);
     let Ok(asked) = read_words(alloc, &words) else {
-        return Ok(out);
+        return Ok(String::new(alloc));
     };
     if let Command::Collection { settings, form } = asked.command {
-        let mut reports = Reports::new(rt, alloc, text, &settings, &form)?;
+        let mut reports = Reports::new(rt, alloc, text.as_bytes(), &settings, &form)?;
         while let Some(reported) = reports.next(rt, alloc)? {
             append_report(
                 &mut out,
@@ -36,7 +35,7 @@ fn told<R: Threads + AllocGlobal + Sync>(rt: &R, line: &str, text: &[u8]) -> Res
             )?;
         }
     }
-    Ok(out)
+    Ok(String::from_utf8(out)?)
 }
 
 // A text of so many lines, and what is told of them: lines of these kinds in turn, and a fault in one place.
@@ -62,11 +61,11 @@ fn turns(alloc: Global, count: usize, fault: usize) -> Result<(String, String), 
 #[test]
 fn any_number_of_threads_tells_the_same(rt: HostRuntime) -> Result<(), Fail> {
     // More lines than one thread takes at a time, and than two do.
-    let (text, expected) = turns(rt.alloc(), 70, 33)?;
+    let (text, wanted) = turns(rt.alloc(), 70, 33)?;
     for threads in [" --threads 1", " --threads 2", " --threads 64", ""] {
         let line = format!(in rt.alloc(); "collection --rows 16 --room 100{threads}")?;
-        let found = told(&rt, line.as_str(), text.as_bytes())?;
-        assert!(rt; found.as_slice() == expected.as_bytes(), "{line}");
+        let found = told(&rt, line.as_str(), text.as_str())?;
+        same(&rt, line.as_str(), found.as_str(), wanted.as_str());
     }
     Ok(())
 }
@@ -74,10 +73,11 @@ fn any_number_of_threads_tells_the_same(rt: HostRuntime) -> Result<(), Fail> {
 #[test]
 fn a_fault_in_any_place_is_told_there(rt: HostRuntime) -> Result<(), Fail> {
     for fault in 0..6 {
-        let (text, expected) = turns(rt.alloc(), 5, fault)?;
-        let found = told(&rt, "collection --rows 16 --threads 2", text.as_bytes())?;
-        assert!(rt; found.as_slice() == expected.as_bytes(), "{fault}");
+        let (text, wanted) = turns(rt.alloc(), 5, fault)?;
+        let found = told(&rt, "collection --rows 16 --threads 2", text.as_str())?;
+        same(&rt, fault, found.as_str(), wanted.as_str());
     }
-    assert!(rt; told(&rt, "collection --threads 3", b"\n# a\n")?.is_empty());
+    let found = told(&rt, "collection --threads 3", "\n# a\n")?;
+    same(&rt, "no problem", found.as_str(), "");
     Ok(())
 }

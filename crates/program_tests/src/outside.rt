@@ -1,13 +1,17 @@
 // Tables of pieces, of failing calls and of limits, and one look at each end of the outside.
 ghost use Rattle.std.specs.Prelude.{◌≤◌, IfOk, IsErrOf};
 
-use tsume_io::*;
+use crate::same::same;
 use search_gate::Clock;
 use std::alloc::Global;
 use std::cell::Cell;
 use std::io;
 use std::test::Fail;
 use std::time::{self, Duration};
+use tsume_io::{
+    Failed, MemSink, MemSource, NeverFails, Noted, Opened, ReadEnd, Sink, Source, StdClock,
+    StdSink, StdSource, WriteFault, read_all, write_all,
+};
 
 const LETTERS: [u8; 28] = *b"the quick brown fox jumps on";
 
@@ -26,7 +30,7 @@ fn copied(alloc: Global, piece: usize) -> Result<Vec<u8>, Fail>
 fn any_pieces_make_the_same_bytes(rt: HostRuntime) -> Result<(), Fail> {
     let alloc = rt.alloc();
     for copy in [copied(alloc, 1)?, copied(alloc, 2)?, copied(alloc, 7)?] {
-        assert_eq!(rt; copy.as_slice(), LETTERS.as_slice());
+        same(&rt, "a copy", copy.as_slice(), LETTERS.as_slice());
     }
     Ok(())
 }
@@ -39,10 +43,10 @@ fn a_source_may_fail_at_each_call(rt: HostRuntime) -> Result<(), Fail> {
         let failing = vec![in alloc; call]?;
         let mut source = MemSource::make(LETTERS.to_vec(alloc)?, 1, failing);
         let end = read_all(alloc, &mut source, 28).err();
-        assert_eq!(rt; end, Some(ReadEnd::Fault), "at call {call}");
-        assert_eq!(rt; (source.calls(), source.faults()), (call, 1));
+        same(&rt, call, end, Some(ReadEnd::Fault));
+        same(&rt, call, (source.calls(), source.faults()), (call, 1));
         // The bytes of the calls before it are taken, and no others.
-        assert_eq!(rt; source.left().len() as u64, 29 - call);
+        same(&rt, call, source.left().len() as u64, 29 - call);
     }
     Ok(())
 }
@@ -53,23 +57,16 @@ fn a_sink_may_fail_at_each_call(rt: HostRuntime) -> Result<(), Fail> {
     let bytes: Vec<u8> = (0..107u8).collect(alloc)?;
     for call in 1..108u64 {
         let mut sink = MemSink::make(alloc, 107, 1, vec![in alloc; call]?)?;
-        assert_eq!(rt;
-            write_all(&mut sink, &bytes),
-            Err(WriteFault),
-            "at call {call}"
-        );
-        assert_eq!(rt; (sink.calls(), sink.faults()), (call, 1));
+        same(&rt, call, write_all(&mut sink, &bytes), Err(WriteFault));
+        same(&rt, call, (sink.calls(), sink.faults()), (call, 1));
         let kept: Vec<u8> = (0..107u8).take(sink.kept().len()).collect(alloc)?;
-        assert_eq!(rt; sink.kept().len() as u64, call - 1);
-        assert_eq!(rt; sink.kept(), kept.as_slice());
+        same(&rt, call, sink.kept().len() as u64, call - 1);
+        same(&rt, call, sink.kept(), kept.as_slice());
     }
     let mut small = MemSink::make(alloc, 106, 7, Vec::new(alloc))?;
-    assert_eq!(rt;
-        write_all(&mut small, &bytes),
-        Err(WriteFault),
-        "no room for the last"
-    );
-    assert_eq!(rt; (small.kept().len(), small.faults()), (105, 1));
+    let row = "no room for the last";
+    same(&rt, row, write_all(&mut small, &bytes), Err(WriteFault));
+    same(&rt, row, (small.kept().len(), small.faults()), (105, 1));
     Ok(())
 }
 
@@ -94,16 +91,13 @@ fn one_byte_over_the_limit_is_too_long(rt: HostRuntime) -> Result<(), Fail> {
     ];
     for (limit, want) in cases {
         let read = read_in_memory(alloc, LETTERS.to_vec(alloc)?, limit);
-        assert_eq!(rt; read, want, "at {limit}");
+        same(&rt, limit, read, want);
     }
     // A fault that comes behind the byte too many isn't seen; one before it is.
     for (call, want) in [(28u64, ReadEnd::Fault), (29, ReadEnd::TooLong)] {
         let mut source = MemSource::make(LETTERS.to_vec(alloc)?, 1, vec![in alloc; call]?);
-        assert_eq!(rt;
-            read_all(alloc, &mut source, 27).err(),
-            Some(want),
-            "at call {call}"
-        );
+        let end = read_all(alloc, &mut source, 27).err();
+        same(&rt, ("call", call), end, Some(want));
     }
     Ok(())
 }
@@ -149,13 +143,12 @@ impl io::Write for Tired {
 fn a_reader_of_std_is_a_source(rt: HostRuntime) -> Result<(), Fail> {
     let alloc = rt.alloc();
     let mut source = StdSource::new(Tired { calls: 0 });
-    assert_eq!(rt;
-        read_all(alloc, &mut source, 9)?.as_slice(),
-        [0, 0].as_slice()
-    );
-    assert_eq!(rt; source.faults(), 0);
-    assert_eq!(rt; read_all(alloc, &mut source, 9).err(), Some(ReadEnd::Fault));
-    assert_eq!(rt; source.faults(), 1);
+    let bytes = read_all(alloc, &mut source, 9)?;
+    same(&rt, "first", bytes.as_slice(), [0, 0].as_slice());
+    same(&rt, "first", source.faults(), 0);
+    let end = read_all(alloc, &mut source, 9).err();
+    same(&rt, "second", end, Some(ReadEnd::Fault));
+    same(&rt, "second", source.faults(), 1);
     Ok(())
 }
 
@@ -165,20 +158,19 @@ fn a_file_that_does_not_open_fails_at_its_first_read(rt: HostRuntime) -> Result<
     let error = io::Error::from(io::ErrorKind::NotFound);
     let refused: Opened<&[u8], &[u8]> = Opened::Refused(error);
     let mut source = StdSource::new(Noted::new(refused));
-    assert_eq!(rt; read_all(alloc, &mut source, 9).err(), Some(ReadEnd::Fault));
-    assert_eq!(rt; source.faults(), 1);
+    let end = read_all(alloc, &mut source, 9).err();
+    same(&rt, "refused", end, Some(ReadEnd::Fault));
+    same(&rt, "refused", source.faults(), 1);
     let kind = source.reader().reason().map(|reason| reason.kind());
-    assert_eq!(rt; kind, Some(io::ErrorKind::NotFound));
+    same(&rt, "refused", kind, Some(io::ErrorKind::NotFound));
     for opened in [
         Opened::File(LETTERS.as_slice()),
         Opened::Standard(LETTERS.as_slice()),
     ] {
         let mut source = StdSource::new(Noted::new(opened));
-        assert_eq!(rt;
-            read_all(alloc, &mut source, 28)?.as_slice(),
-            LETTERS.as_slice()
-        );
-        assert!(rt; source.reader().reason().is_none());
+        let bytes = read_all(alloc, &mut source, 28)?;
+        same(&rt, "opened", bytes.as_slice(), LETTERS.as_slice());
+        same(&rt, "opened", source.reader().reason().is_some(), false);
     }
     Ok(())
 }
@@ -186,13 +178,13 @@ fn a_file_that_does_not_open_fails_at_its_first_read(rt: HostRuntime) -> Result<
 #[test]
 fn a_writer_of_std_is_a_sink(rt: HostRuntime) {
     let mut sink = StdSink::new(Tired { calls: 0 });
-    assert_eq!(rt; sink.write(&LETTERS), Ok(2));
-    assert_eq!(rt; sink.write(&[]), Ok(0), "nothing is asked");
-    assert_eq!(rt; sink.faults(), 0);
+    same(&rt, "two are taken", sink.write(&LETTERS), Ok(2));
+    same(&rt, "nothing is asked", sink.write(&[]), Ok(0));
+    same(&rt, "no fault", sink.faults(), 0);
     let mut sink = StdSink::new(Tired { calls: 1 });
-    assert_eq!(rt; sink.write(&LETTERS), Err(Failed), "nothing is taken");
-    assert_eq!(rt; sink.write(&LETTERS), Err(Failed));
-    assert_eq!(rt; sink.faults(), 2);
+    same(&rt, "nothing is taken", sink.write(&LETTERS), Err(Failed));
+    same(&rt, "it fails", sink.write(&LETTERS), Err(Failed));
+    same(&rt, "two faults", sink.faults(), 2);
 }
 
 const MEGABYTE: usize = 1 << 20;
@@ -216,8 +208,8 @@ fn a_megabyte_goes_through_buffers_of_ten_sizes(rt: HostRuntime) -> Result<(), F
             let count = source.read(&mut buffer)?;
             write_all(&mut sink, &buffer[..count])?;
         }
-        assert_eq!(rt; source.read(&mut buffer), Ok(0), "at {size}");
-        assert!(rt; copy == bytes, "at {size}");
+        same(&rt, size, source.read(&mut buffer), Ok(0));
+        same(&rt, size, copy == bytes, true);
     }
     Ok(())
 }
@@ -230,9 +222,9 @@ fn no_size_of_a_buffer_is_a_fault(rt: HostRuntime) {
     let space = &mut space[..];
     for size in 1..=70_000usize {
         let mut source = StdSource::new(bytes.as_slice());
-        assert_eq!(rt; source.read(&mut space[..size]), Ok(size));
+        same(&rt, size, source.read(&mut space[..size]), Ok(size));
         let mut sink = StdSink::new(&mut space[..size]);
-        assert_eq!(rt; sink.write(&bytes[..size]), Ok(size));
+        same(&rt, size, sink.write(&bytes[..size]), Ok(size));
     }
 }
 
@@ -263,11 +255,11 @@ fn a_clock_that_is_not_told_the_time_shows_its_last(rt: HostRuntime) {
     let mut clock = StdClock::new(Forgetful {
         calls: Cell::new(0),
     });
-    for expected in [0, 0, 3, 3, 6] {
-        assert_eq!(rt; clock.now(), expected);
+    for (ask, wanted) in [0, 0, 3, 3, 6].into_iter().enumerate() {
+        same(&rt, ask, clock.now(), wanted);
     }
     let mut clock = StdClock::new(&rt);
     let first = clock.now();
-    assert!(rt; first > 0);
-    assert!(rt; clock.now() >= first);
+    same(&rt, "it is told", first > 0, true);
+    same(&rt, "it runs on", clock.now() >= first, true);
 }

@@ -1,6 +1,7 @@
 // Surveys as they were counted by another program.
-use survey::{Tally, survey};
+use crate::same::same;
 use std::test::Fail;
+use survey::{Tally, survey};
 
 fn counts(tallies: &[Tally]) -> (usize, usize, usize) {
     let mates = tallies
@@ -27,9 +28,9 @@ fn tallies_are_counted(rt: HostRuntime) -> Result<(), Fail> {
         (33_469, 60, 1, (0, 0, 60)),
         (771_001_813, 50, 100, (6, 0, 44)),
     ];
-    for (seed, count, expansions, expected) in rows {
+    for (seed, count, expansions, wanted) in rows {
         let tallies = survey(&rt, rt.alloc(), seed, count, expansions)?;
-        assert_eq!(rt; counts(&tallies), expected, "{seed}");
+        same(&rt, (seed, count), counts(&tallies), wanted);
     }
     Ok(())
 }

@@ -2,7 +2,9 @@
 ghost use Rattle.std.specs.Prelude.{IfOk, IfSome};
 ghost use Rattle.usi_text.specs.Lines.{AllHaveText};
 ghost use Rattle.app_texts.specs.Reports.{HasReportLine};
+ghost use Rattle.app_texts.specs.Texts.{HasTexts};
 
+use crate::same::same;
 use app_texts::{
     Answer, Counts, Judgement, LineFault, MainLine, ProblemFault, Report, Solution, Summary,
     Tallies, answer_text, append_report,
@@ -23,19 +25,21 @@ const ROOKS: &str =
 const NONE: &str =
     "certificate 1 escape 3\nproblem 4k4/9/4P4/9/9/9/9/9/9 b P\n4k4/9/4P4/9/9/9/9/9/9 b P\n9/4k4/9/9/9/9/9/9/9 b Pp\n9/9/4k4/9/9/9/9/9/9 b 2p\nend\n";
 
-#[test]
-fn an_accepted_mate_is_told_with_its_entries(rt: HostRuntime) -> Result<(), Fail> {
-    let answer = Answer::Judged(Judgement::Accepted {
-        claim: Claim::Mate,
-        entries: 4,
-    });
-    let text = answer_text(rt.alloc(), &answer)?;
-    assert!(rt; text.as_slice() == b"accepted mate 4\n".as_slice());
-    Ok(())
+fn text_of(alloc: Global, answer: &Answer) -> Result<String, Fail>
+    requires { HasTexts answer.now }
+{
+    Ok(String::from_utf8(answer_text(alloc, answer)?)?)
 }
 
 #[test]
-fn each_cause_has_its_text(rt: HostRuntime) -> Result<(), Fail> {
+fn an_accepted_mate_and_each_cause_have_their_texts(rt: HostRuntime) -> Result<(), Fail> {
+    let alloc = rt.alloc();
+    let accepted = Answer::Judged(Judgement::Accepted {
+        claim: Claim::Mate,
+        entries: 4,
+    });
+    let text = text_of(alloc, &accepted)?;
+    same(&rt, "accepted", text.as_str(), "accepted mate 4\n");
     let table = [
         (
             Cause::Expansions(7),
@@ -48,11 +52,11 @@ fn each_cause_has_its_text(rt: HostRuntime) -> Result<(), Fail> {
         ),
         (Cause::Stopped(1), "checkmate timeout\nunknown stopped\n"),
     ];
-    for (cause, expected) in table {
-        let crew = Crew::new(Vec::new(rt.alloc()));
+    for (cause, wanted) in table {
+        let crew = Crew::new(Vec::new(alloc));
         let answer = Answer::Solved(Solution::Unknown(cause, crew));
-        let text = answer_text(rt.alloc(), &answer)?;
-        assert!(rt; text.as_slice() == expected.as_bytes(), "{expected}");
+        let text = text_of(alloc, &answer)?;
+        same(&rt, cause, text.as_str(), wanted);
     }
     Ok(())
 }
@@ -60,13 +64,8 @@ fn each_cause_has_its_text(rt: HostRuntime) -> Result<(), Fail> {
 #[test]
 fn a_survey_counts_how_its_problems_ended(rt: HostRuntime) -> Result<(), Fail> {
     let alloc = rt.alloc();
-    let one = Summary {
-        seed: 0,
-        tallies: Tallies::new(vec![in alloc; Tally::Mate]?),
-    };
-    let text = answer_text(alloc, &Answer::Surveyed(one))?;
-    assert!(rt; text.as_slice() == b"survey 0 1\nmate 1\nnomate 0\nunknown 0\n".as_slice());
-    let tallies = vec![in alloc;
+    let one = vec![in alloc; Tally::Mate]?;
+    let six = vec![in alloc;
         Tally::NoMate,
         Tally::Unknown(Cause::Expansions(9)),
         Tally::NoMate,
@@ -74,13 +73,20 @@ fn a_survey_counts_how_its_problems_ended(rt: HostRuntime) -> Result<(), Fail> {
         Tally::NoMate,
         Tally::Unknown(Cause::Room(2)),
     ]?;
+    let one = Summary {
+        seed: 0,
+        tallies: Tallies::new(one),
+    };
+    let text = text_of(alloc, &Answer::Surveyed(one))?;
+    let wanted = "survey 0 1\nmate 1\nnomate 0\nunknown 0\n";
+    same(&rt, "of one", text.as_str(), wanted);
     let six = Summary {
         seed: 1_000_000_000,
-        tallies: Tallies::new(tallies),
+        tallies: Tallies::new(six),
     };
-    let text = answer_text(alloc, &Answer::Surveyed(six))?;
-    let expected = "survey 1000000000 6\nmate 1\nnomate 3\nunknown 2\n";
-    assert!(rt; text.as_slice() == expected.as_bytes());
+    let text = text_of(alloc, &Answer::Surveyed(six))?;
+    let wanted = "survey 1000000000 6\nmate 1\nnomate 3\nunknown 2\n";
+    same(&rt, "of six", text.as_str(), wanted);
     Ok(())
 }
 
@@ -117,13 +123,13 @@ fn told(
     number: u64,
     report: &Report,
     certificates: bool,
-) -> Result<Vec<u8>, AllocError>
+) -> Result<String, Fail>
     requires { HasReportLine report.now }
 {
     let mut text = Vec::new(alloc);
     text.extend_from_slice(before.as_bytes())?;
     append_report(&mut text, number, report, certificates)?;
-    Ok(text)
+    Ok(String::from_utf8(text)?)
 }
 
 #[test]
@@ -133,11 +139,11 @@ fn a_verdict_is_a_line_and_its_certificate(rt: HostRuntime) -> Result<(), Fail> 
     for (certificate, line) in table {
         let report = verdict(alloc, certificate)?.expect(&rt, "a certificate");
         let text = told(alloc, "1 nomate\n", 4, &report, false)?;
-        let expected = format!(in alloc; "1 nomate\n{line}")?;
-        assert!(rt; text.as_slice() == expected.as_bytes(), "{line}");
+        let wanted = format!(in alloc; "1 nomate\n{line}")?;
+        same(&rt, line, text.as_str(), wanted.as_str());
         let text = told(alloc, "1 nomate\n", 4, &report, true)?;
-        let expected = format!(in alloc; "1 nomate\n{line}{certificate}")?;
-        assert!(rt; text.as_slice() == expected.as_bytes(), "{line}");
+        let wanted = format!(in alloc; "1 nomate\n{line}{certificate}")?;
+        same(&rt, line, text.as_str(), wanted.as_str());
     }
     Ok(())
 }
@@ -150,11 +156,11 @@ fn a_line_without_a_verdict_says_why(rt: HostRuntime) -> Result<(), Fail> {
     let bad = Report::Fault(LineFault::Problem(ProblemFault::Text(TextFault::BadPiece(7))));
     let long = Report::Fault(LineFault::TooLong);
     let text = told(alloc, "", 12, &used_up, true)?;
-    assert!(rt; text.as_slice() == b"12 unknown expansions 100\n".as_slice());
+    same(&rt, "used up", text.as_str(), "12 unknown expansions 100\n");
     let text = told(alloc, "", 5, &bad, true)?;
-    assert!(rt; text.as_slice() == b"5 fault bad piece at 7\n".as_slice());
+    same(&rt, "bad", text.as_str(), "5 fault bad piece at 7\n");
     let text = told(alloc, "", 16_777_217, &long, false)?;
-    assert!(rt; text.as_slice() == b"16777217 fault too long\n".as_slice());
+    same(&rt, "long", text.as_str(), "16777217 fault too long\n");
     Ok(())
 }
 
@@ -162,22 +168,22 @@ fn a_line_without_a_verdict_says_why(rt: HostRuntime) -> Result<(), Fail> {
 fn a_collection_counts_its_reports(rt: HostRuntime) -> Result<(), Fail> {
     let alloc = rt.alloc();
     let mut counts = Counts::none();
-    let text = answer_text(alloc, &Answer::Collected(counts))?;
-    let expected = "problems 0 mate 0 nomate 0 unknown 0 fault 0\n";
-    assert!(rt; text.as_slice() == expected.as_bytes());
+    let text = text_of(alloc, &Answer::Collected(counts))?;
+    let wanted = "problems 0 mate 0 nomate 0 unknown 0 fault 0\n";
+    same(&rt, "no report", text.as_str(), wanted);
     let mate = verdict(alloc, ROOKS)?.expect(&rt, "a certificate");
     counts.add(&mate);
     counts.add(&mate);
     counts.add(&Report::Fault(LineFault::TooLong));
-    let text = answer_text(alloc, &Answer::Collected(counts))?;
-    let expected = "problems 3 mate 2 nomate 0 unknown 0 fault 1\n";
-    assert!(rt; text.as_slice() == expected.as_bytes());
+    let text = text_of(alloc, &Answer::Collected(counts))?;
+    let wanted = "problems 3 mate 2 nomate 0 unknown 0 fault 1\n";
+    same(&rt, "three reports", text.as_str(), wanted);
     let none = verdict(alloc, NONE)?.expect(&rt, "a certificate");
     counts.add(&none);
     let crew = Crew::new(Vec::new(alloc));
     counts.add(&Report::Solved(Solution::Unknown(Cause::Room(1), crew)));
-    let text = answer_text(alloc, &Answer::Collected(counts))?;
-    let expected = "problems 5 mate 2 nomate 1 unknown 1 fault 1\n";
-    assert!(rt; text.as_slice() == expected.as_bytes());
+    let text = text_of(alloc, &Answer::Collected(counts))?;
+    let wanted = "problems 5 mate 2 nomate 1 unknown 1 fault 1\n";
+    same(&rt, "five reports", text.as_str(), wanted);
     Ok(())
 }

@@ -1,11 +1,17 @@
-//! What is asked for by lines of words, and what the texts of refusals and of help say.
-use tsume_words::*;
+// What is asked for by lines of words, and what the texts of refusals and of help say.
+use crate::lines::words_of;
+use crate::same::same;
 use std::alloc::{AllocError, Global};
 use std::test::Fail;
+use tsume_words::{
+    Asked, CollectionForm, Command, Format, Settings, SurveyRange, WordsEnd, read_words,
+};
 
-// A line, and what it asks for: the numbers in the order of the settings, whether `--rest` stands, `kif` where `--kif` does, `until` the
-// deadline, and `telling` where `--progress` stands; or the workers; and the file.
-static ASKED: [(&str, &str); 30] = [
+// A line, and what it asks for: the numbers in the order of the settings, whether `--rest` stands, `kif` where
+// `--kif` does, `until` the deadline, and `telling` where `--progress` stands; or the workers; and the file. Of
+// the commands over many problems the seed, the count and the expansions; or the settings, whether `--rest`
+// stands, `told` where `--certificates` does, and `by` the threads.
+static ASKED: [(&str, &str); 58] = [
     ("solve", "solve 1 1000000 1048576 65536 16 false"),
     ("solve --rest", "solve 1 1000000 1048576 65536 16 true"),
     ("solve --kif", "solve 1 1000000 1048576 65536 16 false kif"),
@@ -75,11 +81,7 @@ static ASKED: [(&str, &str); 30] = [
     ("solve --rows 24", "rows is no power of two"),
     ("solve --rows 1000 --shards 3", "rows is no power of two"),
     ("solve --shards 24", "shards is no power of two"),
-];
-
-// The same of the commands over many problems: the seed, the count and the expansions; or the settings, whether `--rest` stands,
-// `told` where `--certificates` does, and `by` the threads.
-static MANY_ASKED: [(&str, &str); 28] = [
+    // Of the commands over many problems.
     ("survey", "survey 0 100 10000"),
     ("survey --seed 1000000000", "survey 1000000000 100 10000"),
     ("survey --count 1", "survey 0 1 10000"),
@@ -159,7 +161,7 @@ static MANY_ASKED: [(&str, &str); 28] = [
 ];
 
 // A line that is refused, and how its text begins.
-static REFUSED: [(&str, &str); 24] = [
+static REFUSED: [(&str, &str); 39] = [
     ("solve --rows 16 --shards 32", "more shards than rows"),
     ("", "Solves tsume-shogi problems"),
     ("dance", "error: unrecognized subcommand 'dance'"),
@@ -238,10 +240,7 @@ static REFUSED: [(&str, &str); 24] = [
         "solve --rest --rest",
         "error: the argument '--rest' cannot be used multiple times",
     ),
-];
-
-// The same of the commands over many problems.
-static MANY_REFUSED: [(&str, &str); 15] = [
+    // Of the commands over many problems.
     (
         "survey --seed 1000000001",
         "error: invalid value '1000000001' for '--seed <N>': 1000000001 is not in 0..=1000000000",
@@ -383,14 +382,6 @@ static HELPED: [(&str, &str); 27] = [
 // What has no effect yet, and isn't shown.
 static HIDDEN: [&str; 2] = ["--workers", "--shards"];
 
-fn words_of(alloc: Global, line: &str) -> Result<Vec<String>, AllocError> {
-    let mut words = Vec::new(alloc);
-    for word in line.split_whitespace() {
-        words.push(word.to_string(alloc)?)?;
-    }
-    Ok(words)
-}
-
 fn command_text(alloc: Global, command: &Command) -> Result<String, AllocError> {
     match command {
         Command::Solve {
@@ -482,11 +473,7 @@ fn meaning(alloc: Global, line: &str) -> Result<String, AllocError> {
 fn lines_ask_for_what_they_say(rt: HostRuntime) -> Result<(), Fail> {
     for (line, asked) in ASKED {
         let text = meaning(rt.alloc(), line)?;
-        assert_eq!(rt; text.as_str(), asked);
-    }
-    for (line, asked) in MANY_ASKED {
-        let text = meaning(rt.alloc(), line)?;
-        assert_eq!(rt; text.as_str(), asked);
+        same(&rt, line, text.as_str(), asked);
     }
     Ok(())
 }
@@ -495,12 +482,9 @@ fn lines_ask_for_what_they_say(rt: HostRuntime) -> Result<(), Fail> {
 fn refusals_say_why(rt: HostRuntime) -> Result<(), Fail> {
     for (line, beginning) in REFUSED {
         let text = meaning(rt.alloc(), line)?;
-        assert!(rt; text.as_str().starts_with(beginning), "{line}: {text}");
-        assert!(rt; !text.as_str().ends_with("\n"), "{line}");
-    }
-    for (line, beginning) in MANY_REFUSED {
-        let text = meaning(rt.alloc(), line)?;
-        assert!(rt; text.as_str().starts_with(beginning), "{line}: {text}");
+        let text = text.as_str();
+        same(&rt, (line, text), text.starts_with(beginning), true);
+        same(&rt, line, text.ends_with("\n"), false);
     }
     Ok(())
 }
@@ -509,14 +493,15 @@ fn refusals_say_why(rt: HostRuntime) -> Result<(), Fail> {
 fn help_teaches_each_option_in_narrow_lines(rt: HostRuntime) -> Result<(), Fail> {
     for (line, piece) in HELPED {
         let text = meaning(rt.alloc(), line)?;
-        assert!(rt; text.as_str().contains(piece), "{line}: {text}");
+        let text = text.as_str();
+        same(&rt, (line, text), text.contains(piece), true);
         // As no refusal's.
-        assert!(rt; text.as_str().ends_with("\n"), "{line}");
-        for row in text.as_str().lines() {
-            assert!(rt; row.chars().count() < 80, "{line}: {row}");
+        same(&rt, line, text.ends_with("\n"), true);
+        for row in text.lines() {
+            same(&rt, (line, row), row.chars().count() < 80, true);
         }
         for option in HIDDEN {
-            assert!(rt; !text.as_str().contains(option), "{line}: {option}");
+            same(&rt, (line, option), text.contains(option), false);
         }
     }
     Ok(())
