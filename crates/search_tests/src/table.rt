@@ -8,7 +8,7 @@ ghost use Rattle.table_shard.specs.Row.{HoldsAt};
 ghost use Rattle.table_shard.specs.Shard.{row_of};
 
 use crate::same::same;
-use board_core::{Key, key as key_of};
+use board_core::{Key, Move, key as key_of};
 use escapes::{Leaving, checked, evasions, note_of, path_through};
 use notes::{Kept, Note, Rule, Seen, Update};
 use path_tags::Path;
@@ -44,19 +44,21 @@ fn entered(shard: &mut Shard, word: u64, numbers: Numbers, pins: &[u64; 8]) -> K
     shard.enter(shard.spot_of(&key), &key, numbers, pins)
 }
 
+#[test]
+fn a_key_has_its_row_among_many_and_among_few(rt: HostRuntime) -> Result<(), Fail> {
+    let board = Key([0, 0, 0, 1046, 0, 0, 0, 16384]);
+    let many = Shard::make(rt.alloc(), 16_384)?;
+    same(&rt, "of many", many.spot_of(&board).place, 7515);
+    let few = Shard::make(rt.alloc(), 16)?;
+    same(&rt, "of few", few.spot_of(&board).place, 11);
+    Ok(())
+}
+
 // Eight entries in the one row, and a ninth for each count of workers.
 #[test]
 fn a_full_row_gives_up_an_entry_that_no_worker_is_below(rt: HostRuntime) -> Result<(), Fail> {
     let path = Path::make(rt.alloc());
     let numbers = Numbers { pn: 2, dn: 3 };
-    // The rows of one key, among many and among few.
-    let board = Key([0, 0, 0, 1046, 0, 0, 0, 16384]);
-    let (many, few) = (
-        Shard::make(rt.alloc(), 16_384)?,
-        Shard::make(rt.alloc(), 16)?,
-    );
-    same(&rt, "of many rows", many.spot_of(&board).place, 7515);
-    same(&rt, "of few rows", few.spot_of(&board).place, 11);
     let all = [1, 1, 1, 1, 1, 1, 1, 1];
     // The counts, what entering answers, and the entry that is given up.
     let table = [
@@ -119,6 +121,25 @@ fn rule_on(shard: &Shard, key: &Key, path: &Path) -> Result<Option<Rule>, AllocE
     })
 }
 
+// A note that is left, and the rules of those that show where the path has the position after the first evasion,
+// where it has those after all, and where it has none.
+fn left_in_turn(moves: [Move; 5]) -> [(Leaving, [Option<Rule>; 3]); 7] {
+    let [first, second, third, fourth, fifth] = moves;
+    let (one, two) = (Rule::EscapeRepeat(first), Rule::EscapeRepeat(second));
+    let closed = Some(Rule::EscapeBy(first));
+    [
+        (Leaving::Repeat(first), [Some(one), Some(one), None]),
+        (Leaving::Repeat(second), [Some(one), Some(one), None]),
+        (Leaving::Repeat(third), [Some(one), Some(one), None]),
+        (Leaving::Repeat(fourth), [Some(one), Some(one), None]),
+        // The first goes for the fifth.
+        (Leaving::Repeat(fifth), [None, Some(two), None]),
+        (Leaving::Escape(first), [closed, closed, closed]),
+        // None is kept beside one that holds on every path.
+        (Leaving::Repeat(second), [closed, closed, closed]),
+    ]
+}
+
 // A king has five evasions; each is noted as a repetition, and the first, which takes the rook, as an escape for good.
 #[test]
 fn a_note_counts_where_its_position_is_on_the_path(rt: HostRuntime) -> Result<(), Fail> {
@@ -127,28 +148,7 @@ fn a_note_counts_where_its_position_is_on_the_path(rt: HostRuntime) -> Result<()
         return Err(Fail::from("no position"));
     };
     let moves = evasions();
-    let [first, second, third, fourth, fifth] = moves;
-    let (one, two) = (Rule::EscapeRepeat(first), Rule::EscapeRepeat(second));
-    let closed = Rule::EscapeBy(first);
-    // A note that is left, and the rules of those that show where the path has the position after the first evasion,
-    // where it has those after all, and where it has none.
-    let table = [
-        (Leaving::Repeat(first), [Some(one), Some(one), None]),
-        (Leaving::Repeat(second), [Some(one), Some(one), None]),
-        (Leaving::Repeat(third), [Some(one), Some(one), None]),
-        (Leaving::Repeat(fourth), [Some(one), Some(one), None]),
-        // The first goes for the fifth.
-        (Leaving::Repeat(fifth), [None, Some(two), None]),
-        (
-            Leaving::Escape(first),
-            [Some(closed), Some(closed), Some(closed)],
-        ),
-        // None is kept beside one that holds on every path.
-        (
-            Leaving::Repeat(second),
-            [Some(closed), Some(closed), Some(closed)],
-        ),
-    ];
+    let [first, _, _, _, _] = moves;
     let paths = [
         path_through(alloc, &problem, &position, &[first])?,
         path_through(alloc, &problem, &position, &moves)?,
@@ -160,11 +160,11 @@ fn a_note_counts_where_its_position_is_on_the_path(rt: HostRuntime) -> Result<()
     let Kept::Slot(slot) = shard.enter(spot, &key, Numbers::ONE, &[0; 8]) else {
         return Err(Fail::from("no slot"));
     };
-    for (leaving, wanted) in table {
+    for (leaving, wanted) in left_in_turn(moves) {
         let note = note_of(alloc, &problem, &position, leaving);
         let left = leave(&mut shard, slot, &key, note);
-        same(&rt, "left", left, true);
-        same(&rt, "rules", rules_on(&shard, &key, &paths)?, wanted);
+        same(&rt, leaving, left, true);
+        same(&rt, leaving, rules_on(&shard, &key, &paths)?, wanted);
     }
     Ok(())
 }

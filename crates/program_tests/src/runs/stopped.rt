@@ -73,30 +73,31 @@ fn deadlines(alloc: Global) -> Result<Vec<DeadlineStop<TickingClock>>, AllocErro
     Ok(stops)
 }
 
+// Words, and the status and what is kept: the clock is read when the stop is armed and at each poll, once before
+// each unit.
+static UNTIL: [(&str, u8, &str); 5] = [
+    (
+        "solve --deadline 1",
+        1,
+        "checkmate timeout\nunknown stopped\n",
+    ),
+    (
+        "solve --deadline 2 --expansions 1",
+        1,
+        "checkmate timeout\nunknown stopped\n",
+    ),
+    (
+        "solve --deadline 3 --expansions 1",
+        1,
+        "checkmate timeout\nunknown expansions 1\n",
+    ),
+    ("solve --deadline 86400000", 0, TWO_ROOKS_TEXT),
+    ("solve", 0, TWO_ROOKS_TEXT),
+];
+
 #[test]
 fn a_deadline_counts_from_when_the_search_begins(rt: HostRuntime) -> Result<(), Fail> {
-    // Words, and the status and what is kept: the clock is read when the stop is armed and at each poll, once before
-    // each unit.
-    let table = [
-        (
-            "solve --deadline 1",
-            1,
-            "checkmate timeout\nunknown stopped\n",
-        ),
-        (
-            "solve --deadline 2 --expansions 1",
-            1,
-            "checkmate timeout\nunknown stopped\n",
-        ),
-        (
-            "solve --deadline 3 --expansions 1",
-            1,
-            "checkmate timeout\nunknown expansions 1\n",
-        ),
-        ("solve --deadline 86400000", 0, TWO_ROOKS_TEXT),
-        ("solve", 0, TWO_ROOKS_TEXT),
-    ];
-    for (words, status, kept) in table {
+    for (words, status, kept) in UNTIL {
         let mut stops = deadlines(rt.alloc())?;
         let seen = seen_by(
             &rt,

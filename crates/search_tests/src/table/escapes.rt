@@ -110,7 +110,7 @@ fn escaped(alloc: Global, problem: &Problem, position: &Position, evasion: Move)
 }
 
 // A note that is left.
-#[derive(Clone, Copy)]
+#[derive(Clone, Copy, Debug)]
 pub(super) enum Leaving {
     // That the evasion leads to a repetition.
     Repeat(Move),
