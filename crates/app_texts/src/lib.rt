@@ -12,8 +12,6 @@ mod fault;
 mod report;
 mod report_text;
 mod tallies;
-#[cfg(test)]
-mod tests;
 mod text;
 
 pub use answer::{Answer, Judgement, MainLine, Solution};

@@ -4,7 +4,5 @@ pub mod Slots
 pub mod Rows
 pub mod Places
 pub mod Asked
-pub mod Starved
-pub mod Learnt
 mod Renewed
 pub mod Stepped

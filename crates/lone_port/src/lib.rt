@@ -11,8 +11,6 @@
 mod event;
 mod lone;
 mod stepping;
-#[cfg(test)]
-mod tests;
 
 pub use event::Event;
 pub use lone::LonePort;

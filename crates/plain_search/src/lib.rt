@@ -17,8 +17,6 @@ mod levels;
 mod mate;
 mod outcome;
 mod ranks;
-#[cfg(test)]
-mod tests;
 
 pub use levels::search;
 pub use outcome::Outcome;

@@ -10,8 +10,6 @@ mod report;
 mod reports;
 mod seat;
 mod solution;
-#[cfg(test)]
-mod tests;
 
 pub use problem::read_problem;
 pub use reports::{Reported, Reports};

@@ -11,6 +11,3 @@ pub use clock::{Clock, DeadlineStop};
 pub use expansions::{Expansions, MOST_EXPANSIONS};
 pub use gate::{Gate, OpenGate};
 pub use stop::{MemStop, QuietStop, Stop};
-
-#[cfg(test)]
-mod tests;

@@ -9,8 +9,6 @@ mod alone;
 mod end;
 mod table;
 mod tally;
-#[cfg(test)]
-mod tests;
 
 pub use alone::{search_alone, search_alone_gated, search_alone_until};
 pub use end::{Crew, SearchEnd};

@@ -3,7 +3,5 @@
 #![tactic(auto)]
 
 mod starting;
-#[cfg(test)]
-mod tests;
 
 pub use starting::start;

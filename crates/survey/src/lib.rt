@@ -8,7 +8,5 @@
 mod apart;
 mod decide;
 mod tallies;
-#[cfg(test)]
-mod tests;
 
 pub use tallies::{MOST_COUNT, MOST_SEED, survey};

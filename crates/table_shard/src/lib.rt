@@ -13,8 +13,6 @@ mod facts;
 mod hash;
 mod row;
 mod shard;
-#[cfg(test)]
-mod tests;
 
 pub use hash::Spot;
 pub use shard::Shard;

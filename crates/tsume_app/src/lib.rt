@@ -22,6 +22,3 @@ pub use exit::Exit;
 pub use input::{Input, MOST_CERTIFICATE_BYTES, MOST_COLLECTION_BYTES, MOST_PROBLEM_BYTES};
 pub use program::{named_file, run, told_limit};
 pub use telling::{Told, run_and_tell, start, tell};
-
-#[cfg(test)]
-mod tests;

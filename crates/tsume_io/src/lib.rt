@@ -25,6 +25,3 @@ pub use opened::{Noted, Opened};
 pub use sink::{Sink, WriteFault, write_all};
 pub use source::{ReadEnd, Source, read_all};
 pub use standard::{StdSink, StdSource};
-
-#[cfg(test)]
-mod tests;

@@ -23,6 +23,3 @@ pub use many::{CollectionForm, MOST_COUNT, MOST_SEED, MOST_THREADS, SurveyRange}
 pub use reading::read_words;
 pub use settings::{LEAST_ROWS, MOST_ROOM, MOST_ROWS, MOST_SHARDS, MOST_WORKERS, Settings};
 pub use watch::{MOST_DEADLINE, Watch};
-
-#[cfg(test)]
-mod tests;

@@ -13,8 +13,6 @@ mod desk;
 mod faults;
 mod making;
 mod settings;
-#[cfg(test)]
-mod tests;
 
 pub use cause::Cause;
 pub use desk::Desk;

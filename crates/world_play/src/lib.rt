@@ -6,8 +6,6 @@
 
 mod crew;
 mod laws;
-#[cfg(test)]
-mod tests;
 mod world;
 
 pub use crew::{starve_in_crew, turn_in_crew};

@@ -1,5 +1,0 @@
-use Rattle.lone_port.specs.Lone.{worker_at_first}
-use Rattle.lone_port.proofs.tests.chased.told.Goals as goal
-
-pub learn-requires-clause-some : goal.learn-requires-clause-some
-learn-requires-clause-some c = (worker_at_first c.args.problem.now.position 1, c.in_ok-port.ensures.suits 1)

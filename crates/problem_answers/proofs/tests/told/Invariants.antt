@@ -1,5 +1,0 @@
-use Rattle.std.proofs.Common.{length}
-use Rattle.problem_answers.proofs.tests.told.Given as goal
-
-abbrev pub decreases-loop-reports : goal.decreases-loop-reports
-decreases-loop-reports g l = length l.reports.lines

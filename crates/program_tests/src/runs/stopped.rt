@@ -1,0 +1,146 @@
+// Runs that pass a gate and poll stops.
+ghost use Rattle.std.specs.Prelude.{◌≡◌, IfOk, vec_len};
+ghost use Rattle.tsume_words.specs.declared.settings.TheConstants.{MOST_WORKERS};
+
+use super::examples::{NO_CHECK_TEXT, TWO_ROOKS, TWO_ROOKS_TEXT};
+use super::seen::{seen_by, stops_at};
+use crate::same::same;
+use search_gate::{Clock, DeadlineStop, Gate, OpenGate};
+use std::alloc::{AllocError, Global};
+use std::sync::atomic::{AtomicU64, Ordering};
+use std::test::Fail;
+use tsume_words::MOST_WORKERS;
+
+// A gate that counts how often it is passed, and how often not as the first worker with the next number.
+#[derive(Drop)]
+struct Counting {
+    passed: AtomicU64,
+    wrong: AtomicU64,
+}
+
+impl Gate for Counting {
+    fn pass(&self, worker: u32, expansion: u64) {
+        let before = self.passed.fetch_add(1, Ordering::SeqCst);
+        if worker != 1 || expansion != before.wrapping_add(1) {
+            self.wrong.fetch_add(1, Ordering::SeqCst);
+        }
+    }
+}
+
+#[test]
+fn the_gate_is_passed_for_each_unit(rt: HostRuntime) -> Result<(), Fail> {
+    // Another program solves it with 85 units, and not with 84.
+    let problem = "9/9/3p5/2K6/k8/1L7/1+r3+R3/9/9 b 2GLsn 1\n";
+    let gate = Counting {
+        passed: AtomicU64::new(0),
+        wrong: AtomicU64::new(0),
+    };
+    let mut stops = stops_at(rt.alloc(), 0)?;
+    let seen = seen_by(&rt, "solve", problem, (7, 0), (11, 0), &gate, &mut stops)?;
+    same(&rt, problem, seen.status, 0);
+    same(&rt, problem, gate.passed.load(Ordering::SeqCst), 85);
+    same(&rt, problem, gate.wrong.load(Ordering::SeqCst), 0);
+    Ok(())
+}
+
+// A clock that shows a millisecond more each time it is read.
+#[derive(Drop)]
+struct TickingClock {
+    shown: u64,
+    asks: u64,
+}
+
+impl Clock for TickingClock {
+    ghost answered = { λ clock. clock.shown };
+
+    ghost asked = { λ clock. clock.asks };
+
+    fn now(&mut self) -> u64 {
+        self.asks = self.asks.saturating_add(1);
+        self.shown = self.shown.saturating_add(1);
+        self.shown
+    }
+}
+
+// A stop for each worker that there may be, by a clock of its own.
+fn deadlines(alloc: Global) -> Result<Vec<DeadlineStop<TickingClock>>, AllocError>
+    ensures { IfOk result (λ stops. vec_len stops ≡ MOST_WORKERS) }
+{
+    let mut stops = Vec::new(alloc);
+    for _ in 0..MOST_WORKERS {
+        stops.push(DeadlineStop::new(TickingClock { shown: 0, asks: 0 }))?;
+    }
+    Ok(stops)
+}
+
+// Words, and the status and what is kept: the clock is read when the stop is armed and at each poll, once before
+// each unit.
+static UNTIL: [(&str, u8, &str); 5] = [
+    (
+        "solve --deadline 1",
+        1,
+        "checkmate timeout\nunknown stopped\n",
+    ),
+    (
+        "solve --deadline 2 --expansions 1",
+        1,
+        "checkmate timeout\nunknown stopped\n",
+    ),
+    (
+        "solve --deadline 3 --expansions 1",
+        1,
+        "checkmate timeout\nunknown expansions 1\n",
+    ),
+    ("solve --deadline 86400000", 0, TWO_ROOKS_TEXT),
+    ("solve", 0, TWO_ROOKS_TEXT),
+];
+
+#[test]
+fn a_deadline_counts_from_when_the_search_begins(rt: HostRuntime) -> Result<(), Fail> {
+    for (words, status, kept) in UNTIL {
+        let mut stops = deadlines(rt.alloc())?;
+        let seen = seen_by(
+            &rt,
+            words,
+            TWO_ROOKS,
+            (7, 0),
+            (11, 0),
+            &OpenGate,
+            &mut stops,
+        )?;
+        same(
+            &rt,
+            words,
+            (seen.status, seen.kept.as_str()),
+            (status, kept),
+        );
+    }
+    Ok(())
+}
+
+#[test]
+fn a_search_ends_where_it_is_stopped(rt: HostRuntime) -> Result<(), Fail> {
+    let stopped = "checkmate timeout\nunknown stopped\n";
+    // Words, a problem, the poll at which the worker is stopped, and the status and what is kept.
+    let table = [
+        ("solve", TWO_ROOKS, 1, 1, stopped),
+        ("solve --expansions 1", TWO_ROOKS, 2, 1, stopped),
+        // The stop comes too late: all expansions are used up; the problem is solved.
+        (
+            "solve --expansions 1",
+            TWO_ROOKS,
+            3,
+            1,
+            "checkmate timeout\nunknown expansions 1\n",
+        ),
+        ("solve", "4k4/9/9/9/9/9/9/9/9 b - 1\n", 2, 0, NO_CHECK_TEXT),
+    ];
+    for (words, input, poll, status, kept) in table {
+        let mut stops = stops_at(rt.alloc(), poll)?;
+        let seen = seen_by(&rt, words, input, (7, 0), (11, 0), &OpenGate, &mut stops)?;
+        let row = (words, input, poll);
+        same(&rt, row, (seen.status, seen.kept.as_str()), (status, kept));
+        same(&rt, row, seen.fault.as_str(), "");
+    }
+    Ok(())
+}

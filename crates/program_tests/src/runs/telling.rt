@@ -1,0 +1,96 @@
+// What the user is told on how a run ended.
+use super::examples::{GOLD, OPEN_ESCAPE, TWO_ROOKS};
+use super::seen::stops_at;
+use crate::lines::words_of;
+use crate::same::same;
+use search_gate::OpenGate;
+use std::test::Fail;
+use std::thread::Threads;
+use tsume_app::run_and_tell;
+use tsume_io::{MemSink, MemSource};
+
+// Words, an input, the failing call of the sink and of the user's sink; the status, and what the user is told.
+static TOLD: [(&str, &str, u64, u64, u8, &str); 9] = [
+    ("solve", GOLD, 0, 0, 0, ""),
+    ("solve --expansions 1", TWO_ROOKS, 0, 0, 1, ""),
+    (
+        "solve",
+        "",
+        0,
+        0,
+        3,
+        "tsume: bad row at 0\nThe input is empty. A problem is one line, an SFEN: the board, the side to\nmove, and the hands.\n",
+    ),
+    (
+        "solve",
+        "4k4/9/9/9/9/9/9/9/4R4 b - 1\n",
+        0,
+        0,
+        3,
+        "tsume: defender in check\nThe side to move attacks, and the other king is in check already: no legal move\nled here. Is the other side to move?\n",
+    ),
+    (
+        "solve --kif",
+        GOLD,
+        0,
+        0,
+        3,
+        "tsume: no diagram\nThis looks like an SFEN, which is read without --kif.\n",
+    ),
+    (
+        "solve --rows 24",
+        GOLD,
+        0,
+        0,
+        2,
+        "tsume: rows is no power of two\n",
+    ),
+    (
+        "solve",
+        GOLD,
+        1,
+        0,
+        5,
+        "tsume: write fault\nThe answer couldn't be written whole, so don't rely on what stands there of it.\nIs the disk full, or did the reader of a pipe end?\n",
+    ),
+    ("check", OPEN_ESCAPE, 0, 0, 7, ""),
+    ("check", GOLD, 0, 2, 3, "tsume: bad "),
+];
+
+// The status of a run on the words of a line, with sinks that fail at the calls of these numbers, and what the
+// user's has kept.
+fn told<R: Threads + AllocGlobal + Sync>(
+    rt: &R,
+    line: &str,
+    input: &str,
+    sink: u64,
+    user: u64,
+) -> Result<(u8, String), Fail> {
+    let alloc = rt.alloc();
+    let words = words_of(alloc, line)?;
+    let bytes = Vec::from_slice(alloc, input.as_bytes())?;
+    let mut from = MemSource::make(bytes, 7, Vec::new(alloc));
+    let mut to = MemSink::make(alloc, 4096, 11, Vec::from_slice(alloc, &[sink])?)?;
+    let mut errors = MemSink::make(alloc, 4096, 11, Vec::from_slice(alloc, &[user])?)?;
+    let status = run_and_tell(
+        rt,
+        alloc,
+        words,
+        &mut from,
+        &mut to,
+        &mut errors,
+        &OpenGate,
+        &mut stops_at(alloc, 0)?,
+    );
+    let kept = Vec::from_slice(alloc, errors.kept())?;
+    Ok((status, String::from_utf8(kept)?))
+}
+
+#[test]
+fn the_user_is_told_how_a_run_ended(rt: HostRuntime) -> Result<(), Fail> {
+    for (line, input, sink, user, status, wanted) in TOLD {
+        let (found, text) = told(&rt, line, input, sink, user)?;
+        same(&rt, (line, input), (found, text.as_str()), (status, wanted));
+    }
+    Ok(())
+}

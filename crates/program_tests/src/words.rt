@@ -1,0 +1,508 @@
+// What is asked for by lines of words, and what the texts of refusals and of help say.
+use crate::lines::words_of;
+use crate::same::same;
+use std::alloc::{AllocError, Global};
+use std::test::Fail;
+use tsume_words::{
+    Asked, CollectionForm, Command, Format, Settings, SurveyRange, WordsEnd, read_words,
+};
+
+// A line, and what it asks for: the numbers in the order of the settings, whether `--rest` stands, `kif` where
+// `--kif` does, `until` the deadline, and `telling` where `--progress` stands; or the workers; and the file. Of
+// the commands over many problems the seed, the count and the expansions; or the settings, whether `--rest`
+// stands, `told` where `--certificates` does, and `by` the threads.
+static ASKED: [(&str, &str); 58] = [
+    ("solve", "solve 1 1000000 1048576 65536 16 false"),
+    ("solve --rest", "solve 1 1000000 1048576 65536 16 true"),
+    ("solve --kif", "solve 1 1000000 1048576 65536 16 false kif"),
+    (
+        "solve --rest --kif a.kif",
+        "solve 1 1000000 1048576 65536 16 true kif of a.kif",
+    ),
+    (
+        "solve --workers 64",
+        "solve 64 1000000 1048576 65536 16 false",
+    ),
+    (
+        "solve --workers=7",
+        "solve 7 1000000 1048576 65536 16 false",
+    ),
+    (
+        "solve --workers +5",
+        "solve 5 1000000 1048576 65536 16 false",
+    ),
+    (
+        "solve --workers 05",
+        "solve 5 1000000 1048576 65536 16 false",
+    ),
+    ("solve --expansions 1", "solve 1 1 1048576 65536 16 false"),
+    (
+        "solve --expansions 1000000000",
+        "solve 1 1000000000 1048576 65536 16 false",
+    ),
+    ("solve --room 1", "solve 1 1000000 1 65536 16 false"),
+    (
+        "solve --room 1400000",
+        "solve 1 1000000 1400000 65536 16 false",
+    ),
+    ("solve --rows 16", "solve 1 1000000 1048576 16 16 false"),
+    (
+        "solve --rows 1048576",
+        "solve 1 1000000 1048576 1048576 16 false",
+    ),
+    ("solve --shards 1", "solve 1 1000000 1048576 65536 1 false"),
+    (
+        "solve --shards 64",
+        "solve 1 1000000 1048576 65536 64 false",
+    ),
+    (
+        "solve --rest --shards 2 --rows 32 --room 3 --expansions 4 --workers 5",
+        "solve 5 4 3 32 2 true",
+    ),
+    (
+        "solve --deadline 1",
+        "solve 1 1000000 1048576 65536 16 false until 1",
+    ),
+    (
+        "solve --progress --deadline 86400000",
+        "solve 1 1000000 1048576 65536 16 false until 86400000 telling",
+    ),
+    ("check", "check 1"),
+    ("check --workers 3", "check 3"),
+    ("check --problem 4k4/9 --workers 2", "check 2 4k4/9"),
+    ("check a.cert", "check 1 of a.cert"),
+    ("check ../a --workers 2", "check 2 of ../a"),
+    ("check -", "check 1"),
+    ("check -- --help", "check 1 of --help"),
+    (
+        "solve --rest a/b.sfen",
+        "solve 1 1000000 1048576 65536 16 true of a/b.sfen",
+    ),
+    ("solve --rows 24", "rows is no power of two"),
+    ("solve --rows 1000 --shards 3", "rows is no power of two"),
+    ("solve --shards 24", "shards is no power of two"),
+    // Of the commands over many problems.
+    ("survey", "survey 0 100 10000"),
+    ("survey --seed 1000000000", "survey 1000000000 100 10000"),
+    ("survey --count 1", "survey 0 1 10000"),
+    ("survey --count=10000", "survey 0 10000 10000"),
+    ("survey --expansions 1", "survey 0 100 1"),
+    ("survey --expansions 1000000000", "survey 0 100 1000000000"),
+    ("survey --count 7 --seed 05 --expansions +9", "survey 5 7 9"),
+    ("collection", "collection 1 100000 1048576 65536 16 false"),
+    (
+        "collection --rest",
+        "collection 1 100000 1048576 65536 16 true",
+    ),
+    (
+        "collection --certificates",
+        "collection 1 100000 1048576 65536 16 false told",
+    ),
+    (
+        "collection --threads 1",
+        "collection 1 100000 1048576 65536 16 false by 1",
+    ),
+    (
+        "collection --threads 64",
+        "collection 1 100000 1048576 65536 16 false by 64",
+    ),
+    (
+        "collection --expansions 1",
+        "collection 1 1 1048576 65536 16 false",
+    ),
+    (
+        "collection --expansions 1000000000",
+        "collection 1 1000000000 1048576 65536 16 false",
+    ),
+    (
+        "collection --room 1",
+        "collection 1 100000 1 65536 16 false",
+    ),
+    (
+        "collection --room 1400000",
+        "collection 1 100000 1400000 65536 16 false",
+    ),
+    (
+        "collection --rows 16",
+        "collection 1 100000 1048576 16 16 false",
+    ),
+    (
+        "collection --rows 1048576",
+        "collection 1 100000 1048576 1048576 16 false",
+    ),
+    (
+        "collection --shards 64",
+        "collection 1 100000 1048576 65536 64 false",
+    ),
+    (
+        "collection --threads 3 --shards 2 --rows 32 --room 4 --expansions 5 --certificates --rest",
+        "collection 1 5 4 32 2 true told by 3",
+    ),
+    (
+        "collection a.sfen",
+        "collection 1 100000 1048576 65536 16 false of a.sfen",
+    ),
+    ("collection -", "collection 1 100000 1048576 65536 16 false"),
+    (
+        "collection --rest - --threads 2",
+        "collection 1 100000 1048576 65536 16 true by 2",
+    ),
+    (
+        "collection -- --rest",
+        "collection 1 100000 1048576 65536 16 false of --rest",
+    ),
+    ("collection --rows 24 --shards 3", "rows is no power of two"),
+    ("collection --shards 24", "shards is no power of two"),
+    ("collection --rows 16 --shards 32", "more shards than rows"),
+    (
+        "collection --rows 32 --shards 32",
+        "collection 1 100000 1048576 32 32 false",
+    ),
+];
+
+// A line that is refused, and how its text begins.
+static REFUSED: [(&str, &str); 39] = [
+    ("solve --rows 16 --shards 32", "more shards than rows"),
+    ("", "Solves tsume-shogi problems"),
+    ("dance", "error: unrecognized subcommand 'dance'"),
+    ("help dance", "error: unrecognized subcommand 'dance'"),
+    (
+        "solve --version",
+        "error: unexpected argument '--version' found",
+    ),
+    (
+        "check --problem",
+        "error: a value is required for '--problem <SFEN>'",
+    ),
+    (
+        "--workers 3",
+        "error: unexpected argument '--workers' found",
+    ),
+    ("solve a b", "error: unexpected argument 'b' found"),
+    ("check --kif", "error: unexpected argument '--kif' found"),
+    (
+        "check --rows 16",
+        "error: unexpected argument '--rows' found",
+    ),
+    (
+        "solve --rest=yes",
+        "error: unexpected value 'yes' for '--rest' found",
+    ),
+    (
+        "solve --workers",
+        "error: a value is required for '--workers <N>'",
+    ),
+    (
+        "solve --workers two",
+        "error: invalid value 'two' for '--workers <N>'",
+    ),
+    (
+        "solve --workers 0",
+        "error: invalid value '0' for '--workers <N>': 0 is not in 1..=64",
+    ),
+    (
+        "solve --workers 65",
+        "error: invalid value '65' for '--workers <N>': 65 is not in 1..=64",
+    ),
+    (
+        "check --workers 65",
+        "error: invalid value '65' for '--workers <N>': 65 is not in 1..=64",
+    ),
+    (
+        "solve --expansions 1000000001",
+        "error: invalid value '1000000001' for '--expansions <N>'",
+    ),
+    (
+        "solve --room 1400001",
+        "error: invalid value '1400001' for '--room <N>'",
+    ),
+    (
+        "solve --rows 8",
+        "error: invalid value '8' for '--rows <N>': 8 is not in 16..=1048576",
+    ),
+    (
+        "solve --rows 1048577",
+        "error: invalid value '1048577' for '--rows <N>'",
+    ),
+    (
+        "solve --shards 65",
+        "error: invalid value '65' for '--shards <N>'",
+    ),
+    (
+        "solve --deadline 0",
+        "error: invalid value '0' for '--deadline <MS>': 0 is not in 1..=86400000",
+    ),
+    (
+        "solve --workers 3 --workers 4",
+        "error: the argument '--workers <N>' cannot be used multiple times",
+    ),
+    (
+        "solve --rest --rest",
+        "error: the argument '--rest' cannot be used multiple times",
+    ),
+    // Of the commands over many problems.
+    (
+        "survey --seed 1000000001",
+        "error: invalid value '1000000001' for '--seed <N>': 1000000001 is not in 0..=1000000000",
+    ),
+    ("survey --seed -1", "error: unexpected argument '-1' found"),
+    (
+        "survey --count 0",
+        "error: invalid value '0' for '--count <N>': 0 is not in 1..=10000",
+    ),
+    (
+        "survey --count 10001",
+        "error: invalid value '10001' for '--count <N>': 10001 is not in 1..=10000",
+    ),
+    (
+        "survey --expansions 0",
+        "error: invalid value '0' for '--expansions <N>'",
+    ),
+    ("survey a.sfen", "error: unexpected argument 'a.sfen' found"),
+    ("survey --kif", "error: unexpected argument '--kif' found"),
+    (
+        "survey --rows 16",
+        "error: unexpected argument '--rows' found",
+    ),
+    (
+        "collection --threads 0",
+        "error: invalid value '0' for '--threads <N>': 0 is not in 1..=64",
+    ),
+    (
+        "collection --threads 65",
+        "error: invalid value '65' for '--threads <N>': 65 is not in 1..=64",
+    ),
+    (
+        "collection --workers 2",
+        "error: unexpected argument '--workers' found",
+    ),
+    (
+        "collection --kif",
+        "error: unexpected argument '--kif' found",
+    ),
+    (
+        "collection --deadline 5",
+        "error: unexpected argument '--deadline' found",
+    ),
+    (
+        "collection --progress",
+        "error: unexpected argument '--progress' found",
+    ),
+    (
+        "solve --threads 2",
+        "error: unexpected argument '--threads' found",
+    ),
+];
+
+// A request for help or for the version, and a part of its text.
+static HELPED: [(&str, &str); 27] = [
+    ("--version", "tsume 0.1.0\n"),
+    ("-V --help", "tsume 0.1.0\n"),
+    ("--help", "Usage: tsume <COMMAND>\n"),
+    (
+        "-h",
+        "\n  solve       Solves a problem (SFEN or KIF): its mate",
+    ),
+    (
+        "help",
+        "\n  check       Checks a certificate, alone or behind",
+    ),
+    (
+        "solve --help",
+        "\n      --expansions <N>  Visits of positions, of both sides, before it gives up,\n",
+    ),
+    (
+        "solve --workers 3 -h",
+        " search comes back to it [default: 1000000]\n",
+    ),
+    (
+        "help solve",
+        "\n      --deadline <MS>   Milliseconds after which it gives up",
+    ),
+    (
+        "solve -h",
+        "\n      --progress        Tell on standard error",
+    ),
+    (
+        "solve --rows 24 -h",
+        "\n      --rest            Give the defender all pieces",
+    ),
+    ("solve -h", " Off unless given; the search may list more\n"),
+    (
+        "solve -h",
+        "\n      --kif             Read the board diagram of a KIF file, in UTF-8, instead\n",
+    ),
+    (
+        "solve -h",
+        "Every interposition\ncounts, also one that only delays",
+    ),
+    ("help check", "Usage: tsume check [OPTIONS] [FILE]\n"),
+    (
+        "check --help",
+        "\n      --problem <SFEN>  Accept the certificate for this problem alone",
+    ),
+    ("check --help", " Default: the certificate's own problem."),
+    (
+        "-h",
+        "\n  collection  Tells of every problem of a text, an SFEN a line",
+    ),
+    (
+        "-h",
+        "\n  survey      Solves problems that it makes by number",
+    ),
+    ("help survey", "Usage: tsume survey [OPTIONS]\n"),
+    ("survey -h", "is one more search [default: 100]\n"),
+    (
+        "survey --help",
+        " search comes back to it [default: 10000]\n",
+    ),
+    (
+        "collection -h",
+        "Usage: tsume collection [OPTIONS] [FILE]\n",
+    ),
+    (
+        "collection --help",
+        "\n      --certificates    Print the certificate of each mate and each no mate\n",
+    ),
+    (
+        "collection --rows 24 -h",
+        "power of two, 16 to 1048576. A row takes 1 KB, all at\n",
+    ),
+    (
+        "help collection",
+        "text is too long, 2 words refused, 4 reading failed, 5 writing failed, 6 out of\n",
+    ),
+    (
+        "collection -h",
+        "\n      --threads <N>     Problems that are decided side by side, 1 to 64; where\n                        nothing is said, as many as there are processors. It\n",
+    ),
+    ("check --help", "-h, --help            Print help\n"),
+];
+
+// What has no effect yet, and isn't shown.
+static HIDDEN: [&str; 2] = ["--workers", "--shards"];
+
+fn command_text(alloc: Global, command: &Command) -> Result<String, AllocError> {
+    match command {
+        Command::Solve {
+            settings,
+            form,
+            watch,
+        } => {
+            let Settings {
+                workers,
+                expansions,
+                room,
+                rows,
+                shards,
+            } = *settings;
+            let expansions = expansions.count;
+            let rest = form.rest;
+            let kif = match form.format {
+                Format::Sfen => "",
+                Format::Kif => " kif",
+            };
+            let telling = if watch.progress { " telling" } else { "" };
+            let solve = format!(in alloc;
+                "solve {workers} {expansions} {room} {rows} {shards} {rest}{kif}"
+            )?;
+            match watch.deadline {
+                Some(end) => format!(in alloc; "{solve} until {end}{telling}"),
+                None => format!(in alloc; "{solve}{telling}"),
+            }
+        }
+        Command::Check { workers, problem } => match problem {
+            Some(problem) => format!(in alloc; "check {workers} {problem}"),
+            None => format!(in alloc; "check {workers}"),
+        },
+        Command::Survey { range } => survey_text(alloc, range),
+        Command::Collection { settings, form } => collection_text(alloc, settings, form),
+    }
+}
+
+fn survey_text(alloc: Global, range: &SurveyRange) -> Result<String, AllocError> {
+    let SurveyRange {
+        seed,
+        count,
+        expansions,
+    } = *range;
+    let expansions = expansions.count;
+    format!(in alloc; "survey {seed} {count} {expansions}")
+}
+
+fn collection_text(
+    alloc: Global,
+    settings: &Settings,
+    form: &CollectionForm,
+) -> Result<String, AllocError> {
+    let Settings {
+        workers,
+        expansions,
+        room,
+        rows,
+        shards,
+    } = *settings;
+    let expansions = expansions.count;
+    let rest = form.rest;
+    let told = if form.certificates { " told" } else { "" };
+    let collection = format!(in alloc;
+        "collection {workers} {expansions} {room} {rows} {shards} {rest}{told}"
+    )?;
+    match form.threads {
+        Some(threads) => format!(in alloc; "{collection} by {threads}"),
+        None => Ok(collection),
+    }
+}
+
+fn meaning(alloc: Global, line: &str) -> Result<String, AllocError> {
+    match read_words(alloc, words_of(alloc, line)?.as_slice()) {
+        Ok(Asked { command, file }) => {
+            let text = command_text(alloc, &command)?;
+            match file {
+                Some(file) => format!(in alloc; "{text} of {file}"),
+                None => Ok(text),
+            }
+        }
+        Err(WordsEnd::Help(text)) => Ok(text),
+        Err(WordsEnd::Fault(fault)) => format!(in alloc; "{fault}"),
+        Err(WordsEnd::NoMemory) => format!(in alloc; "out of memory"),
+    }
+}
+
+#[test]
+fn lines_ask_for_what_they_say(rt: HostRuntime) -> Result<(), Fail> {
+    for (line, asked) in ASKED {
+        let text = meaning(rt.alloc(), line)?;
+        same(&rt, line, text.as_str(), asked);
+    }
+    Ok(())
+}
+
+#[test]
+fn refusals_say_why(rt: HostRuntime) -> Result<(), Fail> {
+    for (line, beginning) in REFUSED {
+        let text = meaning(rt.alloc(), line)?;
+        let text = text.as_str();
+        same(&rt, (line, text), text.starts_with(beginning), true);
+        same(&rt, line, text.ends_with("\n"), false);
+    }
+    Ok(())
+}
+
+#[test]
+fn help_teaches_each_option_in_narrow_lines(rt: HostRuntime) -> Result<(), Fail> {
+    for (line, piece) in HELPED {
+        let text = meaning(rt.alloc(), line)?;
+        let text = text.as_str();
+        same(&rt, (line, text), text.contains(piece), true);
+        // As no refusal's.
+        same(&rt, line, text.ends_with("\n"), true);
+        for row in text.lines() {
+            same(&rt, (line, row), row.chars().count() < 80, true);
+        }
+        for option in HIDDEN {
+            same(&rt, (line, option), text.contains(option), false);
+        }
+    }
+    Ok(())
+}

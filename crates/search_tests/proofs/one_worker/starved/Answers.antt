@@ -1,0 +1,15 @@
+use Rattle.std.proofs.Common.{sym, subst}
+use Rattle.visit_log.specs.Run.{Standing}
+use Rattle.worker_core.specs.Port.{Suits}
+use Rattle.lone_port.specs.Lone.{book_of}
+use Rattle.search_tests.proofs.Starved.{starved_suits}
+use Rattle.search_tests.proofs.one_worker.starved.Goals as goal
+
+pub work_until-requires-clause-suits : goal.work_until-requires-clause-suits
+work_until-requires-clause-suits c =
+    subst (λ (w : Standing). Suits w (book_of c.in_ok-port.port.port)) (sym c.make-worker.ensures) (c.in_ok-port.ensures.suits 1)
+
+pub work-end-requires-clause-suits : goal.work-end-requires-clause-suits
+work-end-requires-clause-suits c =
+    starved_suits c.work_until.new.worker c.starve.new.self (book_of c.work_until.new.port.port) c.work_until.ensures.suits c.starve.ensures.starved
+    c.starve.ensures.alone

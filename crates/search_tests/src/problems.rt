@@ -1,0 +1,25 @@
+// Problems by their texts, and the settings of their searches.
+use sfen_text::read_sfen;
+use shogi_rules::{Problem, accept_problem};
+use std::process::Abort;
+use unit_desk::Settings;
+
+// Two rooks: a mate in three, since a rook is dropped far off on the king's row, and the other one follows it to
+// the last.
+pub(crate) const ROOKS: &str = "9/4k4/8R/9/9/9/9/9/9 b R";
+
+// A mate in one by a gold, which a pawn guards.
+pub(crate) const GOLD: &str = "4k4/9/4P4/9/9/9/9/9/9 b G";
+
+// A king without an attacker.
+pub(crate) const ALONE: &str = "4k4/9/9/9/9/9/9/9/9 b -";
+
+pub(crate) fn problem(rt: &impl Abort, text: &str) -> Problem {
+    let position = read_sfen(text.as_bytes()).expect(rt, text);
+    accept_problem(position).expect(rt, text)
+}
+
+// Those of a search with so many workers, units and notes, and a small table in one part.
+pub(crate) fn settings(rt: &impl Abort, workers: u32, expansions: u64, room: u32) -> Settings {
+    Settings::new(workers, expansions, room, 16, 1).expect(rt, "settings")
+}
