@@ -1,7 +1,8 @@
 // Surveys as they were counted by another program.
 use crate::same::same;
 use std::test::Fail;
-use survey::{Tally, survey};
+use search_pool::Tally;
+use survey::survey;
 
 fn counts(tallies: &[Tally]) -> (usize, usize, usize) {
     let mates = tallies

@@ -3,9 +3,9 @@ ghost use Rattle.std.specs.Prelude.{◌≡◌};
 ghost use Rattle.board_core.specs.Key.{key_of};
 ghost use Rattle.shogi_rules.specs.Rules.{IsQuiet, IsLegal};
 
+use crate::problems::problem_of;
 use board_core::{Key, Move, Position, Square, key};
-use sfen_text::read_sfen;
-use shogi_rules::{Problem, accept_problem, legal};
+use shogi_rules::{Problem, legal};
 use std::alloc::{AllocError, Global};
 
 /// A legal move, and the position before it with its key.
@@ -33,8 +33,8 @@ pub struct Boards {
 impl Boards {
     /// The positions and moves; none where a text is no problem's, which can't be. Errors: want of memory.
     pub fn set_up(alloc: Global) -> Result<Option<Boards>, AllocError> {
-        let opening = problem("lnsgkgsnl/1r5b1/ppppppppp/9/9/9/PPPPPPPPP/1B5R1/LNSGKGSNL b -");
-        let gold_in_hand = problem("4k4/9/4P4/9/9/9/9/9/9 b G");
+        let opening = problem_of(b"lnsgkgsnl/1r5b1/ppppppppp/9/9/9/PPPPPPPPP/1B5R1/LNSGKGSNL b -");
+        let gold_in_hand = problem_of(b"4k4/9/4P4/9/9/9/9/9/9 b G");
         let (Some(opening), Some(gold_in_hand)) = (opening, gold_in_hand) else {
             return Ok(None);
         };
@@ -45,11 +45,6 @@ impl Boards {
             turns,
         }))
     }
-}
-
-fn problem(text: &str) -> Option<Problem> {
-    let position = read_sfen(text.as_bytes()).ok()?;
-    accept_problem(position).ok()
 }
 
 // The legal moves on the board that don't promote, in the order of moves.

@@ -1,12 +1,11 @@
-// Lists of checks and of evasions, and how long they are, over the problems of the standard input and the positions behind them.
-use crate::pace::print_done;
-use crate::part::Done;
-use crate::trees::{Standing, Tree, trees};
+// Lists of checks and of evasions, how long they are, and with which numbers the search begins behind their moves.
+use crate::pace::{Done, print_done};
+use crate::trees::{Turns, grown_trees};
 use crate::words::Asked;
 use check_moves::{checks_into, count_checks};
 use evasions::{answers_into, count_answers};
 use move_lists::Moves;
-use shogi_rules::Problem;
+use start_numbers::start;
 use std::alloc::AllocError;
 use std::io;
 use std::time::Instant;
@@ -18,62 +17,83 @@ enum Work {
     CountChecks,
     ListAnswers,
     CountAnswers,
+    Start,
 }
 
-const WORKS: [(&'static str, Work); 4] = [
-    ("lists of checks", Work::ListChecks),
-    ("counts of checks", Work::CountChecks),
-    ("lists of evasions", Work::ListAnswers),
-    ("counts of evasions", Work::CountAnswers),
-];
-
-fn length(
-    work: Work,
-    problem: &Problem,
-    standing: &Standing,
-    moves: &mut Moves,
-) -> Result<u64, AllocError> {
-    match work {
-        Work::ListChecks => checks_into(problem, &standing.position, moves)?,
-        Work::CountChecks => return Ok(u64::from(count_checks(problem, &standing.position))),
-        Work::ListAnswers => answers_into(problem, &standing.position, moves)?,
-        Work::CountAnswers => return Ok(u64::from(count_answers(problem, &standing.position))),
+fn start_each(turns: &Turns, done: &mut Done) {
+    for by in turns.moves.as_slice() {
+        let numbers = start(&turns.problem, &turns.position, *by);
+        done.add(u64::from(numbers.pn).wrapping_add(u64::from(numbers.dn)));
     }
-    Ok(moves.len() as u64)
 }
 
 fn do_work(
-    trees: &[Tree],
     work: Work,
+    turns: &Turns,
     moves: &mut Moves,
     done: &mut Done,
 ) -> Result<(), AllocError> {
-    for tree in trees.iter() {
-        let positions = match work {
-            Work::ListChecks | Work::CountChecks => &tree.attacking,
-            Work::ListAnswers | Work::CountAnswers => &tree.defending,
-        };
-        for standing in positions.iter() {
-            let long = length(work, &tree.problem, standing, moves)?;
-            done.calls = done.calls.wrapping_add(1);
-            done.sum = done.sum.wrapping_add(long);
+    match work {
+        Work::ListChecks => {
+            checks_into(&turns.problem, &turns.position, moves)?;
+            done.add(moves.len() as u64);
         }
+        Work::CountChecks => done.add(u64::from(count_checks(&turns.problem, &turns.position))),
+        Work::ListAnswers => {
+            answers_into(&turns.problem, &turns.position, moves)?;
+            done.add(moves.len() as u64);
+        }
+        Work::CountAnswers => done.add(u64::from(count_answers(&turns.problem, &turns.position))),
+        Work::Start => start_each(turns, done),
     }
     Ok(())
 }
 
-/// Makes the lists and counts at each position of the trees, so many rounds of each, and prints how many there were and how many
-/// moves they had.
-pub fn lists(rt: &HostRuntime, asked: &Asked) -> io::Result<()> {
-    let trees = trees(rt)?;
+fn measure(
+    rt: &HostRuntime,
+    asked: &Asked,
+    title: &str,
+    work: Work,
+    all: &[Turns],
+) -> io::Result<()> {
     let mut moves = Moves::new(rt.alloc());
-    for (title, work) in WORKS {
-        let start = Instant::now(rt)?;
-        let mut done = Done { calls: 0, sum: 0 };
-        for _ in 0..asked.rounds {
-            do_work(&trees, work, &mut moves, &mut done)?;
+    let mut done = Done::nothing();
+    let begun = Instant::now(rt)?;
+    for _ in 0..asked.rounds {
+        for turns in all {
+            do_work(work, turns, &mut moves, &mut done)?;
         }
-        print_done(rt, title, done, start.elapsed(rt)?, asked.is_timed)?;
     }
-    Ok(())
+    print_done(rt, asked, title, begun, done)
+}
+
+/// Makes the lists and counts at each position of the trees, so many rounds of each, where the sum is that of the
+/// moves; and asks for the numbers behind each check and each evasion, where it is that of all numbers.
+pub fn lists(rt: &HostRuntime, asked: &Asked) -> io::Result<()> {
+    let trees = grown_trees(rt)?;
+    let (checks, evasions) = (trees.attacking.as_slice(), trees.defending.as_slice());
+    measure(rt, asked, "lists of checks", Work::ListChecks, checks)?;
+    measure(rt, asked, "counts of checks", Work::CountChecks, checks)?;
+    measure(rt, asked, "lists of evasions", Work::ListAnswers, evasions)?;
+    measure(
+        rt,
+        asked,
+        "counts of evasions",
+        Work::CountAnswers,
+        evasions,
+    )?;
+    measure(
+        rt,
+        asked,
+        "start numbers behind checks",
+        Work::Start,
+        checks,
+    )?;
+    measure(
+        rt,
+        asked,
+        "start numbers behind evasions",
+        Work::Start,
+        evasions,
+    )
 }

@@ -1,16 +1,25 @@
-// Searches of the problems of the standard input.
-use crate::trees::problem_of;
+// Searches of the problems of the standard input, by one worker and by several in turn.
+use crate::pace::{Done, print_done};
+use crate::problems::problems;
 use crate::words::Asked;
 use lone_port::LonePort;
-use notes::Conclusion;
+use notes::{Conclusion, Note};
 use search_gate::{DeadlineStop, Gate, Stop};
 use search_pool::{SearchEnd, search_alone_until};
+use lone_port::Event;
 use shogi_rules::Problem;
-use std::io::{self, BufRead, BufReader};
+use std::io;
 use std::sync::atomic::{AtomicU64, Ordering};
 use std::time::Instant;
 use tsume_io::StdClock;
 use unit_desk::Settings;
+use world_play::World;
+
+// The most units that a problem may take in a world.
+const MOST_UNITS: u64 = 300_000;
+
+// How often each worker makes a request before it is asked whether all have ended.
+const TURNS: u32 = 64;
 
 // A gate that counts the units that pass it.
 #[derive(Drop)]
@@ -24,17 +33,36 @@ impl Gate for Counter {
     }
 }
 
-fn verdict(end: &SearchEnd) -> &'static str {
-    match end {
-        SearchEnd::Solved(note) => match note.conclusion() {
-            Conclusion::Mate => "mate",
-            Conclusion::Escape => "nomate",
-        },
-        SearchEnd::Unknown(..) => "unknown",
+// Prints what was found, how many units it took, and the height of what shows it.
+fn tell(
+    rt: &HostRuntime,
+    asked: &Asked,
+    begun: Instant,
+    units: u64,
+    found: Option<&Note>,
+) -> io::Result<()> {
+    let Some(note) = found else {
+        let done = Done {
+            calls: units,
+            sum: 0,
+        };
+        return print_done(rt, asked, "unknown", begun, done);
+    };
+    let verdict = match note.conclusion() {
+        Conclusion::Mate => "mate",
+        Conclusion::Escape => "nomate",
+    };
+    let sum = u64::from(note.height());
+    print_done(rt, asked, verdict, begun, Done { calls: units, sum })
+}
+
+fn settings(workers: u32, units: u64) -> io::Result<Settings> {
+    match Settings::new(workers, units, 1_400_000, 65_536, 1) {
+        Ok(settings) => Ok(settings),
+        Err(_) => Err(io::Error::from(io::ErrorKind::InvalidInput)),
     }
 }
 
-// Searches one problem, and prints the verdict, the units that it took and, where that is asked for, the microseconds.
 fn search(
     rt: &HostRuntime,
     asked: &Asked,
@@ -48,35 +76,67 @@ fn search(
     stop.arm(Some(asked.rounds));
     let begun = Instant::now(rt)?;
     let end = search_alone_until(rt.alloc(), problem, settings, &gate, &mut stop)?;
-    let took = begun.elapsed(rt)?;
-    let units = gate.units.load(Ordering::SeqCst);
-    print!(rt; "{} {units}", verdict(&end))?;
-    if asked.is_timed {
-        print!(rt; " {}", took.as_micros())?;
-    }
-    println!(rt; "")
+    let found = match &end {
+        SearchEnd::Solved(note) => Some(note),
+        SearchEnd::Unknown(..) => None,
+    };
+    tell(rt, asked, begun, gate.units.load(Ordering::SeqCst), found)
 }
 
-/// Searches each problem of the standard input, a line each, with one worker, the default table and at most so many milliseconds, and prints a
-/// line for each: the verdict, the units, and the microseconds where times are asked for. Before them a line tells how long a table takes to make, which
-/// is a part of each search's time.
+/// Searches each problem of the standard input with one worker, the default table and at most so many milliseconds,
+/// and prints a line for each: the verdict and the units. Before them a line tells of the making of a table, which is
+/// a part of each search's time.
 pub fn searches(rt: &HostRuntime, asked: &Asked) -> io::Result<()> {
-    let Ok(settings) = Settings::new(1, 1_000_000_000, 1_400_000, 65_536, 1) else {
-        return Err(io::Error::from(io::ErrorKind::Other));
-    };
-    let input = BufReader::new(rt.alloc(), rt.reader())?;
-    let mut is_first = true;
-    for line in input.split(rt.alloc(), b'\n') {
-        let Some(problem) = problem_of(line?.as_slice()) else {
-            continue;
-        };
-        if is_first && asked.is_timed {
-            let begun = Instant::now(rt)?;
-            let _table = LonePort::make(rt.alloc(), &problem, &settings)?;
-            println!(rt; "table {}", begun.elapsed(rt)?.as_micros())?;
-            is_first = false;
+    let settings = settings(1, 1_000_000_000)?;
+    let problems = problems(rt)?;
+    if let Some(first) = problems.first() {
+        let begun = Instant::now(rt)?;
+        let _table = LonePort::make(rt.alloc(), first, &settings)?;
+        print_done(rt, asked, "table", begun, Done { calls: 1, sum: 0 })?;
+    }
+    for problem in problems.iter() {
+        search(rt, asked, &settings, problem)?;
+    }
+    Ok(())
+}
+
+// Each worker's steps, one after the other, so many times.
+fn in_turn(rt: &HostRuntime, workers: u32) -> io::Result<Vec<Event>> {
+    let mut events = Vec::new(rt.alloc());
+    for _ in 0..TURNS {
+        for worker in 0..workers {
+            events.push(Event::Step(worker.wrapping_add(1)))?;
         }
-        search(rt, asked, &settings, &problem)?;
+    }
+    Ok(events)
+}
+
+fn play(
+    rt: &HostRuntime,
+    asked: &Asked,
+    settings: &Settings,
+    problem: &Problem,
+    events: &[Event],
+) -> io::Result<()> {
+    let begun = Instant::now(rt)?;
+    let mut world = World::make(rt.alloc(), problem, settings)?;
+    for _ in 0..u64::MAX {
+        if world.ended() {
+            break;
+        }
+        world.play(rt.alloc(), events);
+    }
+    tell(rt, asked, begun, world.drawn(), world.posted())
+}
+
+/// Searches each problem of the standard input by so many workers that make their requests in turn, and prints a line
+/// for each: the verdict, and the units that all workers drew until they had ended.
+pub fn worlds(rt: &HostRuntime, asked: &Asked) -> io::Result<()> {
+    let workers = u32::try_from(asked.rounds).unwrap_or(0);
+    let settings = settings(workers, MOST_UNITS)?;
+    let events = in_turn(rt, workers)?;
+    for problem in problems(rt)?.iter() {
+        play(rt, asked, &settings, problem, &events)?;
     }
     Ok(())
 }

@@ -1,8 +1,7 @@
 // Looks, enters and leaves at random keys in a table that is full.
 ghost use Rattle.std.specs.Prelude.{◌<◌};
 
-use crate::pace::print_done;
-use crate::part::Done;
+use crate::pace::{Done, print_done};
 use crate::words::Asked;
 use board_core::Key;
 use notes::{Kept, Seen, Update};
@@ -86,34 +85,18 @@ fn enter_each(shard: &mut Shard, keys: &mut Numbering, rounds: u64) -> Done {
     Done { calls: rounds, sum }
 }
 
-fn look_in(rt: &HostRuntime, asked: &Asked, title: &str, rows: usize) -> io::Result<()>
+/// Looks, so many times, at random keys in a table of so many rows, where the sum is that of the proof numbers that
+/// were found; then enters and leaves such keys, where it is that of the slots that were taken.
+pub fn tables(rt: &HostRuntime, asked: &Asked, rows: usize) -> io::Result<()>
     requires { 0 < rows }
 {
-    let (shard, mut keys) = filled(rt.alloc(), rows)?;
-    let path = Path::make(rt.alloc());
-    let start = Instant::now(rt)?;
-    let done = look_each(&shard, &path, &mut keys, asked.rounds)?;
-    print_done(rt, title, done, start.elapsed(rt)?, asked.is_timed)
-}
-
-fn enter_in(rt: &HostRuntime, asked: &Asked, title: &str, rows: usize) -> io::Result<()>
-    requires { 0 < rows }
-{
+    println!(rt; "{rows} rows")?;
     let (mut shard, mut keys) = filled(rt.alloc(), rows)?;
-    let start = Instant::now(rt)?;
+    let path = Path::make(rt.alloc());
+    let begun = Instant::now(rt)?;
+    let done = look_each(&shard, &path, &mut keys, asked.rounds)?;
+    print_done(rt, asked, "looks", begun, done)?;
+    let begun = Instant::now(rt)?;
     let done = enter_each(&mut shard, &mut keys, asked.rounds);
-    print_done(rt, title, done, start.elapsed(rt)?, asked.is_timed)
-}
-
-/// Looks, so many times, at random keys in a table of 16,384 rows, and in one of 1,048,576, which takes a gigabyte; the sum is that of
-/// the proof numbers that were found.
-pub fn looks(rt: &HostRuntime, asked: &Asked) -> io::Result<()> {
-    look_in(rt, asked, "looks in 16,384 rows", 16_384)?;
-    look_in(rt, asked, "looks in 1,048,576 rows", 1_048_576)
-}
-
-/// Enters and leaves, so many times, random keys in the same tables; the sum is that of the slots that were taken.
-pub fn enters(rt: &HostRuntime, asked: &Asked) -> io::Result<()> {
-    enter_in(rt, asked, "enters and leaves in 16,384 rows", 16_384)?;
-    enter_in(rt, asked, "enters and leaves in 1,048,576 rows", 1_048_576)
+    print_done(rt, asked, "enters and leaves", begun, done)
 }

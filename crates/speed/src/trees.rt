@@ -1,81 +1,99 @@
 // The problems of the standard input, and the positions behind their checks and the evasions to these.
-ghost use Rattle.shogi_rules.specs.Rules.{IsQuiet};
+ghost use Rattle.std.specs.Prelude.{Contains};
+ghost use Rattle.board_core.specs.declared.moves.Move.{Move};
+ghost use Rattle.shogi_rules.specs.Rules.{IsQuiet, IsLegal};
 
-use board_core::{Move, Position};
+use crate::problems::problems;
+use board_core::Position;
 use check_moves::checks;
 use evasions::answers;
-use sfen_text::read_sfen;
-use shogi_rules::{Problem, accept_problem, apply, legal};
+use move_lists::Moves;
+use shogi_rules::{Problem, apply, legal};
 use std::alloc::{AllocError, Global};
-use std::io::{self, BufRead, BufReader};
+use std::io;
 
 /// A position of a problem or after legal moves, with what every such position has.
 #[derive(Clone, Copy)]
-pub struct Standing {
-    pub position: Position,
-    pub ghost quiet: { IsQuiet position },
+struct Standing {
+    position: Position,
+    ghost quiet: { IsQuiet position },
 }
 
-/// A problem, and where its checks and the evasions to them lead.
+/// A position, and its checks or evasions.
 #[derive(Drop)]
-pub struct Tree {
+pub struct Turns {
     pub problem: Problem,
-    /// The problem's position, and those after a check and an evasion.
-    pub attacking: Vec<Standing>,
-    /// Those after a check.
-    pub defending: Vec<Standing>,
+    pub position: Position,
+    pub moves: Moves,
+    pub ghost quiet: { IsQuiet position },
+    pub ghost legal: { (move : Move) → Contains moves move → IsLegal position move },
 }
 
-fn add_after(
-    standing: &Standing,
-    moves: &[Move],
-    after: &mut Vec<Standing>,
-) -> Result<(), AllocError> {
-    for by in moves {
-        if legal(&standing.position, *by).is_ok() {
-            after.push(Standing {
-                position: apply(&standing.position, *by),
-            })?;
-        }
-    }
-    Ok(())
+/// Where the problems' checks and the evasions to them lead.
+#[derive(Drop)]
+pub struct Trees {
+    /// The problems' positions, and those after a check and an evasion, with their checks.
+    pub attacking: Vec<Turns>,
+    /// Those after a check, with their evasions.
+    pub defending: Vec<Turns>,
 }
 
-fn grown(alloc: Global, problem: Problem) -> Result<Tree, AllocError> {
-    let root = Standing {
-        position: problem.position,
-    };
-    let mut attacking = Vec::new(alloc);
-    let mut defending = Vec::new(alloc);
-    let first = checks(alloc, &problem, &root.position)?;
-    add_after(&root, first.as_slice(), &mut defending)?;
-    attacking.push(root)?;
-    for checked in defending.iter() {
-        let evasions = answers(alloc, &problem, &checked.position)?;
-        add_after(checked, evasions.as_slice(), &mut attacking)?;
-    }
-    Ok(Tree {
-        problem,
-        attacking,
-        defending,
+fn checks_at(alloc: Global, problem: &Problem, at: &Standing) -> Result<Turns, AllocError> {
+    let moves = checks(alloc, problem, &at.position)?;
+    Ok(Turns {
+        problem: *problem,
+        position: at.position,
+        moves,
     })
 }
 
-/// The problem of a line: an SFEN, with notes behind a tab; none where the line has none.
-pub fn problem_of(line: &[u8]) -> Option<Problem> {
-    let text = line.split(|byte| *byte == b'\t').next()?;
-    let position = read_sfen(text).ok()?;
-    accept_problem(position).ok()
+fn evasions_at(alloc: Global, problem: &Problem, at: &Standing) -> Result<Turns, AllocError> {
+    let moves = answers(alloc, problem, &at.position)?;
+    Ok(Turns {
+        problem: *problem,
+        position: at.position,
+        moves,
+    })
 }
 
-/// The trees of the standard input, a problem a line; lines that hold none are passed over.
-pub fn trees(rt: &HostRuntime) -> io::Result<Vec<Tree>> {
-    let mut trees = Vec::new(rt.alloc());
-    let input = BufReader::new(rt.alloc(), rt.reader())?;
-    for line in input.split(rt.alloc(), b'\n') {
-        if let Some(problem) = problem_of(line?.as_slice()) {
-            trees.push(grown(rt.alloc(), problem)?)?;
+// The positions after the moves.
+fn after(alloc: Global, turns: &Turns) -> Result<Vec<Standing>, AllocError> {
+    let mut after = Vec::new(alloc);
+    for by in turns.moves.as_slice() {
+        if legal(&turns.position, *by).is_ok() {
+            after.push(Standing {
+                position: apply(&turns.position, *by),
+            })?;
         }
+    }
+    Ok(after)
+}
+
+fn grow(alloc: Global, trees: &mut Trees, problem: &Problem) -> Result<(), AllocError> {
+    let root = Standing {
+        position: problem.position,
+    };
+    let root = checks_at(alloc, problem, &root)?;
+    for checked in after(alloc, &root)?.iter() {
+        let evasions = evasions_at(alloc, problem, checked)?;
+        for evaded in after(alloc, &evasions)?.iter() {
+            trees.attacking.push(checks_at(alloc, problem, evaded)?)?;
+        }
+        trees.defending.push(evasions)?;
+    }
+    trees.attacking.push(root)?;
+    Ok(())
+}
+
+/// The trees of the problems of the standard input.
+pub fn grown_trees(rt: &HostRuntime) -> io::Result<Trees> {
+    let alloc = rt.alloc();
+    let mut trees = Trees {
+        attacking: Vec::new(alloc),
+        defending: Vec::new(alloc),
+    };
+    for problem in problems(rt)?.iter() {
+        grow(alloc, &mut trees, problem)?;
     }
     Ok(trees)
 }

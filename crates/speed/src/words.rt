@@ -4,7 +4,7 @@ use std::{env, io};
 /// What the words ask for.
 #[derive(Drop)]
 pub struct Asked {
-    /// The part that is measured.
+    /// What is measured.
     pub what: String,
     /// How often its work is done.
     pub rounds: u64,

@@ -5,7 +5,7 @@ use notes::{Claim, Conclusion, Draw, Kept, Note, Seen, Update};
 use pn_numbers::Numbers;
 use sfen_text::append_sfen;
 use std::alloc::Global;
-use std::io::{self, Write};
+use std::io::Write;
 use visit_log::WorkEnd;
 
 /// The lines so far, of the search of a problem of this attacker.
@@ -13,19 +13,21 @@ use visit_log::WorkEnd;
 pub struct Lines {
     text: Vec<u8>,
     attacker: Side,
-    // With which each line begins; none where there is one worker alone.
-    worker: Option<u32>,
+    // Whether there are several workers, so that each line begins with the number of its own.
+    is_world: bool,
+    worker: u32,
     // Whether each line could be written.
     is_whole: bool,
 }
 
 impl Lines {
     /// No line yet.
-    pub fn new(alloc: Global, attacker: Side) -> Lines {
+    pub fn new(alloc: Global, attacker: Side, is_world: bool) -> Lines {
         Lines {
             text: Vec::new(alloc),
             attacker,
-            worker: None,
+            is_world,
+            worker: 0,
             is_whole: true,
         }
     }
@@ -35,85 +37,132 @@ impl Lines {
         if self.is_whole { Some(self.text) } else { None }
     }
 
-    /// The lines from here on begin with this number of their worker.
+    /// The lines from here on are of the worker of this number.
     pub fn of_worker(&mut self, number: u32) {
-        self.worker = Some(number);
+        self.worker = number;
     }
 
-    // Begins a line.
-    fn begin(&mut self) {
-        if let Some(number) = self.worker {
-            let written = write!(self.text, "{number} ");
-            self.note(written);
+    fn put(&mut self, text: &str) {
+        if self.text.extend_from_slice(text.as_bytes()).is_err() {
+            self.is_whole = false;
         }
     }
 
-    fn note(&mut self, written: io::Result<()>) {
-        if written.is_err() {
+    fn number(&mut self, number: u64) {
+        if write!(self.text, " {number}").is_err() {
+            self.is_whole = false;
+        }
+    }
+
+    // Ends a line with a word and numbers behind it.
+    fn end_by(&mut self, word: &str, numbers: &[u64]) {
+        self.put(" ");
+        self.put(word);
+        for number in numbers {
+            self.number(*number);
+        }
+        self.put("\n");
+    }
+
+    // Ends a line with what a note says.
+    fn end_by_note(&mut self, note: &Note) {
+        let height = u64::from(note.height());
+        match note.conclusion() {
+            Conclusion::Mate => self.end_by("mate", &[height]),
+            Conclusion::Escape => self.end_by("escape", &[height, note.tag().len() as u64]),
+        }
+    }
+
+    // Begins a line with the worker's number, where there is one, and this word.
+    fn begin(&mut self, word: &str) {
+        if self.is_world && write!(self.text, "{} ", self.worker).is_err() {
+            self.is_whole = false;
+        }
+        self.put(word);
+    }
+
+    // Begins a line about the position of a key.
+    fn begin_at(&mut self, word: &str, key: &Key) {
+        self.begin(word);
+        self.put(" ");
+        let Some(position) = position_of(key, self.attacker) else {
+            self.is_whole = false;
+            return;
+        };
+        if append_sfen(&mut self.text, &position).is_err() {
             self.is_whole = false;
         }
     }
 
     /// Whether the worker is to stop.
     pub fn poll(&mut self, stop: bool) {
-        self.begin();
-        let answer = if stop { "yes" } else { "no" };
-        let written = writeln!(self.text, "poll {answer}");
-        self.note(written);
+        self.begin("poll");
+        self.end_by(if stop { "yes" } else { "no" }, &[]);
     }
 
     /// The next unit of work.
     pub fn draw(&mut self, draw: Draw) {
-        self.begin();
-        let written = match draw {
-            Draw::Go(unit) => writeln!(self.text, "draw go {unit}"),
-            Draw::Done => writeln!(self.text, "draw done"),
-            Draw::Spent => writeln!(self.text, "draw spent"),
-        };
-        self.note(written);
+        self.begin("draw");
+        match draw {
+            Draw::Go(unit) => self.end_by("go", &[unit]),
+            Draw::Done => self.end_by("done", &[]),
+            Draw::Spent => self.end_by("spent", &[]),
+        }
     }
 
     /// Room for a note.
     pub fn claim(&mut self, claim: Claim) {
-        self.begin();
-        let written = match claim {
-            Claim::Room(number) => writeln!(self.text, "claim room {number}"),
-            Claim::NoRoom => writeln!(self.text, "claim noroom"),
-        };
-        self.note(written);
+        self.begin("claim");
+        match claim {
+            Claim::Room(number) => self.end_by("room", &[u64::from(number)]),
+            Claim::NoRoom => self.end_by("noroom", &[]),
+        }
     }
 
     /// What is known of a position.
     pub fn look(&mut self, key: &Key, seen: &Seen) {
-        self.begin();
-        let written = write_look(&mut self.text, self.attacker, key, seen);
-        self.note(written);
+        self.begin_at("look", key);
+        match seen {
+            Seen::New => self.end_by("new", &[]),
+            Seen::Open { numbers, below } => self.end_by(
+                "open",
+                &[u64::from(numbers.pn), u64::from(numbers.dn), *below],
+            ),
+            Seen::Solved(note) => self.end_by_note(note),
+        }
     }
 
     /// A position is entered.
     pub fn enter(&mut self, key: &Key, numbers: Numbers, kept: Kept) {
-        self.begin();
-        let written = write_enter(&mut self.text, self.attacker, key, numbers, kept);
-        self.note(written);
+        self.begin_at("enter", key);
+        self.number(u64::from(numbers.pn));
+        self.number(u64::from(numbers.dn));
+        match kept {
+            Kept::Slot(slot) => self.end_by("kept", &[u64::from(slot)]),
+            Kept::Unkept => self.end_by("unkept", &[]),
+        }
     }
 
     /// A position is left.
     pub fn leave(&mut self, key: &Key, update: &Update) {
-        self.begin();
-        let written = write_leave(&mut self.text, self.attacker, key, update);
-        self.note(written);
+        self.begin_at("leave", key);
+        match update {
+            Update::Numbers(numbers) => self.end_by(
+                "numbers",
+                &[u64::from(numbers.pn), u64::from(numbers.dn)],
+            ),
+            Update::Note(note) => self.end_by_note(note),
+            Update::Nothing => self.end_by("nothing", &[]),
+        }
     }
 
     /// A note is posted.
     pub fn post(&mut self) {
-        self.begin();
-        let written = writeln!(self.text, "post");
-        self.note(written);
+        self.begin("post\n");
     }
 
     /// How the worker ended.
     pub fn end(&mut self, end: WorkEnd) {
-        self.begin();
         let word = match end {
             WorkEnd::Posted => "posted",
             WorkEnd::Spent => "spent",
@@ -122,71 +171,24 @@ impl Lines {
             WorkEnd::NoMemory => "nomemory",
             WorkEnd::Stopped => "stopped",
         };
-        let written = writeln!(self.text, "end {word}");
-        self.note(written);
+        self.begin("end");
+        self.end_by(word, &[]);
     }
 
-    /// The last line of a world: how many units were drawn, for how many notes room was claimed, whether a note is posted, how many workers have ended,
-    /// and how many visits are below the slots of the table.
+    /// The last line of a world: how many units were drawn, for how many notes room was claimed, whether a note is
+    /// posted, how many workers have ended, and how many visits are below the slots of the table. Nothing where one
+    /// worker is alone.
     pub fn total(&mut self, drawn: u64, claimed: u32, posted: bool, ended: u32, below: u64) {
+        if !self.is_world {
+            return;
+        }
         let posted = if posted { "yes" } else { "no" };
         let written = writeln!(
             self.text,
             "drawn {drawn} claimed {claimed} posted {posted} ended {ended} counts {below}"
         );
-        self.note(written);
-    }
-}
-
-// A word, and the text of the key's position behind it.
-fn write_start(text: &mut Vec<u8>, word: &str, attacker: Side, key: &Key) -> io::Result<()> {
-    let Some(position) = position_of(key, attacker) else {
-        return Err(io::Error::from(io::ErrorKind::InvalidData));
-    };
-    write!(text, "{word} ")?;
-    append_sfen(text, &position)?;
-    Ok(())
-}
-
-fn write_note(text: &mut Vec<u8>, note: &Note) -> io::Result<()> {
-    let height = note.height();
-    match note.conclusion() {
-        Conclusion::Mate => writeln!(text, " mate {height}"),
-        Conclusion::Escape => writeln!(text, " escape {height} {}", note.tag().len()),
-    }
-}
-
-fn write_look(text: &mut Vec<u8>, attacker: Side, key: &Key, seen: &Seen) -> io::Result<()> {
-    write_start(text, "look", attacker, key)?;
-    match seen {
-        Seen::New => writeln!(text, " new"),
-        Seen::Open { numbers, below } => {
-            writeln!(text, " open {} {} {below}", numbers.pn, numbers.dn)
+        if written.is_err() {
+            self.is_whole = false;
         }
-        Seen::Solved(note) => write_note(text, note),
-    }
-}
-
-fn write_enter(
-    text: &mut Vec<u8>,
-    attacker: Side,
-    key: &Key,
-    numbers: Numbers,
-    kept: Kept,
-) -> io::Result<()> {
-    write_start(text, "enter", attacker, key)?;
-    write!(text, " {} {}", numbers.pn, numbers.dn)?;
-    match kept {
-        Kept::Slot(slot) => writeln!(text, " kept {slot}"),
-        Kept::Unkept => writeln!(text, " unkept"),
-    }
-}
-
-fn write_leave(text: &mut Vec<u8>, attacker: Side, key: &Key, update: &Update) -> io::Result<()> {
-    write_start(text, "leave", attacker, key)?;
-    match update {
-        Update::Numbers(numbers) => writeln!(text, " numbers {} {}", numbers.pn, numbers.dn),
-        Update::Note(note) => write_note(text, note),
-        Update::Nothing => writeln!(text, " nothing"),
     }
 }

@@ -3,36 +3,26 @@ ghost use Rattle.std.specs.Prelude.{◌<◌};
 
 use board_core::{Hand, Key, Kind, Piece, Position, Side};
 
-// The kind of a code, 1 to 14, and whether it is promoted: 1 to 8 are the kinds in their order, 9 to 14 the promoted ones.
-fn kind_of(code: u64) -> Option<(Kind, bool)> {
-    match code {
-        1 => Some((Kind::Pawn, false)),
-        2 => Some((Kind::Lance, false)),
-        3 => Some((Kind::Knight, false)),
-        4 => Some((Kind::Silver, false)),
-        5 => Some((Kind::Gold, false)),
-        6 => Some((Kind::Bishop, false)),
-        7 => Some((Kind::Rook, false)),
-        8 => Some((Kind::King, false)),
-        9 => Some((Kind::Pawn, true)),
-        10 => Some((Kind::Lance, true)),
-        11 => Some((Kind::Knight, true)),
-        12 => Some((Kind::Silver, true)),
-        13 => Some((Kind::Bishop, true)),
-        14 => Some((Kind::Rook, true)),
-        _ => None,
-    }
-}
-
-// The piece of a code: 1 to 14 are Black's, 15 to 28 White's.
+// The piece of a code: 1 to 14 are Black's, 15 to 28 White's. Of these 1 to 8 are the kinds in their order, 9 to 14
+// the promoted ones.
 fn piece_of(code: u64) -> Option<Piece> {
     let (side, low) = if code > 14 {
         (Side::White, code - 14)
     } else {
         (Side::Black, code)
     };
-    let (kind, promoted) = kind_of(low)?;
-    if !promoted {
+    let kind = match low {
+        1 | 9 => Kind::Pawn,
+        2 | 10 => Kind::Lance,
+        3 | 11 => Kind::Knight,
+        4 | 12 => Kind::Silver,
+        5 => Kind::Gold,
+        6 | 13 => Kind::Bishop,
+        7 | 14 => Kind::Rook,
+        8 => Kind::King,
+        _ => return None,
+    };
+    if low <= 8 {
         return Some(Piece::plain(kind, side));
     }
     if !kind.can_promote() {
@@ -67,8 +57,8 @@ fn hand_of(bits: u64) -> Hand {
     ])
 }
 
-/// The position of a key, in the search of a problem of this attacker; none where it is the key of none. The attacker may have no king,
-/// so it is built with him to move.
+/// The position of a key, in the search of a problem of this attacker; none where it is the key of none. The attacker
+/// may have no king, so it is built with him to move.
 pub fn position_of(key: &Key, attacker: Side) -> Option<Position> {
     let mut cells = [None; 81];
     for number in 0..81 {

@@ -52,13 +52,13 @@ impl Port for Recorder {
 
     fn enter(&mut self, key: &Key, numbers: Numbers) -> Kept {
         let kept = self.port.enter(key, numbers);
-        self.below = one_more(self.below, kept);
+        self.below = self.below.wrapping_add(slots(kept));
         self.lines.enter(key, numbers, kept);
         kept
     }
 
     fn leave(&mut self, kept: Kept, key: &Key, update: Update) {
-        self.below = one_less(self.below, kept);
+        self.below = self.below.wrapping_sub(slots(kept));
         self.lines.leave(key, &update);
         self.port.leave(kept, key, update);
     }
@@ -69,18 +69,10 @@ impl Port for Recorder {
     }
 }
 
-// One more where a slot is entered.
-fn one_more(below: u64, kept: Kept) -> u64 {
+// How many slots are entered, or left.
+fn slots(kept: Kept) -> u64 {
     match kept {
-        Kept::Slot(_) => below.wrapping_add(1),
-        Kept::Unkept => below,
-    }
-}
-
-// One less where a slot is left.
-fn one_less(below: u64, kept: Kept) -> u64 {
-    match kept {
-        Kept::Slot(_) => below.wrapping_sub(1),
-        Kept::Unkept => below,
+        Kept::Slot(_) => 1,
+        Kept::Unkept => 0,
     }
 }

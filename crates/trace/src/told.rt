@@ -1,6 +1,7 @@
-// The world of several workers, over a port that writes down what they ask and are told.
+// The world of one worker or several, over a port that writes down what they ask and are told.
 ghost use Rattle.std.specs.Prelude.{◌<◌, IfSome, length};
 
+use crate::asked::Asked;
 use crate::lines::Lines;
 use crate::recorder::Recorder;
 use lone_port::Event;
@@ -108,6 +109,16 @@ impl Told {
         self.tell_end(place);
     }
 
+    // Steps the first worker until it has ended.
+    fn work_alone(&mut self, alloc: Global) {
+        for _ in 0..u64::MAX {
+            if self.at_work(1).is_none() {
+                return;
+            }
+            self.step(alloc, 1);
+        }
+    }
+
     // Tells how the worker ended, if it has.
     fn tell_end(&mut self, place: usize)
         requires { place < length self.old.workers }
@@ -140,4 +151,18 @@ impl Told {
         );
         lines.into_text()
     }
+}
+
+/// The lines of the search that is asked for, by one worker, or of the world of several. Errors: want of memory alone.
+pub fn trace(alloc: Global, asked: &Asked) -> Result<Vec<u8>, AllocError> {
+    let world = World::make(alloc, &asked.problem, &asked.settings)?;
+    let lines = Lines::new(alloc, asked.problem.attacker(), asked.is_world);
+    let mut told = Told::make(alloc, world, lines)?;
+    for event in &asked.events {
+        told.happen(alloc, *event);
+    }
+    if !asked.is_world {
+        told.work_alone(alloc);
+    }
+    told.into_text().ok_or(AllocError)
 }

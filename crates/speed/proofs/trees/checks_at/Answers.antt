@@ -1,6 +1,6 @@
 use Rattle.board_core.specs.Order.{Lists}
 use Rattle.shogi_rules.specs.Tsume.{IsCheck}
-use Rattle.speed.proofs.starts.checks_at.Goals as goal
+use Rattle.speed.proofs.trees.checks_at.Goals as goal
 
 pub invariant_of-result-clause-legal : goal.invariant_of-result-clause-legal
 invariant_of-result-clause-legal c =
