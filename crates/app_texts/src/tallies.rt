@@ -2,8 +2,8 @@
 ghost use Rattle.std.specs.Prelude.{◌≡◌, count_by};
 ghost use Rattle.app_texts.specs.Survey.{is_mate, is_no_mate, is_unknown};
 
-use std::marker::Model;
 use search_pool::Tally;
+use std::marker::Model;
 
 /// How the searches of a survey ended, by the rising number of their problems. Contracts see the list.
 #[derive(Drop)]

@@ -1,7 +1,7 @@
 // Surveys as they were counted by another program.
 use crate::same::same;
-use std::test::Fail;
 use search_pool::Tally;
+use std::test::Fail;
 use survey::survey;
 
 fn counts(tallies: &[Tally]) -> (usize, usize, usize) {

@@ -10,11 +10,10 @@ use app_texts::{
     Tallies, answer_text, append_report,
 };
 use cert_text::{Certificate, Claim, read_cert};
-use search_pool::Crew;
+use search_pool::{Crew, Tally};
 use sfen_text::TextFault;
 use std::alloc::{AllocError, Global};
 use std::test::Fail;
-use search_pool::Tally;
 use unit_desk::Cause;
 use usi_text::read_move;
 

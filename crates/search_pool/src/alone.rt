@@ -11,10 +11,9 @@ ghost use Rattle.worker_core.specs.Port.{Suits};
 ghost use Rattle.lone_port.specs.Lone.{alone_at_first, worker_at_first, book_of};
 
 use crate::{Crew, SearchEnd};
-use lone_port::LonePort;
+use lone_port::{LonePort, step};
 use notes::HEIGHT_LIMIT;
 use search_gate::{Gate, OpenGate, QuietStop, Stop};
-use lone_port::step;
 use shogi_rules::Problem;
 use std::alloc::{AllocError, Global};
 use unit_desk::{Cause, Settings};

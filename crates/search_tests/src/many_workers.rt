@@ -2,8 +2,8 @@
 use crate::problems::{ALONE, ROOKS, problem, settings};
 use crate::same::same;
 use board_core::key;
-use notes::{Conclusion, Note};
 use lone_port::Event;
+use notes::{Conclusion, Note};
 use std::alloc::Global;
 use std::test::Fail;
 use visit_log::WorkEnd;

@@ -2,11 +2,10 @@
 use crate::pace::{Done, print_done};
 use crate::problems::problems;
 use crate::words::Asked;
-use lone_port::LonePort;
+use lone_port::{Event, LonePort};
 use notes::{Conclusion, Note};
 use search_gate::{DeadlineStop, Gate, Stop};
 use search_pool::{SearchEnd, search_alone_until};
-use lone_port::Event;
 use shogi_rules::Problem;
 use std::io;
 use std::sync::atomic::{AtomicU64, Ordering};

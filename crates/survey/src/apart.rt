@@ -5,9 +5,9 @@ ghost use Rattle.survey.specs.declared.tallies.TheConstants.{MOST_SEED};
 ghost use Rattle.survey.specs.Tally.{IsTallied, AreTallied};
 ghost use Rattle.survey.specs.Inside.{IsMade, AreTalliesAt};
 
-use search_pool::Tally;
 use crate::decide::decide;
 use problem_gen::problem_of;
+use search_pool::Tally;
 use std::alloc::{AllocError, Global};
 use std::sync::atomic::{AtomicU64, Ordering};
 use std::thread::{self, Threads};

@@ -7,10 +7,9 @@ ghost use Rattle.visit_log.specs.Frame.{task_for};
 ghost use Rattle.visit_log.specs.Sound.{IsAnswer};
 ghost use Rattle.survey.specs.Tally.{tally_by, IsTrueOf, ComesTo, survey_settings};
 
-use search_pool::Tally;
 use mate_def::escape_is_no_mate;
 use notes::{Conclusion, Note};
-use search_pool::{SearchEnd, search_alone};
+use search_pool::{SearchEnd, Tally, search_alone};
 use shogi_rules::Problem;
 use std::alloc::{AllocError, Global};
 use unit_desk::Settings;

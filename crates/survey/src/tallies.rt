@@ -4,8 +4,8 @@ ghost use Rattle.unit_desk.specs.declared.settings.TheConstants.{MOST_EXPANSIONS
 ghost use Rattle.survey.specs.declared.tallies.TheConstants.{MOST_SEED, MOST_COUNT};
 ghost use Rattle.survey.specs.Tally.{AreTallied};
 
-use search_pool::Tally;
 use crate::apart::{Asked, decide_apart};
+use search_pool::Tally;
 use std::alloc::{AllocError, Global};
 use std::thread::Threads;
 

@@ -14,9 +14,8 @@ ghost use Rattle.world_play.specs.Promises.{HoldsWhatIsEntered, AreSoundWorkers,
 ghost use Rattle.world_play.specs.Logs.{GoOnBy};
 
 use board_core::Key;
-use lone_port::LonePort;
+use lone_port::{Event, LonePort, step};
 use notes::Note;
-use lone_port::{Event, step};
 use shogi_rules::Problem;
 use std::alloc::{AllocError, Global};
 use std::marker::Model;
