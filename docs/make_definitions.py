@@ -4,8 +4,7 @@
 usage: docs/make_definitions.py            writes docs/definitions.md
        docs/make_definitions.py --check    ends with 1, and names what is missing, where the file isn't what would be written
 
-The first lines of a crate's specs/Lib.antt say where its definitions come from; the first lines of a file say what it holds. Files
-that only pass on what a lower crate says (`OfBoardCore.antt`) have nothing of their own, and aren't shown.
+The first lines of a crate's specs/Lib.antt say where its definitions come from; the first lines of a file say what it holds.
 """
 import os, re, sys
 
@@ -53,7 +52,7 @@ def page():
         folder = os.path.join(TOP, "crates", crate, "specs")
         if not os.path.isdir(folder):
             continue
-        names = [name for name in sorted(os.listdir(folder)) if name.endswith(".antt") and name != "Lib.antt" and not name.startswith("Of")]
+        names = [name for name in sorted(os.listdir(folder)) if name.endswith(".antt") and name != "Lib.antt"]
         if not names:
             continue
         source = head_of(open(os.path.join(folder, "Lib.antt"), encoding="utf-8").read().split("\n"))

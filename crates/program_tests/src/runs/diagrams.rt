@@ -40,12 +40,11 @@ fn diagram_gives<R: Abort + Threads + AllocGlobal + Sync>(
     let lines = lines.as_str();
     let input = format!(in alloc; "\u{feff}{lines}")?;
     let seen = seen_of(rt, words, input.as_str(), (7, 0), (11, 0))?;
-    let found = if seen.status == 0 {
-        seen.kept.as_str()
+    if seen.status == 0 {
+        same(rt, (words, old, new), seen.kept.as_str(), wanted);
     } else {
-        seen.fault.as_str()
-    };
-    same(rt, (words, old, new), found, wanted);
+        same(rt, (words, old, new), seen.fault.as_str(), wanted);
+    }
     Ok(())
 }
 
