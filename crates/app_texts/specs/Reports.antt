@@ -12,7 +12,7 @@ use Rattle.app_texts.specs.declared.answer.Solution.TheVariants.{Mate, NoMate, U
 use Rattle.app_texts.specs.declared.report.Report.{Report}
 use Rattle.app_texts.specs.declared.report.Report.TheVariants.{Solved, Fault}
 
--- How a line's problem ended: a mate with its main line, a space before each move; that there is none; what was used up, or that it was stopped; or the fault.
+-- How a line's problem ended: a mate with its main line, a space before each move; that there is none; why it is unknown; or the fault.
 abbrev pub ending_text : Report → List ℕ
 ending_text (Solved (Mate c moves)) = codes " mate" ++ flat_map spaced_move moves
 ending_text (Solved (NoMate c)) = codes " nomate"

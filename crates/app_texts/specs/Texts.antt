@@ -8,8 +8,8 @@ use Rattle.cert_text.specs.Entries.{line}
 use Rattle.cert_text.specs.Text.{claim_word, certificate_text}
 use Rattle.cert_check.specs.declared.verdict.Why.{Why}
 use Rattle.cert_check.specs.declared.verdict.Why.TheVariants.{RootMissing, NotACheck, EvasionOutside, RankNotLower, CheckUnanswered}
-use Rattle.unit_desk.specs.declared.cause.Cause.{Cause}
-use Rattle.unit_desk.specs.declared.cause.Cause.TheVariants.{Expansions, Room, Height, Stopped}
+use Rattle.search_limits.specs.declared.cause.Cause.{Cause}
+use Rattle.search_limits.specs.declared.cause.Cause.TheVariants.{Expansions, Room, Height, Stopped, Entries}
 use Rattle.app_texts.specs.Counts.{counts_text}
 use Rattle.app_texts.specs.Survey.{summary_text}
 use Rattle.app_texts.specs.declared.answer.Solution.{Solution}
@@ -28,15 +28,16 @@ why_text (EvasionOutside evasion) = codes "outside " ++ move_text evasion
 why_text (RankNotLower evasion) = codes "rank " ++ move_text evasion
 why_text (CheckUnanswered check) = codes "unanswered " ++ move_text check
 
--- What was used up, or that it was stopped.
+-- What was used up, that it was stopped, or that its certificate would have more entries than this.
 abbrev pub cause_text : Cause → List ℕ
 cause_text (Expansions units) = codes "expansions " ++ decimal units
 cause_text (Room notes) = codes "room " ++ decimal notes
 cause_text (Height height) = codes "height " ++ decimal height
 cause_text (Stopped worker) = codes "stopped"
+cause_text (Entries most) = codes "entries " ++ decimal most
 
 -- The text of an answer to `solve`. For a mate and for none the line of the USI protocol, for a mate with its moves, and the
--- certificate; for neither the line of the USI protocol, and what was used up, or that it was stopped.
+-- certificate; for neither the line of the USI protocol, and why.
 abbrev pub solution_text : Solution → List ℕ
 solution_text (Mate c moves) = line (mate_text moves) ++ certificate_text (certificates.Mate c)
 solution_text (NoMate c) = line nomate_text ++ certificate_text (certificates.Escape c)

@@ -5,7 +5,7 @@ use cert_check::Why;
 use cert_text::{Claim, EscapeCertificate, MateCertificate};
 use search_pool::Crew;
 use std::marker::Model;
-use unit_desk::Cause;
+use search_limits::Cause;
 
 /// The moves of a mate: the attacker's and the defender's in turn, from the attacker's first. Contracts see the list.
 #[derive(Drop)]
@@ -47,7 +47,8 @@ pub enum Solution {
     Mate(MateCertificate, MainLine),
     /// It is no mate: the certificate.
     NoMate(EscapeCertificate),
-    /// Neither was found before a limit was used up, or the search was stopped: which, and the search's workers as they ended.
+    /// Neither was found before a limit was used up, or the search was stopped: which, and the search's workers as they ended. Or one
+    /// was found, and its certificate would have more entries than one is read with: that, and no workers.
     Unknown(Cause, Crew),
 }
 

@@ -18,7 +18,7 @@ use cert_text::{
     Claim, EscapeCertificate, MateCertificate, append_escape_cert, append_mate_cert, append_number,
 };
 use std::alloc::{AllocError, Global};
-use unit_desk::Cause;
+use search_limits::Cause;
 use usi_text::{append_mate_line, append_nomate_line, append_timeout_line, write_move};
 
 fn append_move(out: &mut Vec<u8>, word: &[u8], named: Move) -> Result<(), AllocError>
@@ -104,7 +104,7 @@ fn append_counted(out: &mut Vec<u8>, word: &[u8], number: u64) -> Result<(), All
     Ok(())
 }
 
-/// Writes what was used up, or that it was stopped.
+/// Writes what was used up, that it was stopped, or that the certificate would be too long.
 pub(crate) fn append_cause(out: &mut Vec<u8>, cause: Cause) -> Result<(), AllocError>
     ensures { OnOk result (out.new.items ≡ out.old.items ++ cause_text cause) }
 {
@@ -116,6 +116,7 @@ pub(crate) fn append_cause(out: &mut Vec<u8>, cause: Cause) -> Result<(), AllocE
             out.extend_from_slice(b"stopped")?;
             Ok(())
         }
+        Cause::Entries(most) => append_counted(out, b"entries ", u64::from(most)),
     }
 }
 

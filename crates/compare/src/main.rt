@@ -16,13 +16,14 @@ use notes::Note;
 use plain_search::{Outcome, search};
 use problem_gen::problem_of;
 use problem_lines::Lines;
-use search_gate::{Expansions, OpenGate};
+use search_gate::OpenGate;
+use search_limits::Expansions;
 use search_pool::{SearchEnd, search_alone};
 use sfen_text::read_sfen;
 use shogi_rules::{Problem, accept_problem};
 use std::alloc::Global;
 use std::io::{self, Read};
-use unit_desk::Settings;
+use search_limits::Settings;
 
 const PROBLEMS: u64 = 50;
 

@@ -1,6 +1,6 @@
 // The runs of the file, and what is told of each.
 ghost use Rattle.std.specs.Prelude.{◌≡◌, IfOk, vec_len};
-ghost use Rattle.tsume_words.specs.declared.settings.TheConstants.{MOST_WORKERS};
+ghost use Rattle.search_limits.specs.declared.settings.TheConstants.{MOST_WORKERS};
 
 use crate::line::Line;
 use search_gate::{MemStop, OpenGate};

@@ -2,9 +2,9 @@
 use Rattle.std.specs.Prelude.{◌≡◌, ℕ, Bool, List, [], ◌∷◌, Some, All, map}
 use Rattle.board_core.specs.Board.{Board}
 use Rattle.notes.specs.declared.note.TheConstants.{HEIGHT_LIMIT}
-use Rattle.unit_desk.specs.Sizes.{SettingsView}
-use Rattle.unit_desk.specs.declared.cause.Cause.{Cause}
-use Rattle.unit_desk.specs.declared.cause.Cause.TheVariants.{Expansions, Room, Height, Stopped as StoppedFirst}
+use Rattle.search_limits.specs.Sizes.{SettingsView}
+use Rattle.search_limits.specs.declared.cause.Cause.{Cause}
+use Rattle.search_limits.specs.declared.cause.Cause.TheVariants.{Expansions, Room, Height, Stopped as StoppedFirst, Entries}
 use Rattle.visit_log.specs.declared.words.WorkEnd.TheVariants.{Spent, NoRoom, TooHigh, Stopped}
 use Rattle.visit_log.specs.Visit.{Event as Exchange}
 use Rattle.visit_log.specs.Machine.{end_of}
@@ -47,9 +47,10 @@ pub record RunsAlone (problem : Board) (s : SettingsView) (schedule : List Event
   pub reached : IsReached worker log
 
 -- Why a search with one worker ends without an answer, by how its worker ended: its units are used up, and it had them all; its room is, and
--- it had it all; a note would have been higher than notes can be; or a stop was signalled.
+-- it had it all; a note would have been higher than notes can be; or a stop was signalled. That a certificate is too long is no cause of a search.
 abbrev pub HasCause : SettingsView → Standing → Cause → Type 0
 HasCause s worker (Expansions number) = (number ≡ s.expansions) × (end_of worker.state ≡ Some Spent) × (worker.state.visits ≡ number)
 HasCause s worker (Room number) = (number ≡ s.room) × (end_of worker.state ≡ Some NoRoom) × (worker.state.claims ≡ number)
 HasCause s worker (Height number) = (number ≡ HEIGHT_LIMIT) × (end_of worker.state ≡ Some TooHigh)
 HasCause s worker (StoppedFirst number) = (number ≡ 1) × (end_of worker.state ≡ Some Stopped)
+HasCause s worker (Entries number) = ⊥

@@ -1,7 +1,7 @@
 -- A world: a table and a desk that several workers share, and what happens in it, one thing after the other, by any schedule.
 use Rattle.std.specs.Prelude.{◌≡◌, ◌+◌, ◌++◌, ◌⊎◌, ℕ, zero, suc, Bool, true, false, List, [], ◌∷◌, Some, None, replicate, slice_get, slice_set, slice_index_or, if◌then◌else◌}
 use Rattle.board_core.specs.Board.{Board}
-use Rattle.unit_desk.specs.Sizes.{SettingsView}
+use Rattle.search_limits.specs.Sizes.{SettingsView}
 use Rattle.visit_log.specs.Visit.{Event as Exchange}
 use Rattle.visit_log.specs.Machine.{path_of, starve, end_of}
 use Rattle.visit_log.specs.Run.{Standing}

@@ -13,7 +13,8 @@ use shogi_rules::Problem;
 use std::alloc::{AllocError, Global};
 use std::marker::Model;
 use table_shard::Shard;
-use unit_desk::{Desk, Settings};
+use search_limits::Settings;
+use unit_desk::Desk;
 use worker_core::Port;
 
 /// The table of positions and the desk of a search, for one worker at a time.

@@ -1,6 +1,6 @@
 // What the known positions tell.
 ghost use Rattle.std.specs.Prelude.{◌≡◌, ◌<◌, ◌≤◌, Bool, Ok, None, IfOk, length, true, false};
-ghost use Rattle.search_gate.specs.declared.expansions.TheConstants.{MOST_EXPANSIONS};
+ghost use Rattle.search_limits.specs.declared.expansions.TheConstants.{MOST_EXPANSIONS};
 ghost use Rattle.plain_search.specs.Graph.{IsGraph, expansions_of, positions_met};
 ghost use Rattle.plain_search.specs.Ranks.{rank_at, HasRank, AreWon, AreLost, AreRanks};
 ghost use Rattle.plain_search.specs.Decision.{IsToldBy};

@@ -6,7 +6,8 @@ use crate::decision::decide;
 use crate::grow::{graph_of, grow_to};
 use crate::outcome::Outcome;
 use board_core::order_laws;
-use search_gate::{Expansions, Gate};
+use search_gate::Gate;
+use search_limits::Expansions;
 use shogi_rules::Problem;
 use std::alloc::{AllocError, Global};
 

@@ -1,7 +1,7 @@
 // The entries of a mate: from the problem on, at each position the first check of its rank, and all that the evasions lead to.
 ghost use Rattle.std.specs.Prelude.{◌≡◌, ◌<◌, ◌≤◌, Some, IfOk, length, false, Contains};
 ghost use Rattle.board_core.specs.Order.{order_of, RisesFrom};
-ghost use Rattle.search_gate.specs.declared.expansions.TheConstants.{MOST_EXPANSIONS};
+ghost use Rattle.search_limits.specs.declared.expansions.TheConstants.{MOST_EXPANSIONS};
 ghost use Rattle.plain_search.specs.Graph.{IsGraph, steps_at, moves_of, expansions_of};
 ghost use Rattle.plain_search.specs.declared.graph.Step.{Step};
 ghost use Rattle.plain_search.specs.Ranks.{rank_at, HasRank, IsWon, IsBeaten, AreRanks};

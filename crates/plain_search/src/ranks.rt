@@ -1,6 +1,6 @@
 // Ranks of the known positions, by their places.
 ghost use Rattle.std.specs.Prelude.{◌≡◌, ◌<◌, ◌≤◌, ◌↔◌, None, Some, IfOk, IsTrue, length, replicate, count_by, is_none};
-ghost use Rattle.search_gate.specs.declared.expansions.TheConstants.{MOST_EXPANSIONS};
+ghost use Rattle.search_limits.specs.declared.expansions.TheConstants.{MOST_EXPANSIONS};
 ghost use Rattle.plain_search.specs.Graph.{IsGraph, expansions_of};
 ghost use Rattle.plain_search.specs.Ranks.{rank_at, IsRanked, IsBeaten, IsWon, IsNext, AreNext, AreRanks};
 

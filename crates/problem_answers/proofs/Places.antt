@@ -4,7 +4,8 @@ use Rattle.std.proofs.lemmas.Bool.{cases_eq}
 use Rattle.std.proofs.lemmas.Grind.{take_at_read}
 use Rattle.std.proofs.lemmas.List.{length-append, length-set, map-append, take_at, get_or_default, get_or_push, get_or-set_same, get_or-set_other}
 use Rattle.std.proofs.lemmas.List.Elements.{All-push, All-take}
-use Rattle.tsume_words.specs.Given.{SettingsView, CollectionView}
+use Rattle.tsume_words.specs.Given.{CollectionView}
+use Rattle.search_limits.specs.Sizes.{SettingsView}
 use Rattle.app_texts.specs.declared.report.Report.{Report}
 use Rattle.problem_lines.specs.declared.line.Line.{Line}
 use Rattle.app_texts.specs.Reports.{HasReportLine}

@@ -18,8 +18,8 @@ use Rattle.pn_numbers.proofs.selecting.Child.TheSendSync as of_child_pn
 use Rattle.visit_log.proofs.parts.Entry.TheSendSync as of_entry_visit
 use Rattle.visit_log.proofs.parts.Look.TheSendSync as of_look
 use Rattle.visit_log.proofs.words.WorkEnd.TheSendSync as of_workend
-use Rattle.unit_desk.proofs.cause.Cause.TheSendSync as of_cause
-use Rattle.unit_desk.proofs.settings.Settings.TheSendSync as of_settings
+use Rattle.search_limits.proofs.cause.Cause.TheSendSync as of_cause
+use Rattle.search_limits.proofs.settings.Settings.TheSendSync as of_settings
 use Rattle.path_tags.proofs.tag.Tag.TheSendSync as of_tag
 use Rattle.board_core.proofs.hand.Hand.TheSendSync as of_hand
 use Rattle.board_core.proofs.position.Position.TheSendSync as of_position

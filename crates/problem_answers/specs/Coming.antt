@@ -1,6 +1,7 @@
 -- The reports on a collection's lines, one after another.
 use Rattle.std.specs.Prelude.{◌≡◌, List, ◌∷◌}
-use Rattle.tsume_words.specs.Given.{SettingsView, CollectionView}
+use Rattle.tsume_words.specs.Given.{CollectionView}
+use Rattle.search_limits.specs.Sizes.{SettingsView}
 use Rattle.app_texts.specs.declared.report.Report.{Report}
 use Rattle.app_texts.specs.Reports.{HasReportLine}
 use Rattle.problem_lines.specs.Lines.{NumberedLine}

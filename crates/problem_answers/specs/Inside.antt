@@ -1,6 +1,7 @@
 -- What the private functions of this crate say of one another; no public clause cites these.
 use Rattle.std.specs.Prelude.{◌<◌, ℕ, List, Option, None, IfSome, length, slice_index_or}
-use Rattle.tsume_words.specs.Given.{SettingsView, CollectionView}
+use Rattle.tsume_words.specs.Given.{CollectionView}
+use Rattle.search_limits.specs.Sizes.{SettingsView}
 use Rattle.app_texts.specs.declared.report.Report.{Report}
 use Rattle.app_texts.specs.Reports.{HasReportLine}
 use Rattle.problem_lines.specs.Lines.{seen}

@@ -1,20 +1,21 @@
 // What is told of a line of a collection.
 ghost use Rattle.std.specs.Prelude.{Ok, Err, IfOk, MatchResult};
-ghost use Rattle.tsume_words.specs.Meaning.{settings_in, collection_in};
+ghost use Rattle.tsume_words.specs.Meaning.{collection_in};
+ghost use Rattle.search_limits.specs.Settings.{settings_in};
 ghost use Rattle.app_texts.specs.Reports.{HasReportLine};
 ghost use Rattle.app_texts.specs.Texts.{HasLine};
 ghost use Rattle.problem_lines.specs.Lines.{seen};
 ghost use Rattle.problem_answers.specs.Reading.{StandsFor};
-ghost use Rattle.problem_answers.specs.Answer.{search_numbers};
 ghost use Rattle.problem_answers.specs.Reports.{IsFoundAlone, IsTrueReport, line_form};
 
-use crate::{read_problem, search_settings, verdict};
+use crate::{read_problem, verdict};
 use app_texts::{LineFault, ProblemFault, Report, Solution};
 use problem_lines::Line;
 use search_pool::{SearchEnd, Table};
 use shogi_rules::Problem;
 use std::alloc::{AllocError, Global};
-use tsume_words::{CollectionForm, Format, ProblemForm, Settings};
+use search_limits::Settings;
+use tsume_words::{CollectionForm, Format, ProblemForm};
 
 // What a search alone finds of a problem.
 fn found_alone(
@@ -23,11 +24,10 @@ fn found_alone(
     problem: &Problem,
     settings: &Settings,
 ) -> Result<Solution, AllocError>
-    ensures found { IfOk result (IsFoundAlone problem.now.position (search_numbers (settings_in settings.now))) }
+    ensures found { IfOk result (IsFoundAlone problem.now.position (settings_in settings.now)) }
     ensures line { IfOk result HasLine }
 {
-    let numbers = search_settings(settings);
-    match table.search(alloc, problem, &numbers)? {
+    match table.search(alloc, problem, settings)? {
         SearchEnd::Solved(note) => verdict(alloc, problem, &note),
         SearchEnd::Unknown(cause, crew) => Ok(Solution::Unknown(cause, crew)),
     }

@@ -1,6 +1,7 @@
 // The reports on the lines of a collection, one after another.
 ghost use Rattle.std.specs.Prelude.{◌≡◌, ◌<◌, ◌++◌, [], IsTrue, All, IfOk, OnOk, MatchOption, length, map, vec_len};
-ghost use Rattle.tsume_words.specs.Meaning.{settings_in, collection_in};
+ghost use Rattle.tsume_words.specs.Meaning.{collection_in};
+ghost use Rattle.search_limits.specs.Settings.{settings_in};
 ghost use Rattle.problem_lines.specs.Lines.{problem_lines, seen};
 ghost use Rattle.problem_answers.specs.Coming.{Coming, IsNext};
 ghost use Rattle.problem_answers.specs.Inside.{IsReportOn};
@@ -12,7 +13,8 @@ use std::alloc::{AllocError, Global};
 use std::collections::VecDeque;
 use std::marker::Model;
 use std::thread::{self, Threads};
-use tsume_words::{CollectionForm, MOST_THREADS, Settings};
+use search_limits::Settings;
+use tsume_words::{CollectionForm, MOST_THREADS};
 
 // How many lines of a stretch there are for each thread.
 const LINES_A_THREAD: usize = 32;
@@ -41,7 +43,8 @@ pub struct Reports<'a> {
 
 impl<'a> Model for Reports<'a> {
     ghost use Rattle.std.specs.Prelude.{◌<◌, ◌++◌, All, map, vec_len};
-    ghost use Rattle.tsume_words.specs.Meaning.{settings_in, collection_in};
+    ghost use Rattle.tsume_words.specs.Meaning.{collection_in};
+    ghost use Rattle.search_limits.specs.Settings.{settings_in};
     ghost use Rattle.problem_lines.specs.Lines.{seen};
     ghost use Rattle.problem_answers.specs.Coming.{Coming};
     ghost use Rattle.problem_answers.specs.Inside.{IsReportOn};

@@ -1,7 +1,9 @@
 // Lines that are decided side by side.
 ghost use Rattle.std.specs.Prelude.{◌≡◌, ◌<◌, ℕ, List, Some, None, All, IfOk, length, map, slice_index_or, slice_set, vec_len};
-ghost use Rattle.tsume_words.specs.Given.{SettingsView, CollectionView};
-ghost use Rattle.tsume_words.specs.Meaning.{settings_in, collection_in};
+ghost use Rattle.tsume_words.specs.Given.{CollectionView};
+ghost use Rattle.search_limits.specs.Sizes.{SettingsView};
+ghost use Rattle.tsume_words.specs.Meaning.{collection_in};
+ghost use Rattle.search_limits.specs.Settings.{settings_in};
 ghost use Rattle.problem_lines.specs.declared.line.Line.{Line};
 ghost use Rattle.problem_answers.specs.declared.seat.Seat.{Seat};
 ghost use Rattle.problem_answers.specs.Inside.{IsReportOn, IsReportAt, AreReportsAt};
@@ -15,7 +17,8 @@ use std::alloc::{AllocError, Global};
 use std::collections::VecDeque;
 use std::sync::atomic::{AtomicU64, Ordering};
 use std::thread::{self, Threads};
-use tsume_words::{CollectionForm, Settings};
+use search_limits::Settings;
+use tsume_words::CollectionForm;
 
 // The report on the line at a place.
 #[derive(Drop)]

@@ -3,6 +3,7 @@ use Rattle.std.specs.Prelude.{ℕ, ◌==◌, ◌||◌, nat_eq, nat_lt, Bool, not
 use Rattle.std.specs.List.{before_first, enumerate_from, list_all, starts_with}
 use Rattle.std.specs.Str.Lines.{lines}
 use Rattle.problem_lines.specs.declared.line.Line.{Line}
+use Rattle.problem_lines.specs.declared.line.TheConstants.{MOST_PROBLEM_BYTES}
 
 -- A line that holds a problem: its number, the bytes of the problem, and whether the line is too long.
 pub record NumberedLine : Type 0 where
@@ -22,12 +23,12 @@ is_skipped content = list_all (λ byte. byte == 32) content || starts_with nat_e
 abbrev pub holds_problem : ℕ × List ℕ → Bool
 holds_problem line = not (is_skipped (without_note line.1))
 
--- A line that holds a problem, with its number. It is too long where it has more than 65,536 bytes, its note among them.
+-- A line that holds a problem, with its number. It is too long where it has more bytes than a problem may, its note among them.
 abbrev pub numbered_line : ℕ × List ℕ → NumberedLine
 numbered_line line = record {
   number = line.0;
   content = without_note line.1;
-  is_too_long = nat_lt 65536 (length line.1);
+  is_too_long = nat_lt MOST_PROBLEM_BYTES (length line.1);
 }
 
 -- Those of some lines that hold a problem, where the lines are numbered from here on.

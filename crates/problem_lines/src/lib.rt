@@ -9,5 +9,5 @@ mod cut;
 mod line;
 mod lines;
 
-pub use line::{Line, MOST_BYTES};
+pub use line::{Line, MOST_PROBLEM_BYTES};
 pub use lines::Lines;

@@ -1,7 +1,7 @@
 // A line that holds a problem.
 
-/// The most bytes that a line with a problem may have, its note among them, and its end not.
-pub const MOST_BYTES: usize = 65_536;
+/// The most bytes that the text of a problem may have; of a line with one, its note among them, and its end not.
+pub const MOST_PROBLEM_BYTES: usize = 65_536;
 
 /// A line of a collection that holds a problem.
 #[derive(Clone, Copy, Debug)]
@@ -10,6 +10,6 @@ pub struct Line<'a> {
     pub number: u64,
     /// The bytes of the problem: the line without its end and without its note.
     pub content: &'a [u8],
-    /// Whether the line has more than [`MOST_BYTES`] bytes.
+    /// Whether the line has more than [`MOST_PROBLEM_BYTES`] bytes.
     pub is_too_long: bool,
 }

@@ -6,7 +6,7 @@ ghost use Rattle.problem_lines.specs.Lines.{problem_lines, seen};
 ghost use Rattle.problem_lines.specs.Written.{ListsWhatIsWritten, HoldsProblem};
 
 use crate::cut::{is_skipped, split_first, without_note};
-use crate::{Line, MOST_BYTES};
+use crate::{Line, MOST_PROBLEM_BYTES};
 use std::marker::Model;
 
 /// Goes over the lines of a text. Contracts see the lines that hold a problem and are still to come.
@@ -62,7 +62,7 @@ impl<'a> Lines<'a> {
                 return Some(Line {
                     number,
                     content,
-                    is_too_long: whole.len() > MOST_BYTES,
+                    is_too_long: whole.len() > MOST_PROBLEM_BYTES,
                 });
             }
         }

@@ -14,7 +14,7 @@ use search_pool::{Crew, Tally};
 use sfen_text::TextFault;
 use std::alloc::{AllocError, Global};
 use std::test::Fail;
-use unit_desk::Cause;
+use search_limits::Cause;
 use usi_text::read_move;
 
 // The certificate of two rooks' mate, and one of no mate.
@@ -50,6 +50,10 @@ fn an_accepted_mate_and_each_cause_have_their_texts(rt: HostRuntime) -> Result<(
             "checkmate timeout\nunknown height 4096\n",
         ),
         (Cause::Stopped(1), "checkmate timeout\nunknown stopped\n"),
+        (
+            Cause::Entries(1_400_000),
+            "checkmate timeout\nunknown entries 1400000\n",
+        ),
     ];
     for (cause, wanted) in table {
         let crew = Crew::new(Vec::new(alloc));

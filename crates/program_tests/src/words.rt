@@ -3,57 +3,58 @@ use crate::lines::words_of;
 use crate::same::same;
 use std::alloc::{AllocError, Global};
 use std::test::Fail;
+use search_limits::Settings;
 use tsume_words::{
-    Asked, CollectionForm, Command, Format, Settings, SurveyRange, WordsEnd, read_words,
+    Asked, CollectionForm, Command, Format, SurveyRange, WordsEnd, read_words,
 };
 
 // A line, and what it asks for: the numbers in the order of the settings, whether `--rest` stands, `kif` where
 // `--kif` does, `until` the deadline, and `telling` where `--progress` stands; or the workers; and the file. Of
 // the commands over many problems the seed, the count and the expansions; or the settings, whether `--rest`
 // stands, `told` where `--certificates` does, and `by` the threads.
-static ASKED: [(&str, &str); 58] = [
-    ("solve", "solve 1 1000000 1048576 65536 16 false"),
-    ("solve --rest", "solve 1 1000000 1048576 65536 16 true"),
-    ("solve --kif", "solve 1 1000000 1048576 65536 16 false kif"),
+static ASKED: [(&str, &str); 59] = [
+    ("solve", "solve 1 1000000 1000000000 65536 64 false"),
+    ("solve --rest", "solve 1 1000000 1000000000 65536 64 true"),
+    ("solve --kif", "solve 1 1000000 1000000000 65536 64 false kif"),
     (
         "solve --rest --kif a.kif",
-        "solve 1 1000000 1048576 65536 16 true kif of a.kif",
+        "solve 1 1000000 1000000000 65536 64 true kif of a.kif",
     ),
     (
         "solve --workers 64",
-        "solve 64 1000000 1048576 65536 16 false",
+        "solve 64 1000000 1000000000 65536 64 false",
     ),
     (
         "solve --workers=7",
-        "solve 7 1000000 1048576 65536 16 false",
+        "solve 7 1000000 1000000000 65536 64 false",
     ),
     (
         "solve --workers +5",
-        "solve 5 1000000 1048576 65536 16 false",
+        "solve 5 1000000 1000000000 65536 64 false",
     ),
     (
         "solve --workers 05",
-        "solve 5 1000000 1048576 65536 16 false",
+        "solve 5 1000000 1000000000 65536 64 false",
     ),
-    ("solve --expansions 1", "solve 1 1 1048576 65536 16 false"),
+    ("solve --expansions 1", "solve 1 1 1000000000 65536 64 false"),
     (
         "solve --expansions 1000000000",
-        "solve 1 1000000000 1048576 65536 16 false",
+        "solve 1 1000000000 1000000000 65536 64 false",
     ),
-    ("solve --room 1", "solve 1 1000000 1 65536 16 false"),
+    ("solve --room 1", "solve 1 1000000 1 65536 64 false"),
     (
-        "solve --room 1400000",
-        "solve 1 1000000 1400000 65536 16 false",
+        "solve --room 1000000000",
+        "solve 1 1000000 1000000000 65536 64 false",
     ),
-    ("solve --rows 16", "solve 1 1000000 1048576 16 16 false"),
+    ("solve --rows 16", "solve 1 1000000 1000000000 16 16 false"),
     (
-        "solve --rows 1048576",
-        "solve 1 1000000 1048576 1048576 16 false",
+        "solve --rows 16777216",
+        "solve 1 1000000 1000000000 16777216 64 false",
     ),
-    ("solve --shards 1", "solve 1 1000000 1048576 65536 1 false"),
+    ("solve --shards 1", "solve 1 1000000 1000000000 65536 1 false"),
     (
-        "solve --shards 64",
-        "solve 1 1000000 1048576 65536 64 false",
+        "solve --shards 256",
+        "solve 1 1000000 1000000000 65536 256 false",
     ),
     (
         "solve --rest --shards 2 --rows 32 --room 3 --expansions 4 --workers 5",
@@ -61,11 +62,11 @@ static ASKED: [(&str, &str); 58] = [
     ),
     (
         "solve --deadline 1",
-        "solve 1 1000000 1048576 65536 16 false until 1",
+        "solve 1 1000000 1000000000 65536 64 false until 1",
     ),
     (
         "solve --progress --deadline 86400000",
-        "solve 1 1000000 1048576 65536 16 false until 86400000 telling",
+        "solve 1 1000000 1000000000 65536 64 false until 86400000 telling",
     ),
     ("check", "check 1"),
     ("check --workers 3", "check 3"),
@@ -76,7 +77,7 @@ static ASKED: [(&str, &str); 58] = [
     ("check -- --help", "check 1 of --help"),
     (
         "solve --rest a/b.sfen",
-        "solve 1 1000000 1048576 65536 16 true of a/b.sfen",
+        "solve 1 1000000 1000000000 65536 64 true of a/b.sfen",
     ),
     ("solve --rows 24", "rows is no power of two"),
     ("solve --rows 1000 --shards 3", "rows is no power of two"),
@@ -89,50 +90,50 @@ static ASKED: [(&str, &str); 58] = [
     ("survey --expansions 1", "survey 0 100 1"),
     ("survey --expansions 1000000000", "survey 0 100 1000000000"),
     ("survey --count 7 --seed 05 --expansions +9", "survey 5 7 9"),
-    ("collection", "collection 1 100000 1048576 65536 16 false"),
+    ("collection", "collection 1 100000 1000000000 65536 64 false"),
     (
         "collection --rest",
-        "collection 1 100000 1048576 65536 16 true",
+        "collection 1 100000 1000000000 65536 64 true",
     ),
     (
         "collection --certificates",
-        "collection 1 100000 1048576 65536 16 false told",
+        "collection 1 100000 1000000000 65536 64 false told",
     ),
     (
         "collection --threads 1",
-        "collection 1 100000 1048576 65536 16 false by 1",
+        "collection 1 100000 1000000000 65536 64 false by 1",
     ),
     (
         "collection --threads 64",
-        "collection 1 100000 1048576 65536 16 false by 64",
+        "collection 1 100000 1000000000 65536 64 false by 64",
     ),
     (
         "collection --expansions 1",
-        "collection 1 1 1048576 65536 16 false",
+        "collection 1 1 1000000000 65536 64 false",
     ),
     (
         "collection --expansions 1000000000",
-        "collection 1 1000000000 1048576 65536 16 false",
+        "collection 1 1000000000 1000000000 65536 64 false",
     ),
     (
         "collection --room 1",
-        "collection 1 100000 1 65536 16 false",
+        "collection 1 100000 1 65536 64 false",
     ),
     (
-        "collection --room 1400000",
-        "collection 1 100000 1400000 65536 16 false",
+        "collection --room 1000000000",
+        "collection 1 100000 1000000000 65536 64 false",
     ),
     (
         "collection --rows 16",
-        "collection 1 100000 1048576 16 16 false",
+        "collection 1 100000 1000000000 16 16 false",
     ),
     (
-        "collection --rows 1048576",
-        "collection 1 100000 1048576 1048576 16 false",
+        "collection --rows 16777216",
+        "collection 1 100000 1000000000 16777216 64 false",
     ),
     (
-        "collection --shards 64",
-        "collection 1 100000 1048576 65536 64 false",
+        "collection --shards 256",
+        "collection 1 100000 1000000000 65536 256 false",
     ),
     (
         "collection --threads 3 --shards 2 --rows 32 --room 4 --expansions 5 --certificates --rest",
@@ -140,23 +141,27 @@ static ASKED: [(&str, &str); 58] = [
     ),
     (
         "collection a.sfen",
-        "collection 1 100000 1048576 65536 16 false of a.sfen",
+        "collection 1 100000 1000000000 65536 64 false of a.sfen",
     ),
-    ("collection -", "collection 1 100000 1048576 65536 16 false"),
+    ("collection -", "collection 1 100000 1000000000 65536 64 false"),
     (
         "collection --rest - --threads 2",
-        "collection 1 100000 1048576 65536 16 true by 2",
+        "collection 1 100000 1000000000 65536 64 true by 2",
     ),
     (
         "collection -- --rest",
-        "collection 1 100000 1048576 65536 16 false of --rest",
+        "collection 1 100000 1000000000 65536 64 false of --rest",
     ),
     ("collection --rows 24 --shards 3", "rows is no power of two"),
     ("collection --shards 24", "shards is no power of two"),
     ("collection --rows 16 --shards 32", "more shards than rows"),
     (
         "collection --rows 32 --shards 32",
-        "collection 1 100000 1048576 32 32 false",
+        "collection 1 100000 1000000000 32 32 false",
+    ),
+    (
+        "collection --rows 128",
+        "collection 1 100000 1000000000 128 64 false",
     ),
 ];
 
@@ -213,20 +218,20 @@ static REFUSED: [(&str, &str); 39] = [
         "error: invalid value '1000000001' for '--expansions <N>'",
     ),
     (
-        "solve --room 1400001",
-        "error: invalid value '1400001' for '--room <N>'",
+        "solve --room 1000000001",
+        "error: invalid value '1000000001' for '--room <N>'",
     ),
     (
         "solve --rows 8",
-        "error: invalid value '8' for '--rows <N>': 8 is not in 16..=1048576",
+        "error: invalid value '8' for '--rows <N>': 8 is not in 16..=16777216",
     ),
     (
-        "solve --rows 1048577",
-        "error: invalid value '1048577' for '--rows <N>'",
+        "solve --rows 16777217",
+        "error: invalid value '16777217' for '--rows <N>'",
     ),
     (
-        "solve --shards 65",
-        "error: invalid value '65' for '--shards <N>'",
+        "solve --shards 257",
+        "error: invalid value '257' for '--shards <N>': 257 is not in 1..=256",
     ),
     (
         "solve --deadline 0",
@@ -366,7 +371,7 @@ static HELPED: [(&str, &str); 27] = [
     ),
     (
         "collection --rows 24 -h",
-        "power of two, 16 to 1048576. A row takes 1 KB, all at\n",
+        "power of two, 16 to 16777216. A row takes 1 KB, all at\n",
     ),
     (
         "help collection",
@@ -396,7 +401,6 @@ fn command_text(alloc: Global, command: &Command) -> Result<String, AllocError> 
                 rows,
                 shards,
             } = *settings;
-            let expansions = expansions.count;
             let rest = form.rest;
             let kif = match form.format {
                 Format::Sfen => "",
@@ -442,7 +446,6 @@ fn collection_text(
         rows,
         shards,
     } = *settings;
-    let expansions = expansions.count;
     let rest = form.rest;
     let told = if form.certificates { " told" } else { "" };
     let collection = format!(in alloc;

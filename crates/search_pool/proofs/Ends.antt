@@ -6,9 +6,9 @@ use Rattle.board_core.specs.Board.{Board}
 use Rattle.notes.specs.Derivation.{Derivation}
 use Rattle.notes.specs.declared.words.Draw.TheVariants.{Spent as AllDrawn}
 use Rattle.notes.specs.declared.words.Claim.TheVariants.{NoRoom as Full}
-use Rattle.unit_desk.specs.Sizes.{SettingsView}
-use Rattle.unit_desk.specs.declared.cause.Cause.{Cause}
-use Rattle.unit_desk.specs.declared.cause.Cause.TheVariants.{Expansions, Room, Height, Stopped as StoppedFirst}
+use Rattle.search_limits.specs.Sizes.{SettingsView}
+use Rattle.search_limits.specs.declared.cause.Cause.{Cause}
+use Rattle.search_limits.specs.declared.cause.Cause.TheVariants.{Expansions, Room, Height, Stopped as StoppedFirst, Entries}
 use Rattle.visit_log.specs.declared.words.WorkEnd.{WorkEnd}
 use Rattle.visit_log.specs.declared.words.WorkEnd.TheVariants.{Posted, Spent, NoRoom, TooHigh, Stopped}
 use Rattle.visit_log.specs.declared.parts.Stage.TheVariants.{Winding}
@@ -143,6 +143,7 @@ cause_by problem s before after port worker end (Room number) way ended law whol
     (is.0, full, sym way.rooms ∙ (all ∙ (way.room ∙ sym is.0)))
 cause_by problem s before after port worker end (Height number) way ended law whole is = (is.0, ended ∙ ap Some is.1)
 cause_by problem s before after port worker end (StoppedFirst number) way ended law whole is = (is.0, ended ∙ ap Some is.1)
+cause_by problem s before after port worker end (Entries number) way ended law whole is = absurd is
 
 -- Without one, for a cause.
 pub ends_unknown : (problem : Board) (s : SettingsView) (before after : Signal) (port : Lone) (worker : Standing) (end : WorkEnd) (cause : Cause) (crew : List Standing)
@@ -182,6 +183,7 @@ heeds_unknown problem s before after port worker end (Room number) crew way ende
     not_stopped problem s before after port worker end way ended (λ e. let k : NoRoom ≡ Stopped = sym is.1 ∙ e in absurd (cc))
 heeds_unknown problem s before after port worker end (Height number) crew way ended law whole is =
     not_stopped problem s before after port worker end way ended (λ e. let k : TooHigh ≡ Stopped = sym is.1 ∙ e in absurd (cc))
+heeds_unknown problem s before after port worker end (Entries number) crew way ended law whole is = absurd is
 heeds_unknown problem s before after port worker end (StoppedFirst number) crew way ended law whole is =
     let stopped : end_of worker.state ≡ Some Stopped = ended ∙ ap Some is.1 in
     let told = law worker.task way.log Stopped (visit_log problem worker way.log Stopped way.task way.idle way.leads stopped whole) in

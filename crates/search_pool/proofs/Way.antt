@@ -4,7 +4,7 @@ use Rattle.std.specs.Prelude.{Some, None, All, if◌then◌else◌}
 use Rattle.std.proofs.lemmas.List.{map_push}
 use Rattle.std.proofs.lemmas.List.Elements.{All-push, All-append, All-cons, All-nil}
 use Rattle.board_core.specs.Board.{Board}
-use Rattle.unit_desk.specs.Sizes.{SettingsView}
+use Rattle.search_limits.specs.Sizes.{SettingsView}
 use Rattle.visit_log.specs.Visit.{Event as Exchange}
 use Rattle.visit_log.specs.Frame.{Task}
 use Rattle.visit_log.specs.Machine.{State, asks, end_of, path_of}

@@ -2,8 +2,8 @@
 use Rattle.std.specs.Prelude.{◌≡◌, ◌⊎◌, ℕ, List, [], ◌∷◌, Some, None, All, IsSome, if◌then◌else◌}
 use Rattle.board_core.specs.Board.{Board}
 use Rattle.search_gate.specs.Stop.{Signal, one_more}
-use Rattle.unit_desk.specs.Sizes.{SettingsView}
-use Rattle.unit_desk.specs.declared.cause.Cause.TheVariants.{Expansions, Room, Height, Stopped}
+use Rattle.search_limits.specs.Sizes.{SettingsView}
+use Rattle.search_limits.specs.declared.cause.Cause.TheVariants.{Expansions, Room, Height, Stopped, Entries}
 use Rattle.visit_log.specs.Visit.{Event as Exchange}
 use Rattle.visit_log.specs.Frame.{task_for}
 use Rattle.visit_log.specs.Machine.{end_of}
@@ -60,3 +60,4 @@ HeedsStop before after (Unknown (Expansions number) crew) = after.raised ≡ bef
 HeedsStop before after (Unknown (Room number) crew) = after.raised ≡ before.raised
 HeedsStop before after (Unknown (Height number) crew) = after.raised ≡ before.raised
 HeedsStop before after (Unknown (Stopped worker) crew) = (after.raised ≡ one_more before.raised) × (after.last ≡ after.polls)
+HeedsStop before after (Unknown (Entries number) crew) = ⊥

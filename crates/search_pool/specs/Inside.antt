@@ -4,13 +4,13 @@ use Rattle.board_core.specs.Board.{Board}
 use Rattle.notes.specs.declared.words.Draw.TheVariants.{Done, Spent as AllDrawn}
 use Rattle.notes.specs.declared.words.Claim.TheVariants.{NoRoom as Full}
 use Rattle.notes.specs.declared.note.TheConstants.{HEIGHT_LIMIT}
-use Rattle.unit_desk.specs.declared.cause.Cause.{Cause}
-use Rattle.unit_desk.specs.declared.cause.Cause.TheVariants.{Expansions, Room, Height, Stopped as StoppedFirst}
+use Rattle.search_limits.specs.declared.cause.Cause.{Cause}
+use Rattle.search_limits.specs.declared.cause.Cause.TheVariants.{Expansions, Room, Height, Stopped as StoppedFirst, Entries}
 use Rattle.visit_log.specs.declared.words.WorkEnd.{WorkEnd}
 use Rattle.visit_log.specs.declared.words.WorkEnd.TheVariants.{Posted, Spent, NoRoom, TooHigh, Stopped}
 use Rattle.visit_log.specs.declared.parts.Stage.TheVariants.{Winding}
 use Rattle.search_gate.specs.Stop.{Signal, one_more}
-use Rattle.unit_desk.specs.Sizes.{SettingsView}
+use Rattle.search_limits.specs.Sizes.{SettingsView}
 use Rattle.unit_desk.specs.Desk.{DeskView}
 use Rattle.visit_log.specs.declared.words.Answer.TheVariants.{Poll as Polled, Draw as Drew, Claim as Claimed, Post as PostedIt}
 use Rattle.visit_log.specs.Frame.{task_for}
@@ -97,3 +97,4 @@ IsCauseOf s end (Expansions number) = (number ≡ s.expansions) × (end ≡ Spen
 IsCauseOf s end (Room number) = (number ≡ s.room) × (end ≡ NoRoom)
 IsCauseOf s end (Height number) = (number ≡ HEIGHT_LIMIT) × (end ≡ TooHigh)
 IsCauseOf s end (StoppedFirst number) = (number ≡ 1) × (end ≡ Stopped)
+IsCauseOf s end (Entries number) = ⊥

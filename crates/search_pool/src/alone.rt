@@ -1,6 +1,6 @@
 // A search with one worker.
 ghost use Rattle.std.specs.Prelude.{◌≡◌, ℕ, IsTrue, IfOk, IfSome, IfNone, ◌⊎◌, Some, None, true, false, MatchOption, if◌then◌else◌};
-ghost use Rattle.unit_desk.specs.Settings.{settings_in};
+ghost use Rattle.search_limits.specs.Settings.{settings_in};
 ghost use Rattle.visit_log.specs.Machine.{asks, end_of};
 ghost use Rattle.visit_log.specs.declared.words.WorkEnd.TheVariants.{Posted, NoMemory};
 ghost use Rattle.worker_core.specs.Machine.{is_poll};
@@ -16,7 +16,7 @@ use notes::HEIGHT_LIMIT;
 use search_gate::{Gate, OpenGate, QuietStop, Stop};
 use shogi_rules::Problem;
 use std::alloc::{AllocError, Global};
-use unit_desk::{Cause, Settings};
+use search_limits::{Cause, Settings};
 use visit_log::{WorkEnd, visit_laws};
 use worker_core::Worker;
 

@@ -1,6 +1,6 @@
 // A table for many searches, one after the other.
 ghost use Rattle.std.specs.Prelude.{◌≡◌, ℕ, IfOk};
-ghost use Rattle.unit_desk.specs.Settings.{settings_in};
+ghost use Rattle.search_limits.specs.Settings.{settings_in};
 ghost use Rattle.worker_core.specs.Port.{Suits};
 ghost use Rattle.lone_port.specs.Lone.{alone_at_first, worker_at_first, book_of};
 ghost use Rattle.search_pool.specs.End.{IsAlone, IsSolution};
@@ -11,7 +11,7 @@ use lone_port::LonePort;
 use search_gate::{OpenGate, QuietStop};
 use shogi_rules::Problem;
 use std::alloc::{AllocError, Global};
-use unit_desk::Settings;
+use search_limits::Settings;
 
 /// A table that searches use one after the other, so that its memory is taken once. It is emptied for each, so none knows what another found.
 #[derive(Drop)]

@@ -1,5 +1,5 @@
 // What the search of a problem came to.
-use unit_desk::Cause;
+use search_limits::Cause;
 
 /// What the search of a problem came to.
 #[derive(Clone, Copy, PartialEq, Eq, Debug)]

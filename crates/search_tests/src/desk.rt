@@ -2,7 +2,8 @@
 use crate::problems::{problem, settings};
 use crate::same::same;
 use notes::{Claim, Draw};
-use unit_desk::{Desk, Setting, Settings, SettingsFault, Size};
+use search_limits::{Setting, Settings, SettingsFault, Size, default_shards};
+use unit_desk::Desk;
 
 #[test]
 fn settings_lie_in_their_ranges_and_sizes_are_powers_of_two(rt: HostRuntime) {
@@ -10,7 +11,7 @@ fn settings_lie_in_their_ranges_and_sizes_are_powers_of_two(rt: HostRuntime) {
     use SettingsFault::{MoreShardsThanRows, NotPowerOfTwo, OutOfRange};
     let table = [
         (1, 1, 1, 16, 1, None),
-        (64, 1_000_000_000, 1_400_000, 1_048_576, 64, None),
+        (64, 1_000_000_000, 1_000_000_000, 16_777_216, 256, None),
         (1, 1_000_000, 1_048_576, 16_384, 16, None),
         (3, 5, 7, 16, 16, None),
         (0, 0, 0, 0, 0, Some(OutOfRange(Workers))),
@@ -18,11 +19,11 @@ fn settings_lie_in_their_ranges_and_sizes_are_powers_of_two(rt: HostRuntime) {
         (1, 0, 0, 17, 3, Some(OutOfRange(Expansions))),
         (1, 1_000_000_001, 1, 16, 1, Some(OutOfRange(Expansions))),
         (1, 1, 0, 8, 1, Some(OutOfRange(Room))),
-        (1, 1, 1_400_001, 16, 1, Some(OutOfRange(Room))),
-        (1, 1, 1, 8, 128, Some(OutOfRange(Rows))),
-        (1, 1, 1, 2_097_152, 1, Some(OutOfRange(Rows))),
+        (1, 1, 1_000_000_001, 16, 1, Some(OutOfRange(Room))),
+        (1, 1, 1, 8, 512, Some(OutOfRange(Rows))),
+        (1, 1, 1, 33_554_432, 1, Some(OutOfRange(Rows))),
         (1, 1, 1, 17, 0, Some(OutOfRange(Shards))),
-        (1, 1, 1, 16, 128, Some(OutOfRange(Shards))),
+        (1, 1, 1, 16, 512, Some(OutOfRange(Shards))),
         (1, 1, 1, 48, 3, Some(NotPowerOfTwo(Size::Rows))),
         (1, 1, 1, 16, 48, Some(NotPowerOfTwo(Size::Shards))),
         (1, 1, 1, 16, 32, Some(MoreShardsThanRows)),
@@ -41,6 +42,13 @@ fn settings_lie_in_their_ranges_and_sizes_are_powers_of_two(rt: HostRuntime) {
             Err(fault) => (workers, expansions, room, rows, shards, Some(fault)),
         };
         same(&rt, "settings", found, row);
+    }
+}
+
+#[test]
+fn a_table_has_64_shards_unless_told_or_as_many_as_rows(rt: HostRuntime) {
+    for (rows, wanted) in [(16, 16), (32, 32), (64, 64), (128, 64), (65_536, 64)] {
+        same(&rt, rows, default_shards(rows), wanted);
     }
 }
 

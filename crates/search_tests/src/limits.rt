@@ -1,8 +1,7 @@
 // Counts of expansions, gates and stops.
 use crate::same::same;
-use search_gate::{
-    Clock, DeadlineStop, Expansions, Gate, MOST_EXPANSIONS, MemStop, OpenGate, QuietStop, Stop,
-};
+use search_gate::{Clock, DeadlineStop, Gate, MemStop, OpenGate, QuietStop, Stop};
+use search_limits::{Expansions, MOST_EXPANSIONS};
 use std::test::Fail;
 
 #[test]

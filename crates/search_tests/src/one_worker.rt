@@ -11,7 +11,7 @@ use scripted::Scripted;
 use shogi_rules::Problem;
 use std::alloc::Global;
 use std::test::Fail;
-use unit_desk::Settings;
+use search_limits::Settings;
 use visit_log::WorkEnd;
 use worker_core::{Worker, work, work_until};
 

@@ -2,7 +2,8 @@
 use crate::problems::{ALONE, GOLD, ROOKS, problem};
 use crate::same::same;
 use plain_search::{Outcome, search};
-use search_gate::{Expansions, Gate};
+use search_gate::Gate;
+use search_limits::Expansions;
 use std::sync::atomic::{AtomicU64, Ordering};
 use std::test::Fail;
 

@@ -2,7 +2,7 @@
 use sfen_text::read_sfen;
 use shogi_rules::{Problem, accept_problem};
 use std::process::Abort;
-use unit_desk::Settings;
+use search_limits::Settings;
 
 // Two rooks: a mate in three, since a rook is dropped far off on the king's row, and the other one follows it to
 // the last.

@@ -5,7 +5,7 @@ use notes::Conclusion;
 use search_gate::{MemStop, OpenGate};
 use search_pool::{SearchEnd, search_alone, search_alone_until};
 use std::test::Fail;
-use unit_desk::Cause;
+use search_limits::Cause;
 
 // What a search ended with: what its note concludes, or the cause.
 fn told(end: &SearchEnd) -> (Option<Conclusion>, Option<Cause>) {

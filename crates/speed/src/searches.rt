@@ -11,7 +11,7 @@ use std::io;
 use std::sync::atomic::{AtomicU64, Ordering};
 use std::time::Instant;
 use tsume_io::StdClock;
-use unit_desk::Settings;
+use search_limits::Settings;
 use world_play::World;
 
 // The most units that a problem may take in a world.

@@ -6,7 +6,8 @@ use Rattle.notes.specs.declared.rule.Conclusion.{Conclusion}
 use Rattle.notes.specs.declared.rule.Conclusion.TheVariants as conclusions
 use Rattle.notes.specs.Derivation.{conclusion_of}
 use Rattle.problem_gen.specs.Generator.{IsGenerated}
-use Rattle.unit_desk.specs.Sizes.{SettingsView, numbers_of}
+use Rattle.search_limits.specs.declared.settings.TheConstants.{MOST_ROOM}
+use Rattle.search_limits.specs.Sizes.{SettingsView, numbers_of}
 use Rattle.search_pool.specs.declared.end.SearchEnd.{SearchEnd}
 use Rattle.search_pool.specs.declared.end.SearchEnd.TheVariants as ends
 use Rattle.search_pool.specs.End.{IsAlone}
@@ -36,9 +37,9 @@ pub record ComesTo (problem : Board) (s : SettingsView) (tally : Tally) : Type 0
   pub told : tally ≡ tally_of end
   pub is_true : IsTrueOf problem tally
 
--- The settings of each search: one worker, so many units, room for 1,048,576 notes, and 1,024 rows in one part.
+-- The settings of each search: one worker, so many units, all the room that there can be, and 1,024 rows in one part.
 abbrev pub survey_settings : ℕ → SettingsView
-survey_settings expansions = numbers_of 1 expansions 1048576 1024 1
+survey_settings expansions = numbers_of 1 expansions MOST_ROOM 1024 1
 
 -- The tally of a number, with so many units: that of the problem that the generator makes of the number.
 pub record IsTallied (expansions number : ℕ) (tally : Tally) : Type 0 where

@@ -1,7 +1,7 @@
 // Problems that are decided side by side.
 ghost use Rattle.std.specs.Prelude.{◌≡◌, ◌<◌, ◌≤◌, ◌+◌, ℕ, Some, All, IfOk, length, slice_set, vec_len};
-ghost use Rattle.unit_desk.specs.declared.settings.TheConstants.{MOST_EXPANSIONS};
-ghost use Rattle.survey.specs.declared.tallies.TheConstants.{MOST_SEED};
+ghost use Rattle.search_limits.specs.declared.expansions.TheConstants.{MOST_EXPANSIONS};
+ghost use Rattle.search_limits.specs.declared.many.TheConstants.{MOST_SEED};
 ghost use Rattle.survey.specs.Tally.{IsTallied, AreTallied};
 ghost use Rattle.survey.specs.Inside.{IsMade, AreTalliesAt};
 

@@ -1,8 +1,8 @@
 // One problem.
 ghost use Rattle.std.specs.Prelude.{◌≡◌, ◌≤◌, IfOk};
 ghost use Rattle.notes.specs.Derivation.{conclusion_of};
-ghost use Rattle.unit_desk.specs.Settings.{settings_in};
-ghost use Rattle.unit_desk.specs.declared.settings.TheConstants.{MOST_EXPANSIONS};
+ghost use Rattle.search_limits.specs.Settings.{settings_in};
+ghost use Rattle.search_limits.specs.declared.expansions.TheConstants.{MOST_EXPANSIONS};
 ghost use Rattle.visit_log.specs.Frame.{task_for};
 ghost use Rattle.visit_log.specs.Sound.{IsAnswer};
 ghost use Rattle.survey.specs.Tally.{tally_by, IsTrueOf, ComesTo, survey_settings};
@@ -12,7 +12,7 @@ use notes::{Conclusion, Note};
 use search_pool::{SearchEnd, Tally, search_alone};
 use shogi_rules::Problem;
 use std::alloc::{AllocError, Global};
-use unit_desk::Settings;
+use search_limits::{MOST_ROOM, Settings};
 
 fn settings(expansions: u64) -> Settings
     requires from { 1 ≤ expansions }
@@ -22,7 +22,7 @@ fn settings(expansions: u64) -> Settings
     Settings {
         workers: 1,
         expansions,
-        room: 1_048_576,
+        room: MOST_ROOM,
         rows: 1024,
         shards: 1,
     }

@@ -9,4 +9,4 @@ mod apart;
 mod decide;
 mod tallies;
 
-pub use tallies::{MOST_COUNT, MOST_SEED, survey};
+pub use tallies::survey;

@@ -1,7 +1,7 @@
 // Many problems.
 ghost use Rattle.std.specs.Prelude.{◌≤◌, ◌+◌, IfOk};
-ghost use Rattle.unit_desk.specs.declared.settings.TheConstants.{MOST_EXPANSIONS};
-ghost use Rattle.survey.specs.declared.tallies.TheConstants.{MOST_SEED, MOST_COUNT};
+ghost use Rattle.search_limits.specs.declared.expansions.TheConstants.{MOST_EXPANSIONS};
+ghost use Rattle.search_limits.specs.declared.many.TheConstants.{MOST_SEED, MOST_COUNT};
 ghost use Rattle.survey.specs.Tally.{AreTallied};
 
 use crate::apart::{Asked, decide_apart};
@@ -9,15 +9,10 @@ use search_pool::Tally;
 use std::alloc::{AllocError, Global};
 use std::thread::Threads;
 
-/// The greatest number with which a survey may begin.
-pub const MOST_SEED: u64 = 1_000_000_000;
-
-/// The most problems of a survey.
-pub const MOST_COUNT: u32 = 10_000;
-
 /// What the searches of so many problems of the generator come to, those of the seed and the numbers behind it, in this order; the
-/// seed is at most [`MOST_SEED`], and they are at most [`MOST_COUNT`]. Each search has one worker, so many units (1 to 1,000,000,000:
-/// visits of positions), room for 1,048,576 notes and a table of 1,024 rows, which takes about 1 MB at once. There is a thread for each processor that the
+/// seed is at most [`MOST_SEED`](search_limits::MOST_SEED), and they are at most [`MOST_COUNT`](search_limits::MOST_COUNT). Each search has
+/// one worker, so many units (1 to [`MOST_EXPANSIONS`](search_limits::MOST_EXPANSIONS): visits of positions), all the room for notes that
+/// there can be, and a table of 1,024 rows, which takes about 1 MB at once. There is a thread for each processor that the
 /// system has, and each takes the next problem that no other has taken; that changes no tally (no clause says it). What is still
 /// open when the threads are over, since memory was wanting, is searched then, one after another. Errors: want of memory alone.
 pub fn survey<R: Threads + Sync>(

@@ -1,6 +1,6 @@
 // Texts, and the lines that are listed of them.
 use crate::same::{same, shown};
-use problem_lines::{Lines, MOST_BYTES};
+use problem_lines::{Lines, MOST_PROBLEM_BYTES};
 use std::alloc::{AllocError, Global};
 use std::process::Abort;
 use std::test::Fail;
@@ -101,15 +101,15 @@ fn a_line_of_too_many_bytes_is_told(rt: HostRuntime) -> Result<(), Fail> {
     let alloc = rt.alloc();
     // The front of the text, how often a byte follows, what stands behind, and what is listed of it but for that byte.
     let rows: [(&[u8], u8, usize, &[u8], &str); 8] = [
-        (b"", b'a', MOST_BYTES, b"\nb", "1<>2<b>"),
-        (b"", b'a', MOST_BYTES, b"\r\nb", "1<>2<b>"),
-        (b"", b'a', MOST_BYTES + 1, b"\nb", "1!<>2<b>"),
-        (b"", b'a', MOST_BYTES, b"\r", "1!<\r>"),
+        (b"", b'a', MOST_PROBLEM_BYTES, b"\nb", "1<>2<b>"),
+        (b"", b'a', MOST_PROBLEM_BYTES, b"\r\nb", "1<>2<b>"),
+        (b"", b'a', MOST_PROBLEM_BYTES + 1, b"\nb", "1!<>2<b>"),
+        (b"", b'a', MOST_PROBLEM_BYTES, b"\r", "1!<\r>"),
         // A note counts; what is skipped may be longer.
-        (b"c\t", b'a', MOST_BYTES - 2, b"\nb", "1<c>2<b>"),
-        (b"c\t", b'a', MOST_BYTES - 1, b"\nb", "1!<c>2<b>"),
-        (b"# ", b'a', MOST_BYTES, b"\nb", "2<b>"),
-        (b"", b' ', MOST_BYTES + 1, b"\nb", "2<b>"),
+        (b"c\t", b'a', MOST_PROBLEM_BYTES - 2, b"\nb", "1<c>2<b>"),
+        (b"c\t", b'a', MOST_PROBLEM_BYTES - 1, b"\nb", "1!<c>2<b>"),
+        (b"# ", b'a', MOST_PROBLEM_BYTES, b"\nb", "2<b>"),
+        (b"", b' ', MOST_PROBLEM_BYTES + 1, b"\nb", "2<b>"),
     ];
     for (front, byte, count, back, wanted) in rows {
         let text = padded(alloc, front, byte, count, back)?;

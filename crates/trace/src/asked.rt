@@ -4,7 +4,7 @@ use lone_port::Event;
 use sfen_text::read_sfen;
 use shogi_rules::{Problem, accept_problem};
 use std::alloc::{AllocError, Global};
-use unit_desk::Settings;
+use search_limits::Settings;
 
 /// A problem, and how it is searched.
 #[derive(Drop)]

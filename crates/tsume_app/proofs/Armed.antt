@@ -3,7 +3,8 @@ use Rattle.std.proofs.Common.{◌≡◌, ◌<◌, inl, inr, ℕ, List, [], ◌�
 use Rattle.std.specs.Prelude.{IfOk, MatchResult}
 use Rattle.clap.specs.Words.{Text as Word}
 use Rattle.search_gate.specs.Stop.{Signal, armed_with}
-use Rattle.tsume_words.specs.Given.{SettingsView, SurveyView, CollectionView}
+use Rattle.tsume_words.specs.Given.{SurveyView, CollectionView}
+use Rattle.search_limits.specs.Sizes.{SettingsView}
 use Rattle.tsume_words.specs.Given.Wish.{to_check}
 use Rattle.app_texts.specs.declared.answer.Answer.{Answer}
 use Rattle.app_texts.specs.declared.answer.Answer.TheVariants.{Solved, Judged, Surveyed, Collected, Help}

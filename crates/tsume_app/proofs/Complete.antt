@@ -14,7 +14,8 @@ use Rattle.clap.specs.Words.{Text as Word}
 use Rattle.cert_text.specs.declared.certificate.Certificate.{Certificate}
 use Rattle.cert_text.specs.Kinds.{problem_of}
 use Rattle.cert_text.specs.Reading.{IsTextOf}
-use Rattle.tsume_words.specs.Given.{Wish, SettingsView, SurveyView, CollectionView}
+use Rattle.tsume_words.specs.Given.{Wish, SurveyView, CollectionView}
+use Rattle.search_limits.specs.Sizes.{SettingsView}
 use Rattle.tsume_words.specs.Given.Wish.{to_solve, to_check, to_survey, to_collect}
 use Rattle.sfen_text.specs.declared.fault.TextFault.{TextFault}
 use Rattle.kif_text.specs.declared.fault.KifFault.{KifFault}

@@ -12,10 +12,11 @@ use Rattle.cert_text.specs.declared.head.Claim.{Claim}
 use Rattle.cert_text.specs.Kinds.{claim_of, positions_in}
 use Rattle.cert_check.specs.Valid.{IsValid, ValidMate, ValidEscape}
 use Rattle.tsume_words.specs.declared.form.ProblemForm.{ProblemForm}
-use Rattle.tsume_words.specs.Given.{SettingsView, WatchView, Wish}
+use Rattle.tsume_words.specs.Given.{WatchView, Wish}
+use Rattle.search_limits.specs.Sizes.{SettingsView}
 use Rattle.tsume_words.specs.Given.Wish.{to_solve, to_check, to_survey, to_collect}
 use Rattle.tsume_words.specs.Meaning.{command_of}
-use Rattle.unit_desk.specs.declared.cause.Cause.{Cause}
+use Rattle.search_limits.specs.declared.cause.Cause.{Cause}
 use Rattle.visit_log.specs.Run.{Standing}
 use Rattle.app_texts.specs.declared.answer.Solution.TheVariants.{Mate, NoMate, Unknown}
 use Rattle.app_texts.specs.declared.answer.Judgement.TheVariants.{Accepted, Refused}
@@ -40,6 +41,7 @@ mate_of settings form watch stops source sink input c moves ended told =
       stands_for = subst (λ (i : List ℕ). StandsFor form i (Ok d.true_of.problem)) (took_it source.told source.told_after d.input input told d.read.took) d.true_of.stands_for;
       mate = d.true_of.true_of.verdict.shown.1.mate;
       valid = d.true_of.true_of.verdict.shown.1.valid;
+      readable = d.true_of.true_of.verdict.shown.1.readable;
       line = d.true_of.true_of.verdict.shown.1.line;
     }
 
@@ -52,6 +54,7 @@ no_mate_of settings form watch stops source sink input c ended told =
       stands_for = subst (λ (i : List ℕ). StandsFor form i (Ok d.true_of.problem)) (took_it source.told source.told_after d.input input told d.read.took) d.true_of.stands_for;
       no_mate = d.true_of.true_of.verdict.shown.1.no_mate;
       valid = d.true_of.true_of.verdict.shown.1.valid;
+      readable = d.true_of.true_of.verdict.shown.1.readable;
     }
 
 pub unknown_of : (settings : SettingsView) (form : ProblemForm) (watch : WatchView) (stops : Signals) (source sink : Shown) (input : List ℕ) (cause : Cause) (crew : List Standing)
@@ -62,7 +65,7 @@ unknown_of settings form watch stops source sink input cause crew ended told =
     record {
       problem = d.true_of.problem;
       stands_for = subst (λ (i : List ℕ). StandsFor form i (Ok d.true_of.problem)) (took_it source.told source.told_after d.input input told d.read.took) d.true_of.stands_for;
-      given_up = d.true_of.true_of;
+      why = d.true_of.true_of;
     }
 
 pub own_mate_of : (words : List Word) (stops : Signals) (source sink : Shown) (ended : Ended) (c : Mating) (moves : List Move)
@@ -83,6 +86,7 @@ own_mate_of words stops source sink ended c moves does refuses is = go (command_
       record {
         mate = subst (λ (p : Board). IsMate p.side p) own shown.mate;
         valid = subst (ValidMate c) own shown.valid;
+        readable = shown.readable;
         line = subst (λ (p : Board). IsMainLine c p.side p moves) own shown.line;
       }
 
@@ -104,6 +108,7 @@ own_no_mate_of words stops source sink ended c does refuses is = go (command_of 
       record {
         no_mate = subst (λ (p : Board). ¬ IsMate p.side p) own shown.no_mate;
         valid = subst (ValidEscape c) own shown.valid;
+        readable = shown.readable;
       }
 
 accepted_is_valid : (workers : ℕ) (problem : Option Word) (stops : Signals) (source sink : Shown) (input : List ℕ) (claim : Claim) (entries : ℕ)

@@ -4,7 +4,8 @@ use Rattle.std.proofs.lemmas.List.{append-nil}
 use Rattle.tsume_io.specs.Source.{Took, TookAll, TookAtMost}
 use Rattle.clap.specs.Words.{Text as Word}
 use Rattle.tsume_io.specs.Faults.{Rose}
-use Rattle.tsume_words.specs.Given.{Wish, SettingsView, CollectionView, MayAskForHelp}
+use Rattle.tsume_words.specs.Given.{Wish, CollectionView, MayAskForHelp}
+use Rattle.search_limits.specs.Sizes.{SettingsView}
 use Rattle.app_texts.specs.declared.answer.Answer.{Answer}
 use Rattle.app_texts.specs.declared.answer.Answer.TheVariants.{Solved, Judged, Surveyed, Collected, Help}
 use Rattle.tsume_app.specs.declared.ended.Ended.{Ended}

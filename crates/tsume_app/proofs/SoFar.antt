@@ -4,7 +4,8 @@ use Rattle.std.proofs.lemmas.List.{append-nil, append_assoc, length-append}
 use Rattle.std.proofs.Math.Seq.{take-append-add}
 use Rattle.tsume_io.specs.Faults.{Rose}
 use Rattle.tsume_io.specs.Sink.{GrewBy, GrewByPrefix}
-use Rattle.tsume_words.specs.Given.{SettingsView, CollectionView}
+use Rattle.tsume_words.specs.Given.{CollectionView}
+use Rattle.search_limits.specs.Sizes.{SettingsView}
 use Rattle.tsume_words.specs.Given.Wish.{to_collect}
 use Rattle.app_texts.specs.declared.counts.Counts.{Counts}
 use Rattle.app_texts.specs.declared.report.Report.{Report}

@@ -1,5 +1,5 @@
 -- When an answer is true.
-use Rattle.std.specs.Prelude.{◌≡◌, ℕ, List, length}
+use Rattle.std.specs.Prelude.{◌≡◌, ◌⊎◌, ℕ, List, length}
 use Rattle.board_core.specs.Board.{Board}
 use Rattle.cert_text.specs.declared.certificate.Certificate.{Certificate}
 use Rattle.cert_text.specs.declared.head.Claim.{Claim}
@@ -8,11 +8,11 @@ use Rattle.cert_check.specs.declared.verdict.Why.{Why}
 use Rattle.cert_check.specs.Valid.{IsValid, Shows}
 use Rattle.cert_check.specs.Reasons.{IsFirstAgainst}
 use Rattle.notes.specs.Derivation.{Derivation}
-use Rattle.unit_desk.specs.Sizes.{SettingsView}
+use Rattle.search_limits.specs.Sizes.{SettingsView}
 use Rattle.visit_log.specs.Run.{Standing}
 use Rattle.search_pool.specs.End.{IsAloneUntil, HeedsStop}
 use Rattle.search_pool.specs.declared.end.SearchEnd.TheVariants.{Solved as SearchSolved, Unknown as SearchUnknown}
-use Rattle.unit_desk.specs.declared.cause.Cause.{Cause}
+use Rattle.search_limits.specs.declared.cause.Cause.{Cause}
 use Rattle.problem_answers.specs.Answer.{IsVerdictOf}
 use Rattle.tsume_app.specs.Stops.{Signals, first_of}
 use Rattle.app_texts.specs.declared.answer.Solution.{Solution}
@@ -33,11 +33,12 @@ pub record IsGivenUp (p : Board) (s : SettingsView) (stops : Signals) (cause : C
   pub alone : IsAloneUntil p s (first_of stops.before) (first_of stops.after) (SearchUnknown cause crew)
   pub heeds : HeedsStop (first_of stops.before) (first_of stops.after) (SearchUnknown cause crew)
 
--- A solution is true of a problem that was searched with these settings and stops.
+-- A solution is true of a problem that was searched with these settings and stops: it is the verdict of the search's note; or, where it is
+-- unknown, the search gave up so.
 abbrev pub IsTrueOf : Board → SettingsView → Signals → Solution → Type 0
 IsTrueOf p s stops (Mate c moves) = IsVerdictFound p s stops (Mate c moves)
 IsTrueOf p s stops (NoMate c) = IsVerdictFound p s stops (NoMate c)
-IsTrueOf p s stops (Unknown cause crew) = IsGivenUp p s stops cause crew
+IsTrueOf p s stops (Unknown cause crew) = IsGivenUp p s stops cause crew ⊎ IsVerdictFound p s stops (Unknown cause crew)
 
 -- A certificate was accepted for a problem: it is valid for it, and shows what it claims.
 pub record IsAcceptance (p : Board) (c : Certificate) (claim : Claim) (entries : ℕ) : Type 0 where

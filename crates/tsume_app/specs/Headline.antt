@@ -5,6 +5,7 @@ use Rattle.board_core.specs.Board.{Board}
 use Rattle.mate_def.specs.Mate.{IsMate}
 use Rattle.clap.specs.Words.{Text as Word}
 use Rattle.cert_text.specs.declared.certificate.Certificate.{Certificate}
+use Rattle.cert_text.specs.declared.certificate.Certificate.TheVariants as certificates
 use Rattle.cert_text.specs.Certificate.{Mating, Escaping}
 use Rattle.cert_text.specs.Reading.{IsReadable, IsTextOf}
 use Rattle.cert_text.specs.declared.head.Claim.{Claim}
@@ -12,19 +13,20 @@ use Rattle.cert_text.specs.Kinds.{claim_of, positions_in}
 use Rattle.cert_check.specs.Valid.{IsValid, Shows, ValidMate, ValidEscape}
 use Rattle.play_line.specs.Line.{IsMainLine}
 use Rattle.tsume_words.specs.declared.form.ProblemForm.{ProblemForm}
-use Rattle.tsume_words.specs.Given.{SettingsView, WatchView}
+use Rattle.tsume_words.specs.Given.{WatchView}
+use Rattle.search_limits.specs.Sizes.{SettingsView}
 use Rattle.tsume_words.specs.Given.Wish.{to_solve, to_check}
 use Rattle.tsume_words.specs.Meaning.{command_of}
-use Rattle.unit_desk.specs.declared.cause.Cause.{Cause}
+use Rattle.search_limits.specs.declared.cause.Cause.{Cause}
 use Rattle.visit_log.specs.Run.{Standing}
 use Rattle.app_texts.specs.declared.answer.Judgement.TheVariants.{Accepted}
+use Rattle.app_texts.specs.declared.answer.Solution.TheVariants.{Unknown}
 use Rattle.app_texts.specs.declared.answer.Answer.TheVariants.{Judged}
 use Rattle.app_texts.specs.declared.fault.Fault.TheVariants.{NotUtf8, Words, Asked, TooLong, Problem, Cert, Read, NoMemory}
 use Rattle.tsume_app.specs.declared.ended.Ended.{Ended}
 use Rattle.tsume_app.specs.declared.ended.Ended.TheVariants.{Answered, CutShort, Failed}
-use Rattle.tsume_app.specs.Answer.{IsGivenUp}
+use Rattle.tsume_app.specs.Answer.{IsTrueOf}
 use Rattle.tsume_app.specs.Stops.{Signals}
-use Rattle.problem_answers.specs.Answer.{search_numbers}
 use Rattle.problem_answers.specs.Reading.{StandsFor}
 use Rattle.tsume_app.specs.Input.{IsJudgedFor}
 
@@ -36,38 +38,43 @@ AsksToSolve form words = (settings : SettingsView) × (watch : WatchView) × (co
 abbrev pub AsksToCheck : Option Word → List Word → Type 0
 AsksToCheck problem words = (workers : ℕ) × (command_of words ≡ Some (to_check workers problem))
 
--- The bytes stand for a problem that is a mate, the certificate is valid for it, and the moves are its main line.
+-- The bytes stand for a problem that is a mate, the certificate is valid for it and its text is read, and the moves are its main line.
 pub record StandsForMate (form : ProblemForm) (input : List ℕ) (c : Mating) (moves : List Move) : Type 0 where
   pub problem : Board
   pub stands_for : StandsFor form input (Ok problem)
   pub mate : IsMate problem.side problem
   pub valid : ValidMate c problem
+  pub readable : IsReadable (certificates.Mate c)
   pub line : IsMainLine c problem.side problem moves
 
--- The bytes stand for a problem that is no mate, and the certificate is valid for it.
+-- The bytes stand for a problem that is no mate, and the certificate is valid for it and its text is read.
 pub record StandsForNoMate (form : ProblemForm) (input : List ℕ) (c : Escaping) : Type 0 where
   pub problem : Board
   pub stands_for : StandsFor form input (Ok problem)
   pub no_mate : ¬ IsMate problem.side problem
   pub valid : ValidEscape c problem
+  pub readable : IsReadable (certificates.Escape c)
 
--- The bytes stand for a problem that was given up: a search with these settings, alone, ends for the cause, which its worker met: a limit was used
--- up, or a stop was signalled.
+-- The bytes stand for a problem of which neither is told. It was given up: a search with these settings, alone, ends for the cause, which its
+-- worker met: a limit was used up, or a stop was signalled. Or that search found a note that answers it, in whose tree there are more
+-- positions than a certificate is read with.
 pub record StandsForUnknown (form : ProblemForm) (settings : SettingsView) (stops : Signals) (input : List ℕ) (cause : Cause) (crew : List Standing) : Type 0 where
   pub problem : Board
   pub stands_for : StandsFor form input (Ok problem)
-  pub given_up : IsGivenUp problem (search_numbers settings) stops cause crew
+  pub why : IsTrueOf problem settings stops (Unknown cause crew)
 
--- The problem that the certificate itself names is a mate, for which it is valid, and the moves are its main line.
+-- The problem that the certificate itself names is a mate, for which it is valid; its text is read; and the moves are its main line.
 pub record NamesMate (c : Mating) (moves : List Move) : Type 0 where
   pub mate : IsMate c.problem.side c.problem
   pub valid : ValidMate c c.problem
+  pub readable : IsReadable (certificates.Mate c)
   pub line : IsMainLine c c.problem.side c.problem moves
 
--- The problem that the certificate itself names is no mate, and the certificate is valid for it.
+-- The problem that the certificate itself names is no mate, and the certificate is valid for it and its text is read.
 pub record NamesNoMate (c : Escaping) : Type 0 where
   pub no_mate : ¬ IsMate c.problem.side c.problem
   pub valid : ValidEscape c c.problem
+  pub readable : IsReadable (certificates.Escape c)
 
 -- The bytes are the text of a certificate that claims this, lists so many positions, is valid for the problem whose text is given, or
 -- for its own where none is, and shows what it claims.

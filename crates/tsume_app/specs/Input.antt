@@ -10,7 +10,8 @@ use Rattle.tsume_words.specs.Given.{Wish}
 use Rattle.tsume_words.specs.Given.Wish.{to_solve, to_check, to_survey, to_collect}
 use Rattle.app_texts.specs.declared.fault.ProblemFault.{ProblemFault}
 use Rattle.problem_answers.specs.Reading.{StandsFor}
-use Rattle.tsume_app.specs.declared.input.TheConstants.{MOST_PROBLEM_BYTES, MOST_CERTIFICATE_BYTES, MOST_COLLECTION_BYTES}
+use Rattle.problem_lines.specs.declared.line.TheConstants.{MOST_PROBLEM_BYTES}
+use Rattle.tsume_app.specs.declared.input.TheConstants.{MOST_CERTIFICATE_BYTES, MOST_COLLECTION_BYTES}
 
 -- The most bytes that the input of a command may have; a survey reads nothing.
 abbrev pub limit_of : Wish → ℕ

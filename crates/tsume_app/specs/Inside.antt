@@ -8,7 +8,8 @@ use Rattle.app_texts.specs.declared.fault.Fault.TheVariants.{NotUtf8, Words, Ask
 use Rattle.tsume_app.specs.declared.ended.Ended.{Ended}
 use Rattle.tsume_app.specs.declared.ended.Ended.TheVariants.{Answered, CutShort, Failed}
 use Rattle.shogi_rules.specs.declared.problem.Problem.{Problem as GivenProblem}
-use Rattle.tsume_words.specs.Given.{Wish, SettingsView, CollectionView}
+use Rattle.tsume_words.specs.Given.{Wish, CollectionView}
+use Rattle.search_limits.specs.Sizes.{SettingsView}
 use Rattle.tsume_words.specs.Given.Wish.{to_solve, to_check, to_survey, to_collect}
 use Rattle.app_texts.specs.Texts.{answer_text}
 use Rattle.board_core.specs.Board.{Board}

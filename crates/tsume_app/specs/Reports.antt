@@ -1,6 +1,7 @@
 -- What is told of the lines of a collection.
 use Rattle.std.specs.Prelude.{◌≡◌, ◌++◌, ℕ, Bool, List, [], ◌∷◌}
-use Rattle.tsume_words.specs.Given.{SettingsView, CollectionView}
+use Rattle.tsume_words.specs.Given.{CollectionView}
+use Rattle.search_limits.specs.Sizes.{SettingsView}
 use Rattle.app_texts.specs.declared.counts.Counts.{Counts}
 use Rattle.app_texts.specs.declared.report.Report.{Report}
 use Rattle.app_texts.specs.Counts.{AreCountsOf}

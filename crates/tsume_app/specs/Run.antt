@@ -5,7 +5,8 @@ use Rattle.tsume_io.specs.Faults.{Rose}
 use Rattle.tsume_io.specs.Source.{TookAll, TookAtMost, TookOneMoreThan, HasMoreThan}
 use Rattle.tsume_io.specs.Sink.{GrewBy, GrewByPrefix}
 use Rattle.tsume_words.specs.declared.form.ProblemForm.{ProblemForm}
-use Rattle.tsume_words.specs.Given.{Wish, SettingsView, SurveyView, CollectionView, MayAskForHelp}
+use Rattle.tsume_words.specs.Given.{Wish, SurveyView, CollectionView, MayAskForHelp}
+use Rattle.search_limits.specs.Sizes.{SettingsView}
 use Rattle.tsume_words.specs.Given.Wish.{to_solve, to_check, to_survey, to_collect}
 use Rattle.tsume_words.specs.Meaning.{IsRefusalOf}
 use Rattle.clap.specs.Words.{Text as Word}
@@ -23,7 +24,6 @@ use Rattle.tsume_app.specs.declared.ended.Ended.{Ended}
 use Rattle.tsume_app.specs.declared.ended.Ended.TheVariants.{Answered, CutShort, Failed}
 use Rattle.app_texts.specs.Texts.{answer_text}
 use Rattle.tsume_app.specs.Answer.{IsTrueOf, IsTrueOfCertificate}
-use Rattle.problem_answers.specs.Answer.{search_numbers}
 use Rattle.problem_answers.specs.Reading.{StandsFor}
 use Rattle.tsume_app.specs.Input.{limit_of, given_form, IsAskedFault, IsJudgedFor}
 use Rattle.app_texts.specs.declared.counts.Counts.{Counts}
@@ -38,7 +38,7 @@ use Rattle.tsume_app.specs.Outside.{Shown, NeverFailed, IsUntouched}
 pub record IsSolution (form : ProblemForm) (settings : SettingsView) (stops : Signals) (input : List ℕ) (solution : Solution) : Type 0 where
   pub problem : Board
   pub stands_for : StandsFor form input (Ok problem)
-  pub true_of : IsTrueOf problem (search_numbers settings) stops solution
+  pub true_of : IsTrueOf problem settings stops solution
 
 -- The bytes of an input are the text of one certificate, of which the judgement is true, for the problem whose text the words give, or
 -- for its own.

@@ -2,9 +2,6 @@
 use std::alloc::Global;
 use std::marker::Model;
 
-/// The most bytes that the input of `solve` may have.
-pub const MOST_PROBLEM_BYTES: usize = 65_536;
-
 /// The most bytes that the input of `check` may have.
 pub const MOST_CERTIFICATE_BYTES: usize = 268_435_456;
 

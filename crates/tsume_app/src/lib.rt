@@ -19,6 +19,6 @@ mod telling;
 
 pub use ended::Ended;
 pub use exit::Exit;
-pub use input::{Input, MOST_CERTIFICATE_BYTES, MOST_COLLECTION_BYTES, MOST_PROBLEM_BYTES};
+pub use input::{Input, MOST_CERTIFICATE_BYTES, MOST_COLLECTION_BYTES};
 pub use program::{named_file, run, told_limit};
 pub use telling::{Told, run_and_tell, start, tell};

@@ -1,8 +1,9 @@
 // How commands over many problems end.
 ghost use Rattle.std.specs.Prelude.{◌≡◌, ◌<◌, ◌+◌, IfOk};
-ghost use Rattle.tsume_words.specs.Given.{SettingsView};
+ghost use Rattle.search_limits.specs.Sizes.{SettingsView};
 ghost use Rattle.tsume_words.specs.Given.Wish.{to_collect};
-ghost use Rattle.tsume_words.specs.Meaning.{settings_in, survey_in, collection_in};
+ghost use Rattle.tsume_words.specs.Meaning.{survey_in, collection_in};
+ghost use Rattle.search_limits.specs.Settings.{settings_in};
 ghost use Rattle.app_texts.specs.Reports.{HasReportLine};
 ghost use Rattle.problem_lines.specs.Lines.{seen};
 ghost use Rattle.problem_answers.specs.Reports.{IsTrueReport};
@@ -19,7 +20,8 @@ use std::alloc::{AllocError, Global};
 use std::thread::Threads;
 use survey::survey;
 use tsume_io::{Sink, Source, write_all};
-use tsume_words::{CollectionForm, Settings, SurveyRange};
+use search_limits::Settings;
+use tsume_words::{CollectionForm, SurveyRange};
 
 fn summary_of<R: Threads + Sync>(
     rt: &R,

@@ -4,7 +4,8 @@ ghost use Rattle.board_core.specs.declared.moves.Move.{Move};
 ghost use Rattle.cert_text.specs.Certificate.{Mating, Escaping};
 ghost use Rattle.tsume_io.specs.Faults.{Rose};
 ghost use Rattle.cert_text.specs.declared.head.Claim.{Claim};
-ghost use Rattle.tsume_words.specs.Given.{Wish, SettingsView, WatchView, SurveyView, CollectionView, AsksForHelp, file_of};
+ghost use Rattle.tsume_words.specs.Given.{Wish, WatchView, SurveyView, CollectionView, AsksForHelp, file_of};
+ghost use Rattle.search_limits.specs.Sizes.{SettingsView};
 ghost use Rattle.tsume_words.specs.Given.Wish.{to_solve, to_survey, to_collect};
 ghost use Rattle.tsume_words.specs.Meaning.{FailsFirst, command_of, texts_of, wish_of};
 ghost use Rattle.tsume_words.specs.declared.faults.WordFault.{WordFault};
@@ -12,7 +13,7 @@ ghost use Rattle.tsume_words.specs.declared.form.ProblemForm.{ProblemForm};
 ghost use Rattle.clap.specs.Words.{Text as Word};
 ghost use Rattle.app_texts.specs.declared.counts.Counts.{Counts};
 ghost use Rattle.app_texts.specs.declared.tallies.Summary.{Summary};
-ghost use Rattle.unit_desk.specs.declared.cause.Cause.{Cause};
+ghost use Rattle.search_limits.specs.declared.cause.Cause.{Cause};
 ghost use Rattle.visit_log.specs.Run.{Standing};
 ghost use Rattle.app_texts.specs.declared.fault.ProblemFault.{ProblemFault};
 ghost use Rattle.tsume_app.specs.Headline.{AsksToSolve, AsksToCheck, StandsForMate, StandsForNoMate, StandsForUnknown, NamesMate, NamesNoMate, IsValidText, IsAccepted, IsBrokenOff};
@@ -21,18 +22,19 @@ ghost use Rattle.tsume_app.specs.Inside.{HasWritten, IsAskedProblem, IsReadCount
 ghost use Rattle.tsume_app.specs.Input.{limit_of, IsAskedFault};
 ghost use Rattle.tsume_app.specs.Outside.{Shown, shown, NeverFailed};
 ghost use Rattle.tsume_app.specs.Stops.{AreUsedBefore, AreUsedFor, AreUsedTill, deadline_in, signals};
-ghost use Rattle.tsume_words.specs.declared.settings.TheConstants.{MOST_WORKERS};
+ghost use Rattle.search_limits.specs.declared.settings.TheConstants.{MOST_WORKERS};
 ghost use Rattle.tsume_app.specs.Told.{limit_told};
 ghost use Rattle.tsume_app.specs.Run.{IsReadWhole, IsTrueOfInput, HasCause, IsEnded, IsReadEnded, IsCollected, IsSurvey, IsCounted, IsEndedUnasked, GivesHelp, IsWellPosed, IsAnswered, WantsMemory};
 
 use crate::ended::Ended;
-use crate::input::{Input, MOST_CERTIFICATE_BYTES, MOST_COLLECTION_BYTES, MOST_PROBLEM_BYTES};
+use crate::input::{Input, MOST_CERTIFICATE_BYTES, MOST_COLLECTION_BYTES};
 use crate::judgement::judge_input;
 use crate::many::{collection_ended, survey_ended};
 use crate::solution::solve_input;
 use app_texts::{Answer, Fault, Judgement, ProblemFault, Solution, answer_text};
 use kif_text::kif_laws;
 use problem_answers::read_problem;
+use problem_lines::MOST_PROBLEM_BYTES;
 use search_gate::{Gate, Stop};
 use sfen_text::sfen_laws;
 use shogi_rules::Problem;
@@ -275,7 +277,7 @@ fn limit_told(command: &Command) -> Option<u64>
             ..
         } => {
             if watch.progress {
-                Some(settings.expansions.count)
+                Some(settings.expansions)
             } else {
                 None
             }

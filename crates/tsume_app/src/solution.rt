@@ -1,22 +1,23 @@
 // What `solve` finds.
 ghost use Rattle.std.specs.Prelude.{◌<◌, length, Ok, IfOk, IfErr, MatchResult};
 ghost use Rattle.tsume_words.specs.Given.Wish.{to_solve};
-ghost use Rattle.tsume_words.specs.Meaning.{settings_in, watch_in};
+ghost use Rattle.tsume_words.specs.Meaning.{watch_in};
+ghost use Rattle.search_limits.specs.Settings.{settings_in};
 ghost use Rattle.tsume_app.specs.Answer.{IsTrueOf};
 ghost use Rattle.app_texts.specs.Texts.{HasLine, HasTexts};
-ghost use Rattle.problem_answers.specs.Answer.{search_numbers};
 ghost use Rattle.tsume_app.specs.Outside.{Shown};
 ghost use Rattle.tsume_app.specs.Stops.{AreUsed, AreUsedBefore, AreUsedFor, signals};
 ghost use Rattle.tsume_app.specs.Run.{IsReadWhole, IsTrueOfInput, HasCause};
 
 use crate::stops::search_armed;
 use app_texts::{Answer, Fault, Solution};
-use problem_answers::{read_problem, search_settings, verdict};
+use problem_answers::{read_problem, verdict};
 use search_gate::{Gate, Stop};
 use search_pool::SearchEnd;
 use shogi_rules::Problem;
 use std::alloc::{AllocError, Global};
-use tsume_words::{ProblemForm, Settings, Watch};
+use search_limits::Settings;
+use tsume_words::{ProblemForm, Watch};
 
 fn solution_of<G: Gate, T: Stop>(
     alloc: Global,
@@ -27,12 +28,11 @@ fn solution_of<G: Gate, T: Stop>(
     stops: &mut [T],
 ) -> Result<Solution, AllocError>
     requires { 0 < length stops.old }
-    ensures true_of { IfOk result (IsTrueOf problem.now.position (search_numbers (settings_in settings.now)) (signals T.signal stops.old stops.new)) }
+    ensures true_of { IfOk result (IsTrueOf problem.now.position (settings_in settings.now) (signals T.signal stops.old stops.new)) }
     ensures line { IfOk result HasLine }
     ensures used { AreUsed deadline (signals T.signal stops.old stops.new) }
 {
-    let numbers = search_settings(settings);
-    match search_armed(alloc, problem, &numbers, deadline, gate, stops)? {
+    match search_armed(alloc, problem, settings, deadline, gate, stops)? {
         SearchEnd::Solved(note) => verdict(alloc, problem, &note),
         SearchEnd::Unknown(cause, crew) => Ok(Solution::Unknown(cause, crew)),
     }

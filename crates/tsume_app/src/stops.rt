@@ -2,14 +2,14 @@
 ghost use Rattle.std.specs.Prelude.{◌≡◌, ◌<◌, length, map, IfOk};
 ghost use Rattle.search_gate.specs.Stop.{armed_with};
 ghost use Rattle.search_pool.specs.End.{IsAloneUntil, IsSolution, HeedsStop};
-ghost use Rattle.unit_desk.specs.Settings.{settings_in};
+ghost use Rattle.search_limits.specs.Settings.{settings_in};
 ghost use Rattle.tsume_app.specs.Stops.{AreUsed, first_of, signals};
 
 use search_gate::{Gate, Stop};
 use search_pool::{SearchEnd, search_alone_until};
 use shogi_rules::Problem;
 use std::alloc::{AllocError, Global};
-use unit_desk::Settings;
+use search_limits::Settings;
 
 // Arms each stop.
 fn arm_each<T: Stop>(stops: &mut [T], after_ms: Option<u64>)

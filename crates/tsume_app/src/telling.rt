@@ -2,7 +2,7 @@
 ghost use Rattle.std.specs.Prelude.{◌≡◌, length, vec_len, ◌++◌, OnOk, IfOk};
 ghost use Rattle.tsume_words.specs.Meaning.{texts_of};
 ghost use Rattle.tsume_app.specs.Outside.{shown};
-ghost use Rattle.tsume_words.specs.declared.settings.TheConstants.{MOST_WORKERS};
+ghost use Rattle.search_limits.specs.declared.settings.TheConstants.{MOST_WORKERS};
 ghost use Rattle.tsume_app.specs.Stops.{signals};
 ghost use Rattle.tsume_app.specs.Told.{told_text, BeginsAsTold, IsTold, IsToldRun};
 

@@ -4,20 +4,21 @@ use Rattle.std.specs.Prelude.{IsOkAnd, IsSomeAnd, option_and_then, if◌then◌e
 use Rattle.std.specs.Int.{IsPowerOfTwo, is_power_of_two}
 use Rattle.std.proofs.lemmas.Bool.{leb-true}
 use Rattle.clap.specs.Walk.{Row, Text}
+use Rattle.search_limits.specs.Settings.{PowersHaveOneBit}
+use Rattle.search_limits.specs.Sizes.{SettingsView}
 use Rattle.clap.specs.Kinds.{IsAmong, Kinds}
 use Rattle.clap.specs.declared.error.kind.ErrorKind.{ErrorKind}
 use Rattle.clap.specs.Simple.{subcommand_of}
-use Rattle.tsume_words.specs.Given.{AsksForHelp, IsForCommand, IsTakenByClap, SettingsView, Wish, all_words, clap_faults, given_of, unless_faulty, wish_named}
+use Rattle.tsume_words.specs.Given.{AsksForHelp, IsForCommand, IsTakenByClap, Wish, all_words, clap_faults, given_of, unless_faulty, wish_named}
 use Rattle.tsume_words.specs.Given.Wish.{to_solve, to_check, to_survey, to_collect}
 use Rattle.tsume_words.specs.Line.{tsume_line}
 use Rattle.tsume_words.specs.Meaning.{IsOutcomeFor, FailFirst, FailsFirst, IsClapsEnd, IsEndFor, IsHelp, IsStoppedBy, IsRefusalOf, are_sound, command_of, sound_wish, wish_of}
 use Rattle.tsume_words.specs.declared.command.Asked.{Asked}
-use Rattle.tsume_words.specs.declared.faults.Size.TheVariants.{Rows, Shards}
+use Rattle.search_limits.specs.declared.faults.Size.TheVariants.{Rows, Shards}
 use Rattle.tsume_words.specs.declared.faults.WordFault.{WordFault}
 use Rattle.tsume_words.specs.declared.faults.WordFault.TheVariants.{Clap, NotPowerOfTwo, MoreShardsThanRows}
 use Rattle.tsume_words.specs.declared.faults.WordsEnd.{WordsEnd}
 use Rattle.tsume_words.specs.declared.faults.WordsEnd.TheVariants.{Help, Fault, NoMemory}
-use Rattle.tsume_words.proofs.Powers.{power-ones}
 use Rattle.tsume_words.proofs.Taken.{taken_gives}
 
 -- where clap takes the words it gives what `given_of` says
@@ -41,36 +42,36 @@ fault_there [] k among e = among
 fault_there (x ∷ xs) k among e = absurd cc
 
 -- sound numbers pass each test
-sound_parts : (n : SettingsView) → are_sound n ≡ true → IsPowerOfTwo n.rows × IsPowerOfTwo n.shards × (n.rows < n.shards → ⊥)
-sound_parts n e = go (is_power_of_two n.rows) refl (is_power_of_two n.shards) refl (nat_le n.shards n.rows) refl e
+sound_parts : PowersHaveOneBit → (n : SettingsView) → are_sound n ≡ true → IsPowerOfTwo n.rows × IsPowerOfTwo n.shards × (n.rows < n.shards → ⊥)
+sound_parts law n e = go (is_power_of_two n.rows) refl (is_power_of_two n.shards) refl (nat_le n.shards n.rows) refl e
   where
     go : (a : Bool) → is_power_of_two n.rows ≡ a → (b : Bool) → is_power_of_two n.shards ≡ b → (d : Bool) → nat_le n.shards n.rows ≡ d
         → (a && (b && d)) ≡ true → IsPowerOfTwo n.rows × IsPowerOfTwo n.shards × (n.rows < n.shards → ⊥)
-    go true r true s true l e = (power-ones n.rows r, power-ones n.shards s, λ more. let le = leb-true n.shards n.rows l in omega arith)
+    go true r true s true l e = ((law n.rows).0 r, (law n.shards).0 s, λ more. let le = leb-true n.shards n.rows l in omega arith)
     go true r true s false l e = absurd cc
     go true r false s d l e = absurd cc
     go false r b s d l e = absurd cc
 
-unsound : (f : WordFault) (n : SettingsView) → FailFirst f n → are_sound n ≡ true → ⊥
-unsound (NotPowerOfTwo Rows) n fails sound = fails (sound_parts n sound).0
-unsound (NotPowerOfTwo Shards) n fails sound = fails.1 (sound_parts n sound).1
-unsound MoreShardsThanRows n fails sound = (sound_parts n sound).2 fails.2
-unsound (Clap text) n fails sound = fails
+unsound : PowersHaveOneBit → (f : WordFault) (n : SettingsView) → FailFirst f n → are_sound n ≡ true → ⊥
+unsound law (NotPowerOfTwo Rows) n fails sound = fails (sound_parts law n sound).0
+unsound law (NotPowerOfTwo Shards) n fails sound = fails.1 (sound_parts law n sound).1
+unsound law MoreShardsThanRows n fails sound = (sound_parts law n sound).2 fails.2
+unsound law (Clap text) n fails sound = fails
 
 -- nothing is asked for with numbers that a test stops
-unsound_none : (f : WordFault) (n : SettingsView) (w v : Wish) → FailFirst f n → (if are_sound n then Some w else None) ≡ Some v → ⊥
-unsound_none f n w v fails e = go (are_sound n) refl e
+unsound_none : PowersHaveOneBit → (f : WordFault) (n : SettingsView) (w v : Wish) → FailFirst f n → (if are_sound n then Some w else None) ≡ Some v → ⊥
+unsound_none law f n w v fails e = go (are_sound n) refl e
   where
     go : (b : Bool) → are_sound n ≡ b → (if b then Some w else None) ≡ Some v → ⊥
-    go true is e = unsound f n fails is
+    go true is e = unsound law f n fails is
     go false is e = absurd cc
 
 -- a wish that a test stops asks for nothing
-stopped_none : (f : WordFault) (w : Wish) (v : Wish) → IsStoppedBy f w → sound_wish w ≡ Some v → ⊥
-stopped_none f (to_check n p) v stopped e = stopped
-stopped_none f (to_survey range) v stopped e = stopped
-stopped_none f (to_solve n form watch) v stopped e = unsound_none f n (to_solve n form watch) v stopped e
-stopped_none f (to_collect n form) v stopped e = unsound_none f n (to_collect n form) v stopped e
+stopped_none : PowersHaveOneBit → (f : WordFault) (w : Wish) (v : Wish) → IsStoppedBy f w → sound_wish w ≡ Some v → ⊥
+stopped_none law f (to_check n p) v stopped e = stopped
+stopped_none law f (to_survey range) v stopped e = stopped
+stopped_none law f (to_solve n form watch) v stopped e = unsound_none law f n (to_solve n form watch) v stopped e
+stopped_none law f (to_collect n form) v stopped e = unsound_none law f n (to_collect n form) v stopped e
 
 -- only one test is the first to fail
 one_first : (f g : WordFault) (n : SettingsView) → FailFirst f n → FailFirst g n → g ≡ f
@@ -112,8 +113,8 @@ asks_nothing : (words : List Text) → IsTakenByClap words → AsksForHelp words
 asks_nothing words taken asks = fault_there (clap_faults words) asks.may.0 asks.may.1 taken
 
 -- an outcome for what clap gave keeps them
-pub promised_by_outcome : (words : List Text) (r : Result Asked WordsEnd) → IsTakenByClap words → IsSomeAnd (given_of words) (λ wish. IsOutcomeFor wish r) → Promises words r
-promised_by_outcome words r taken h = go (given_of words) refl h
+pub promised_by_outcome : PowersHaveOneBit → (words : List Text) (r : Result Asked WordsEnd) → IsTakenByClap words → IsSomeAnd (given_of words) (λ wish. IsOutcomeFor wish r) → Promises words r
+promised_by_outcome law words r taken h = go (given_of words) refl h
   where
     with : (w : Wish) (r : Result Asked WordsEnd) → given_of words ≡ Some w → IsOutcomeFor w r → Promises words r
     with w (Ok c) is a =
@@ -122,7 +123,7 @@ promised_by_outcome words r taken h = go (given_of words) refl h
           command = means;
           ended = tt;
           help = λ asks. absurd (asks_nothing words taken asks);
-          stopped = λ f fails. absurd (stopped_none f w (wish_of c.command) (subst (λ (o : Option Wish). IsSomeAnd o (IsStoppedBy f)) is fails) a);
+          stopped = λ f fails. absurd (stopped_none law f w (wish_of c.command) (subst (λ (o : Option Wish). IsSomeAnd o (IsStoppedBy f)) is fails) a);
           complete = λ v e. inl (same_wish _ _ (sym means ∙ e));
         }
     with w (Err NoMemory) is a = promised_by_memory words
@@ -132,7 +133,7 @@ promised_by_outcome words r taken h = go (given_of words) refl h
       help = λ asks. absurd (asks_nothing words taken asks);
       ended = refuses g (subst (λ (o : Option Wish). IsSomeAnd o (IsStoppedBy g)) (sym is) a);
       stopped = λ f fails. inl (ap (λ x. Err (Fault x)) (one_stop f g w (subst (λ (o : Option Wish). IsSomeAnd o (IsStoppedBy f)) is fails) a));
-      complete = λ v e. absurd (stopped_none g w v a (sym (ap (option_and_then sound_wish) is) ∙ e));
+      complete = λ v e. absurd (stopped_none law g w v a (sym (ap (option_and_then sound_wish) is) ∙ e));
     }
       where
         refuses : (g : WordFault) → FailsFirst words g → IsRefusalOf words g

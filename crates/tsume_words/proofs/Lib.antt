@@ -1,7 +1,6 @@
 pub mod Builds
 pub mod Ends
 pub mod NoHelp
-pub mod Powers
 pub mod Rows
 pub mod Taken
 pub mod Texts

@@ -17,10 +17,11 @@ use Rattle.clap.specs.Kinds.{check_kinds}
 use Rattle.clap.specs.Simple.{App, Shape, argument_words, built, entered, label_of, names_of, rows_at, subcommand_of, is_simple}
 use Rattle.clap.specs.Walk.{Row, Rule, Text, answers_to, finished, is_empty, nothing_held, one_of, reading_by, rows_after, settled, walk, walk_from}
 use Rattle.clap.proofs.OnLiterals.{clap_on_literals}
-use Rattle.tsume_words.specs.declared.many.TheConstants.{MOST_SEED, MOST_COUNT, MOST_THREADS}
-use Rattle.tsume_words.specs.declared.settings.TheConstants.{MOST_WORKERS, MOST_ROOM, LEAST_ROWS, MOST_ROWS, MOST_SHARDS}
+use Rattle.search_limits.specs.declared.many.TheConstants.{MOST_SEED, MOST_COUNT}
+use Rattle.tsume_words.specs.declared.many.TheConstants.{MOST_THREADS}
+use Rattle.search_limits.specs.declared.settings.TheConstants.{MOST_WORKERS, MOST_ROOM, LEAST_ROWS, MOST_ROWS, MOST_SHARDS}
 use Rattle.tsume_words.specs.declared.watch.TheConstants.{MOST_DEADLINE}
-use Rattle.search_gate.specs.declared.expansions.TheConstants.{MOST_EXPANSIONS}
+use Rattle.search_limits.specs.declared.expansions.TheConstants.{MOST_EXPANSIONS}
 use Rattle.tsume_words.proofs.NoHelp.{IsNotHelp, walk_not_help}
 use Rattle.tsume_words.proofs.Rows.{Each, each_found, HasRowIfDefault, IsFirst, RowIsRight, keeps_values, level_each, one_value, value_if_any, or_else_nil, rows_made}
 use Rattle.tsume_words.specs.Given.{HasFlag, HasNumber, HasNumberIfAny, IsForCollection, IsForCommand, IsForSolve, IsForSurvey, IsTakenByClap, all_words}
@@ -161,7 +162,7 @@ solve_given words all = record {
     expansions = number_given _ 1 MOST_EXPANSIONS _ all.1.0 refl refl refl;
     room = number_given _ 1 MOST_ROOM _ all.1.1.0 refl refl refl;
     rows = number_given _ LEAST_ROWS MOST_ROWS _ all.1.1.1.0 refl refl refl;
-    shards = number_given _ 1 MOST_SHARDS _ all.1.1.1.1.0 refl refl refl;
+    shards = number_if_any _ 1 MOST_SHARDS _ all.1.1.1.1.0 refl refl;
   };
   deadline = number_if_any _ 1 MOST_DEADLINE _ all.1.1.1.1.1.0 refl refl;
   kif = flag_given _ _ all.1.1.1.1.1.1.0 refl refl refl;
@@ -190,7 +191,7 @@ collection_given words all = record {
     expansions = number_given _ 1 MOST_EXPANSIONS _ all.0 refl refl refl;
     room = number_given _ 1 MOST_ROOM _ all.1.0 refl refl refl;
     rows = number_given _ LEAST_ROWS MOST_ROWS _ all.1.1.0 refl refl refl;
-    shards = number_given _ 1 MOST_SHARDS _ all.1.1.1.0 refl refl refl;
+    shards = number_if_any _ 1 MOST_SHARDS _ all.1.1.1.0 refl refl;
   };
   threads = number_if_any _ 1 MOST_THREADS _ all.1.1.1.1.0 refl refl;
   rest = flag_given _ _ all.1.1.1.1.1.0 refl refl refl;

@@ -8,7 +8,7 @@ use Rattle.clap.specs.Matches.{ReadsOne}
 use Rattle.clap.specs.Values.{IsUnsignedIn}
 use Rattle.clap.specs.Walk.{Row, Text, one_of}
 use Rattle.tsume_words.specs.Given.{HasNumber, HasNumberIfAny, IsNumberGiven, IsNumberIfAny, number_if_given, number_of}
-use Rattle.tsume_words.specs.Sizes.{IsFromTo}
+use Rattle.search_limits.specs.Sizes.{IsFromTo}
 
 -- a number that reads is the one that its text writes
 pub number_read : {E : Type 0} (G : List ℕ → Result ℕ E → Type 0) (o : Option Text) (r : Option ℕ) → ((t : Text) → o ≡ Some t → ReadsOne G t r)

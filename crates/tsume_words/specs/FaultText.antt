@@ -1,7 +1,7 @@
 -- How a refusal of the words prints.
 use Rattle.std.specs.Prelude.{ℕ, List, codes, string_bytes}
 use Rattle.std.specs.Str.{trim_end}
-use Rattle.tsume_words.specs.declared.faults.Size.TheVariants.{Rows, Shards}
+use Rattle.search_limits.specs.declared.faults.Size.TheVariants.{Rows, Shards}
 use Rattle.tsume_words.specs.declared.faults.WordFault.{WordFault}
 use Rattle.tsume_words.specs.declared.faults.WordFault.TheVariants.{Clap, NotPowerOfTwo, MoreShardsThanRows}
 

@@ -1,6 +1,6 @@
 -- What clap gives for the words of the command line, by its own meaning of the command.
 use Rattle.std.specs.Prelude.{◌≡◌, ◌<◌, ◌^◌, ℕ, Bool, true, false, List, [], ◌∷◌, Option, Some, None, codes}
-use Rattle.std.specs.Prelude.{◌⊎◌, IsSomeAnd, IfSome, option_and_then, option_map, if◌then◌else◌}
+use Rattle.std.specs.Prelude.{◌⊎◌, min, IsSomeAnd, IfSome, option_and_then, option_map, if◌then◌else◌}
 use Rattle.std.specs.Option.{option_map_or}
 use Rattle.std.specs.Str.{bytes_eq}
 use Rattle.std.specs.Str.Parse.{IsNumeral, digits_value, without_leading_plus}
@@ -11,10 +11,12 @@ use Rattle.clap.specs.Words.{IsUnsignedIn, Row, Text, fault_of, first_of, one_of
 use Rattle.tsume_words.specs.declared.form.Format.{Format}
 use Rattle.tsume_words.specs.declared.form.Format.TheVariants.{Sfen, Kif}
 use Rattle.tsume_words.specs.declared.form.ProblemForm.{ProblemForm}
-use Rattle.tsume_words.specs.declared.many.TheConstants.{MOST_SEED, MOST_COUNT, MOST_THREADS}
-use Rattle.tsume_words.specs.declared.settings.TheConstants.{MOST_WORKERS, MOST_ROOM, LEAST_ROWS, MOST_ROWS, MOST_SHARDS}
+use Rattle.search_limits.specs.declared.many.TheConstants.{MOST_SEED, MOST_COUNT}
+use Rattle.tsume_words.specs.declared.many.TheConstants.{MOST_THREADS}
+use Rattle.search_limits.specs.Sizes.{SettingsView, numbers_of}
+use Rattle.search_limits.specs.declared.settings.TheConstants.{MOST_WORKERS, MOST_ROOM, LEAST_ROWS, MOST_ROWS, MOST_SHARDS, DEFAULT_SHARDS}
 use Rattle.tsume_words.specs.declared.watch.TheConstants.{MOST_DEADLINE}
-use Rattle.search_gate.specs.declared.expansions.TheConstants.{MOST_EXPANSIONS}
+use Rattle.search_limits.specs.declared.expansions.TheConstants.{MOST_EXPANSIONS}
 use Rattle.tsume_words.specs.Line.{tsume_line}
 
 -- The words that clap reads are the program's name and then the user's.
@@ -65,14 +67,6 @@ text_of name rows = first_of name rows
 abbrev pub is_flagged : Text → List Row → Bool
 is_flagged name rows = option_map_or (λ text. bytes_eq text (codes "true")) (one_of name rows) false
 
--- The five numbers of a search.
-pub record SettingsView : Type 0 where
-  pub workers : ℕ
-  pub expansions : ℕ
-  pub room : ℕ
-  pub rows : ℕ
-  pub shards : ℕ
-
 -- How a search is watched: after how many milliseconds it gives up, if at all; and whether the user is told how far it has come.
 pub record WatchView : Type 0 where
   pub deadline : Option ℕ
@@ -100,17 +94,17 @@ pub data Wish : Type 0 where
   to_survey : SurveyView → Wish
   to_collect : SettingsView → CollectionView → Wish
 
--- The five numbers of a search by so many workers; clap gives the other four.
-abbrev pub settings_by : ℕ → List Row → SettingsView
-settings_by workers found = record {
-  workers = workers;
-  expansions = number_of (codes "expansions") found;
-  room = number_of (codes "room") found;
-  rows = number_of (codes "rows") found;
-  shards = number_of (codes "shards") found;
-}
+-- The parts of a table of so many rows: as many as are asked for, or else the lesser of 64 and the rows.
+abbrev pub shards_for : ℕ → Option ℕ → ℕ
+shards_for its_rows None = min DEFAULT_SHARDS its_rows
+shards_for its_rows (Some asked) = asked
 
--- The five numbers that clap gives for `solve`.
+-- The five numbers of a search by so many workers; clap gives the others, but for the shards where nothing is said of them.
+abbrev pub settings_by : ℕ → List Row → SettingsView
+settings_by workers found = numbers_of workers (number_of (codes "expansions") found) (number_of (codes "room") found)
+    (number_of (codes "rows") found) (shards_for (number_of (codes "rows") found) (number_if_given (codes "shards") found))
+
+-- The five numbers for `solve`, by what clap found.
 abbrev pub settings_of : List Row → SettingsView
 settings_of found = settings_by (number_of (codes "workers") found) found
 
@@ -202,12 +196,12 @@ IsNumberGiven name found = IsSomeAnd (one_of name found) (λ text. IsNumeral 10 
 abbrev pub HasFlag : Text → List Row → Type 0
 HasFlag name found = (one_of name found ≡ Some (codes "true")) ⊎ (one_of name found ≡ Some (codes "false"))
 
--- What clap gives for a search, each number in its range.
+-- What clap gives for a search, each number in its range; of the shards perhaps none.
 pub record IsForSearch (found : List Row) : Type 0 where
   pub expansions : HasNumber (codes "expansions") 1 MOST_EXPANSIONS found
   pub room : HasNumber (codes "room") 1 MOST_ROOM found
   pub rows : HasNumber (codes "rows") LEAST_ROWS MOST_ROWS found
-  pub shards : HasNumber (codes "shards") 1 MOST_SHARDS found
+  pub shards : HasNumberIfAny (codes "shards") 1 MOST_SHARDS found
 
 -- What clap gives for `solve`, each number in its range.
 pub record IsForSolve (found : List Row) : Type 0 where

@@ -3,4 +3,3 @@ pub mod Given
 pub mod Line
 pub mod Meaning
 pub mod FaultText
-pub mod Sizes

@@ -1,8 +1,9 @@
 -- The command line that clap is given, in clap's own terms.
-use Rattle.tsume_words.specs.declared.many.TheConstants.{MOST_SEED, MOST_COUNT, MOST_THREADS}
-use Rattle.tsume_words.specs.declared.settings.TheConstants.{MOST_WORKERS, MOST_ROOM, LEAST_ROWS, MOST_ROWS, MOST_SHARDS}
+use Rattle.search_limits.specs.declared.many.TheConstants.{MOST_SEED, MOST_COUNT}
+use Rattle.tsume_words.specs.declared.many.TheConstants.{MOST_THREADS}
+use Rattle.search_limits.specs.declared.settings.TheConstants.{MOST_WORKERS, MOST_ROOM, LEAST_ROWS, MOST_ROWS, MOST_SHARDS}
 use Rattle.tsume_words.specs.declared.watch.TheConstants.{MOST_DEADLINE}
-use Rattle.search_gate.specs.declared.expansions.TheConstants.{MOST_EXPANSIONS}
+use Rattle.search_limits.specs.declared.expansions.TheConstants.{MOST_EXPANSIONS}
 use Rattle.std.specs.Prelude.{ℕ, [], ◌∷◌, Some, codes, true}
 use Rattle.clap.specs.Words.{App, Rule, Text, new_app, new_rule, with_rule, with_subcommand}
 use Rattle.clap.specs.declared.builder.action.ArgAction.TheVariants.{Set, SetTrue}
@@ -26,17 +27,22 @@ workers_option = number_option (codes "workers") 1 MOST_WORKERS (codes "1")
 abbrev pub expansions_option : Text → Rule
 expansions_option default = number_option (codes "expansions") 1 MOST_EXPANSIONS default
 
--- The room is 1 to 1,400,000 facts, and 1,048,576 where nothing is said.
+-- The room is 1 to 1,000,000,000 notes, and that where nothing is said.
 abbrev pub room_option : Rule
-room_option = number_option (codes "room") 1 MOST_ROOM (codes "1048576")
+room_option = number_option (codes "room") 1 MOST_ROOM (codes "1000000000")
 
--- The rows are 16 to 1,048,576, and 65,536 where nothing is said.
+-- The rows are 16 to 16,777,216, and 65,536 where nothing is said.
 abbrev pub rows_option : Rule
 rows_option = number_option (codes "rows") LEAST_ROWS MOST_ROWS (codes "65536")
 
--- The shards are 1 to 64, and 16 where nothing is said.
+-- The option `--shards N` takes a number, 1 to 256, and has no default.
 abbrev pub shards_option : Rule
-shards_option = number_option (codes "shards") 1 MOST_SHARDS (codes "16")
+shards_option = record (new_rule (codes "shards")) {
+  long = Some (codes "shards");
+  action = Some Set;
+  value_names = 1;
+  parser = Some (Unsigned 1 MOST_SHARDS);
+}
 
 -- The seed is 0 to 1,000,000,000, and 0 where nothing is said.
 abbrev pub seed_option : Rule

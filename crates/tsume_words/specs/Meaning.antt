@@ -1,14 +1,15 @@
 -- What the words of the command line mean: what clap gives for them, where it passes the three tests after it.
-use Rattle.std.specs.Prelude.{◌≡◌, ◌<◌, ℕ, Result, Ok, Err, String, map, string_bytes, ◌&&◌, Bool, true, false, List, Option, Some, None, option_and_then, option_map}
+use Rattle.std.specs.Prelude.{◌≡◌, ℕ, Result, Ok, Err, String, map, string_bytes, ◌&&◌, Bool, true, false, List, Option, Some, None, option_and_then, option_map}
 use Rattle.std.specs.Prelude.{if◌then◌else◌, nat_le, IsSomeAnd, ⊤}
-use Rattle.std.specs.Int.{IsPowerOfTwo, is_power_of_two}
+use Rattle.std.specs.Int.{is_power_of_two}
 use Rattle.clap.specs.Words.{Text}
-use Rattle.tsume_words.specs.Given.{CollectionView, SettingsView, SurveyView, WatchView, Wish, given_of, is_help, MayAskForHelp, MayBeRefused}
+use Rattle.search_limits.specs.Settings.{IsFirstOdd, HaveMoreShards, settings_in}
+use Rattle.search_limits.specs.Sizes.{SettingsView}
+use Rattle.tsume_words.specs.Given.{CollectionView, SurveyView, WatchView, Wish, given_of, is_help, MayAskForHelp, MayBeRefused}
 use Rattle.tsume_words.specs.Given.Wish.{to_solve, to_check, to_survey, to_collect}
 use Rattle.tsume_words.specs.declared.command.Command.{Command}
 use Rattle.tsume_words.specs.declared.command.Asked.{Asked}
 use Rattle.tsume_words.specs.declared.command.Command.TheVariants.{Solve, Check, Survey, Collection}
-use Rattle.tsume_words.specs.declared.faults.Size.TheVariants.{Rows, Shards}
 use Rattle.tsume_words.specs.declared.faults.WordFault.{WordFault}
 use Rattle.tsume_words.specs.declared.faults.WordFault.TheVariants.{Clap, NotPowerOfTwo, MoreShardsThanRows}
 use Rattle.tsume_words.specs.declared.faults.WordsEnd.{WordsEnd}
@@ -16,7 +17,7 @@ use Rattle.tsume_words.specs.declared.faults.WordsEnd.TheVariants.{Help, Fault, 
 use Rattle.clap.specs.declared.error.kind.ErrorKind.{ErrorKind}
 use Rattle.tsume_words.specs.declared.many.CollectionForm.{CollectionForm}
 use Rattle.tsume_words.specs.declared.many.SurveyRange.{SurveyRange}
-use Rattle.tsume_words.specs.declared.settings.Settings.{Settings}
+use Rattle.search_limits.specs.declared.settings.Settings.{Settings}
 use Rattle.tsume_words.specs.declared.watch.Watch.{Watch}
 
 -- The rows and the shards are powers of two, and there are no more shards than rows.
@@ -33,16 +34,6 @@ sound_wish (to_collect settings form) = if are_sound settings then Some (to_coll
 -- What the words ask for: none where clap refuses them or one of the three tests after it fails.
 abbrev pub command_of : List Text → Option Wish
 command_of words = option_and_then sound_wish (given_of words)
-
--- The numbers of settings.
-abbrev pub settings_in : Settings → SettingsView
-settings_in s = record {
-  workers = s.workers;
-  expansions = s.expansions.count;
-  room = s.room;
-  rows = s.rows;
-  shards = s.shards;
-}
 
 -- How a search is watched.
 abbrev pub watch_in : Watch → WatchView
@@ -80,9 +71,8 @@ HasLoneSearches (Survey range) = ⊤
 -- The numbers fail this test and pass those before it: the rows are a power of two, then the shards, and then there are
 -- no more shards than rows.
 abbrev pub FailFirst : WordFault → SettingsView → Type 0
-FailFirst (NotPowerOfTwo Rows) n = ¬ IsPowerOfTwo n.rows
-FailFirst (NotPowerOfTwo Shards) n = IsPowerOfTwo n.rows × (¬ IsPowerOfTwo n.shards)
-FailFirst MoreShardsThanRows n = IsPowerOfTwo n.rows × IsPowerOfTwo n.shards × (n.rows < n.shards)
+FailFirst (NotPowerOfTwo size) n = IsFirstOdd size n
+FailFirst MoreShardsThanRows n = HaveMoreShards n
 FailFirst (Clap text) n = ⊥
 
 -- The wish is to solve, or to decide a collection, with numbers of which this test is the first to fail.

@@ -1,5 +1,6 @@
 // The commands of the program.
-use crate::{CollectionForm, ProblemForm, Settings, SurveyRange, Watch};
+use crate::{CollectionForm, ProblemForm, SurveyRange, Watch};
+use search_limits::Settings;
 
 /// What the words of the command line ask for.
 #[derive(Debug, Drop)]

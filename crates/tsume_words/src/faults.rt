@@ -1,18 +1,10 @@
 // Why words are refused.
 ghost use Rattle.std.specs.Prelude.{◌≡◌};
 
+use search_limits::Size;
 use std::alloc::{AllocError, AllocFailed};
 use std::error::Error;
 use std::fmt;
-
-/// Which size of the transposition table.
-#[derive(Clone, Copy, Debug, PartialEq, Eq)]
-pub enum Size {
-    /// The rows.
-    Rows,
-    /// The shards.
-    Shards,
-}
 
 /// Why words are refused. It prints as the text for the user, with no line feed at the end: the caller adds one.
 #[derive(Debug, Drop)]

@@ -6,12 +6,14 @@ ghost use Rattle.tsume_words.specs.Line.{number_option, workers_option, expansio
 ghost use Rattle.tsume_words.specs.Line.{seed_option, count_option, threads_option, certificates_flag};
 ghost use Rattle.tsume_words.specs.Line.{check_line, survey_line, collection_line, tsume_line};
 
-use crate::many::{MOST_COUNT, MOST_SEED, MOST_THREADS};
-use crate::settings::{LEAST_ROWS, MOST_ROOM, MOST_ROWS, MOST_SHARDS, MOST_WORKERS};
+use crate::many::MOST_THREADS;
 use crate::watch::MOST_DEADLINE;
 use clap::builder::ValueParser;
 use clap::{Arg, ArgAction, Command};
-use search_gate::MOST_EXPANSIONS;
+use search_limits::{
+    LEAST_ROWS, MOST_COUNT, MOST_EXPANSIONS, MOST_ROOM, MOST_ROWS, MOST_SEED, MOST_SHARDS,
+    MOST_WORKERS,
+};
 use std::alloc::{AllocError, Global};
 
 // What `--version` prints behind the program's name.
@@ -43,7 +45,15 @@ fn workers_option<'a>(alloc: Global) -> Arg<'a>
     ensures rule { rule_of result ≡ workers_option }
     ensures local { result.global ≡ false }
 {
-    number_option(alloc, "workers", 1, MOST_WORKERS, "1", "Threads (1 to 64)").hide(true)
+    number_option(
+        alloc,
+        "workers",
+        1,
+        u64::from(MOST_WORKERS),
+        "1",
+        "Threads (1 to 64)",
+    )
+    .hide(true)
 }
 
 fn expansions_option<'a>(alloc: Global, default: &'a str) -> Arg<'a>
@@ -70,11 +80,11 @@ fn room_option<'a>(alloc: Global) -> Arg<'a>
         alloc,
         "room",
         1,
-        MOST_ROOM,
-        "1048576",
+        u64::from(MOST_ROOM),
+        "1000000000",
         "Solved positions that it may note down before it gives\n\
-         up, 1 to 1400000, and so the most that a certificate\n\
-         lists; each takes some 400 bytes",
+         up, 1 to 1000000000. A visit notes at most one, so this\n\
+         is no limit unless given. Each takes some 400 bytes",
     )
 }
 
@@ -89,7 +99,7 @@ fn rows_option<'a>(alloc: Global) -> Arg<'a>
         MOST_ROWS,
         "65536",
         "Rows of the table in which it keeps what it knows, a\n\
-         power of two, 16 to 1048576. A row takes 1 KB, all at\n\
+         power of two, 16 to 16777216. A row takes 1 KB, all at\n\
          once. A larger table helps where the visits allowed\n\
          aren't enough",
     )
@@ -100,15 +110,13 @@ fn shards_option<'a>(alloc: Global) -> Arg<'a>
     ensures rule { rule_of result ≡ shards_option }
     ensures local { result.global ≡ false }
 {
-    number_option(
-        alloc,
-        "shards",
-        1,
-        MOST_SHARDS,
-        "16",
-        "Parts of the table, a power of two (1 to 64), at most the rows",
-    )
-    .hide(true)
+    Arg::new(alloc, "shards")
+        .long("shards")
+        .action(ArgAction::Set)
+        .value_name("N")
+        .value_parser(ValueParser::unsigned(1, MOST_SHARDS))
+        .help("Parts of the table, a power of two (1 to 256), at most the rows")
+        .hide(true)
 }
 
 fn seed_option<'a>(alloc: Global) -> Arg<'a>
@@ -135,7 +143,7 @@ fn count_option<'a>(alloc: Global) -> Arg<'a>
         alloc,
         "count",
         1,
-        MOST_COUNT,
+        u64::from(MOST_COUNT),
         "100",
         "How many problems, 1 to 10000, by rising number. Each\n\
          is one more search",

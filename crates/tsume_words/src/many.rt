@@ -1,16 +1,11 @@
 // What a command over many problems is told.
 ghost use Rattle.std.specs.Prelude.{◌≤◌};
 ghost use Rattle.std.specs.Option.{ForSome};
-ghost use Rattle.tsume_words.specs.Sizes.{IsFromTo};
-ghost use Rattle.tsume_words.specs.declared.many.TheConstants.{MOST_SEED, MOST_COUNT, MOST_THREADS};
+ghost use Rattle.search_limits.specs.Sizes.{IsFromTo};
+ghost use Rattle.search_limits.specs.declared.many.TheConstants.{MOST_SEED, MOST_COUNT};
+ghost use Rattle.tsume_words.specs.declared.many.TheConstants.{MOST_THREADS};
 
-use search_gate::Expansions;
-
-/// The highest number with which a survey may begin.
-pub const MOST_SEED: u64 = 1_000_000_000;
-
-/// The most problems of one survey.
-pub const MOST_COUNT: u64 = 10_000;
+use search_limits::Expansions;
 
 /// The most problems of a collection that are decided side by side.
 pub const MOST_THREADS: u64 = 64;
@@ -18,9 +13,9 @@ pub const MOST_THREADS: u64 = 64;
 /// Which of the problems that the generator makes are solved, and how long each is tried.
 #[derive(Clone, Copy, Debug, PartialEq, Eq)]
 pub struct SurveyRange {
-    /// The number of the first, 0 to [`MOST_SEED`].
+    /// The number of the first, 0 to [`MOST_SEED`](search_limits::MOST_SEED).
     pub seed: u64,
-    /// How many, 1 to [`MOST_COUNT`], by rising number.
+    /// How many, 1 to [`MOST_COUNT`](search_limits::MOST_COUNT), by rising number.
     pub count: u32,
     /// How many visits of positions the search of a problem may make before it gives up.
     pub expansions: Expansions,

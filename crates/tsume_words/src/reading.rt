@@ -1,30 +1,30 @@
 // The reading of the words.
-ghost use Rattle.std.specs.Prelude.{◌≡◌, ◌⊎◌, ◌↔◌, IfOk, IfErr, IsOkAnd, IsSomeAnd, IsTrue, codes, map, option_map, string_bytes};
+ghost use Rattle.std.specs.Prelude.{◌≡◌, ◌⊎◌, ◌≤◌, IfOk, IfErr, IsOkAnd, IsSomeAnd, codes, map, option_map, string_bytes};
 ghost use Rattle.std.specs.Prelude.{option_and_then};
 ghost use Rattle.std.specs.Option.{ForSome};
-ghost use Rattle.std.specs.Int.{IsPowerOfTwo, is_power_of_two};
 ghost use Rattle.clap.specs.Words.{found_of, kind_of, rows_of, subcommand_rows_of};
 ghost use Rattle.tsume_words.specs.Given.{AsksForHelp, HasFlag, HasNumber, IsForCollection, IsForCommand, IsForSearch, IsForSolve, IsForSurvey, IsNumberGiven, Wish};
 ghost use Rattle.tsume_words.specs.Given.{HasNumberIfAny, IsNumberIfAny, all_words, collection_of, file_named, file_of, form_of, is_flagged, is_help, number_of, number_if_given};
-ghost use Rattle.tsume_words.specs.Given.{but_dash, settings_by, settings_of, survey_of, text_of, watch_of, wish_named};
+ghost use Rattle.tsume_words.specs.Given.{but_dash, settings_by, settings_of, shards_for, survey_of, text_of, watch_of, wish_named};
 ghost use Rattle.tsume_words.specs.Given.Wish.{to_solve, to_check, to_survey, to_collect};
 ghost use Rattle.tsume_words.specs.Meaning.{AreTested, HasLoneSearches, IsOutcomeFor, FailsFirst, IsClapsEnd, IsEndFor, IsHelp, collection_in, command_of};
 ghost use Rattle.tsume_words.specs.Meaning.{survey_in, texts_of, watch_in, wish_of, workers_of};
-ghost use Rattle.tsume_words.specs.Sizes.{IsFromTo};
+ghost use Rattle.search_limits.specs.Sizes.{IsFromTo};
 ghost use Rattle.tsume_words.specs.declared.faults.WordFault.{WordFault};
-ghost use Rattle.tsume_words.specs.declared.many.TheConstants.{MOST_COUNT, MOST_THREADS};
-ghost use Rattle.tsume_words.specs.declared.settings.TheConstants.{MOST_WORKERS, MOST_ROOM};
+ghost use Rattle.search_limits.specs.declared.many.TheConstants.{MOST_COUNT};
+ghost use Rattle.tsume_words.specs.declared.many.TheConstants.{MOST_THREADS};
+ghost use Rattle.search_limits.specs.declared.settings.TheConstants.{MOST_WORKERS, MOST_ROOM, LEAST_ROWS, MOST_ROWS, MOST_SHARDS};
 ghost use Rattle.tsume_words.specs.declared.watch.TheConstants.{MOST_DEADLINE};
-ghost use Rattle.search_gate.specs.declared.expansions.TheConstants.{MOST_EXPANSIONS};
+ghost use Rattle.search_limits.specs.declared.expansions.TheConstants.{MOST_EXPANSIONS};
 
 use crate::line::command_line;
 use crate::{
-    Asked, CollectionForm, Command, Format, ProblemForm, Settings, Size, SurveyRange, Watch,
+    Asked, CollectionForm, Command, Format, ProblemForm, SurveyRange, Watch,
     WordFault, WordsEnd,
 };
 use clap::ArgMatches;
 use clap::error::ErrorKind;
-use search_gate::Expansions;
+use search_limits::{Expansions, Settings, SettingsFault, default_shards, power_laws};
 use std::alloc::{AllocError, Global};
 
 /// The command that the words ask for, and the file that it reads; they are the words after the program's name.
@@ -57,6 +57,7 @@ pub fn read_words(alloc: Global, words: &[String]) -> Result<Asked, WordsEnd>
     ensures complete { (wish : Wish) → command_of (texts_of words.now) ≡ Some wish
         → IsOkAnd result (λ asked. wish_of asked.command ≡ wish) ⊎ (result ≡ Err WordsEnd.NoMemory) }
 {
+    power_laws();
     let texts = with_program(alloc, words)?;
     match command_line(alloc)?.try_get_matches_from(texts.as_slice()) {
         Ok(matches) => asked(alloc, &matches),
@@ -156,6 +157,27 @@ fn expansions(given: &ArgMatches<'_>) -> Expansions
     }
 }
 
+fn rows(given: &ArgMatches<'_>) -> u64
+    requires { HasNumber (codes "rows") LEAST_ROWS MOST_ROWS (rows_of (found_of given.now)) }
+    ensures number { result ≡ number_of (codes "rows") (rows_of (found_of given.now)) }
+    ensures range { IsFromTo LEAST_ROWS MOST_ROWS result }
+{
+    number(given, "rows")
+}
+
+// The parts of a table of so many rows: as many as the words say, or else as many as it has by default.
+fn shards(given: &ArgMatches<'_>, rows: u64) -> u64
+    requires shards { HasNumberIfAny (codes "shards") 1 MOST_SHARDS (rows_of (found_of given.now)) }
+    requires rows { LEAST_ROWS ≤ rows }
+    ensures number { result ≡ shards_for rows (number_if_given (codes "shards") (rows_of (found_of given.now))) }
+    ensures range { IsFromTo 1 MOST_SHARDS result }
+{
+    match number_if_given(given, "shards") {
+        Some(shards) => shards,
+        None => default_shards(rows),
+    }
+}
+
 // Whether clap found the flag of this name.
 fn is_flagged(given: &ArgMatches<'_>, name: &str) -> bool
     requires { HasFlag name.now (rows_of (found_of given.now)) }
@@ -208,14 +230,6 @@ fn text(alloc: Global, given: &ArgMatches<'_>, name: &str) -> Result<Option<Stri
     }
 }
 
-// Whether a number is a power of two.
-fn is_power_of_two(number: u64) -> bool
-    ensures test { result ≡ is_power_of_two number }
-    ensures fact { IsTrue result ↔ IsPowerOfTwo number }
-{
-    number.is_power_of_two()
-}
-
 // The file that clap gives for a command: none for the standard input.
 fn file(alloc: Global, given: &ArgMatches<'_>) -> Result<Option<String>, AllocError>
     ensures { IfOk result (λ file. option_map string_bytes file ≡ but_dash (text_of (codes "file") (rows_of (found_of given.now)))) }
@@ -235,26 +249,18 @@ fn settings(given: &ArgMatches<'_>, workers: u32) -> Result<Settings, WordFault>
     requires given { IsForSearch (rows_of (found_of given.now)) }
     ensures { AreTested (settings_by workers (rows_of (found_of given.now))) result }
 {
-    let expansions = expansions(given);
+    let expansions = expansions(given).count;
     let room = room(given);
-    let rows = number(given, "rows");
-    let shards = number(given, "shards");
-    if !is_power_of_two(rows) {
-        return Err(WordFault::NotPowerOfTwo(Size::Rows));
+    let rows = rows(given);
+    let shards = shards(given, rows);
+    power_laws();
+    match Settings::new(workers, expansions, room, rows, shards) {
+        Ok(settings) => Ok(settings),
+        Err(SettingsFault::NotPowerOfTwo(size)) => Err(WordFault::NotPowerOfTwo(size)),
+        Err(SettingsFault::MoreShardsThanRows) => Err(WordFault::MoreShardsThanRows),
+        // Clap sees to the ranges.
+        Err(SettingsFault::OutOfRange(_)) => unreachable!(),
     }
-    if !is_power_of_two(shards) {
-        return Err(WordFault::NotPowerOfTwo(Size::Shards));
-    }
-    if shards > rows {
-        return Err(WordFault::MoreShardsThanRows);
-    }
-    Ok(Settings {
-        workers,
-        expansions,
-        room,
-        rows,
-        shards,
-    })
 }
 
 // What clap gives for `solve`, tested.

@@ -1,6 +1,6 @@
 // How a search is watched.
 ghost use Rattle.std.specs.Option.{ForSome};
-ghost use Rattle.tsume_words.specs.Sizes.{IsFromTo};
+ghost use Rattle.search_limits.specs.Sizes.{IsFromTo};
 ghost use Rattle.tsume_words.specs.declared.watch.TheConstants.{MOST_DEADLINE};
 
 /// The most milliseconds that a search may be given: a day.

@@ -6,8 +6,9 @@ use Rattle.notes.specs.declared.words.Draw.{Draw}
 use Rattle.notes.specs.declared.words.Draw.TheVariants.{Go, Done, Spent}
 use Rattle.notes.specs.declared.words.Claim.{Claim}
 use Rattle.notes.specs.declared.words.Claim.TheVariants.{Room, NoRoom}
-use Rattle.unit_desk.specs.Sizes.{IsFromTo}
-use Rattle.unit_desk.specs.declared.settings.TheConstants.{MOST_EXPANSIONS, MOST_ROOM}
+use Rattle.search_limits.specs.Sizes.{IsFromTo}
+use Rattle.search_limits.specs.declared.expansions.TheConstants.{MOST_EXPANSIONS}
+use Rattle.search_limits.specs.declared.settings.TheConstants.{MOST_ROOM}
 
 -- The problem's position, how many units and notes there may be, how many units were drawn and for how many notes room was claimed, and
 -- the note that is posted.

@@ -4,6 +4,7 @@ use Rattle.std.proofs.lemmas.List.{length-map, length-set}
 use Rattle.std.proofs.lemmas.List.Sums.{sum_by-set, count_by-le-length}
 use Rattle.std.proofs.lemmas.Option.{slice_get_within, get_or_from_slice_get}
 use Rattle.std.specs.Prelude.{Some, slice_get, slice_set, count_by, get_or}
+use Rattle.search_limits.specs.declared.expansions.TheConstants.{MOST_EXPANSIONS}
 use Rattle.bit_boards.specs.declared.piece.Side.{Side}
 use Rattle.board_core.specs.declared.moves.Move.{Move}
 use Rattle.board_core.specs.Board.{Board}
@@ -90,7 +91,7 @@ back_length g place child left = length-set (map staled g.children) place (visit
 
 -- what is still to come at a stage, with these visits going on, after so many units
 abbrev comes : Stage → List Visiting → ℕ → ℕ
-comes st fs visits = 30000 * (1000000000 - visits) + 13776 * length fs + cost st fs
+comes st fs visits = 30000 * (MOST_EXPANSIONS - visits) + 13776 * length fs + cost st fs
 
 settles_cost : (task : Task) (f : Visiting) (st : Stage) (g : Visiting) (fs : List Visiting) → Settles task f st g
     → cost st (g ∷ fs) ≤ 3 + unseen f.children
@@ -105,13 +106,13 @@ settles_cost task f (Posting posted) g fs h = absurd h
 settles_cost task f (Winding end) g fs h = absurd h
 
 goes_on : (task : Task) (s t : State) (f : Visiting) (fs : List Visiting) → GoesOn task s f fs t
-    → to_come t ≤ 30000 * (1000000000 - s.visits) + 13776 * suc (length fs) + (3 + unseen f.children)
+    → to_come t ≤ 30000 * (MOST_EXPANSIONS - s.visits) + 13776 * suc (length fs) + (3 + unseen f.children)
 goes_on task s t f fs on = let e = ap to_come on.is in let c = settles_cost task f t.stage on.next fs on.settles in omega (arith, e, c)
 
-winds : (s t : State) (end : WorkEnd) → t ≡ wind s end → to_come t ≤ 30000 * (1000000000 - s.visits) + 13776 * length s.frames
+winds : (s t : State) (end : WorkEnd) → t ≡ wind s end → to_come t ≤ 30000 * (MOST_EXPANSIONS - s.visits) + 13776 * length s.frames
 winds s t end e = let same = ap to_come e in omega (arith, same, length-entered s.frames)
 
-begins : (task : Task) (s t : State) (entry : Entry) → s.visits < 1000000000 → Begins task s entry t
+begins : (task : Task) (s t : State) (entry : Entry) → s.visits < MOST_EXPANSIONS → Begins task s entry t
     → to_come t < comes (Drawing entry) s.frames s.visits
 begins task s t entry under h = elim h [
   | inl begun ↦ (let e = ap to_come begun.1 in omega (arith, e, under))

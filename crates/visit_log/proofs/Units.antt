@@ -2,6 +2,7 @@
 use Rattle.std.proofs.Common.{◌≡◌, ◌≤◌, ◌+◌, ℕ, suc, Bool, true, false, List, [], ◌∷◌, map, length, arith, refl, sym, ap, subst, inl, inr}
 use Rattle.std.proofs.lemmas.List.{length-map}
 use Rattle.std.specs.Prelude.{Option, Some, None, is_some, if◌then◌else◌}
+use Rattle.search_limits.specs.declared.expansions.TheConstants.{MOST_EXPANSIONS}
 use Rattle.notes.specs.declared.words.Kept.{Kept}
 use Rattle.notes.specs.declared.words.Kept.TheVariants.{Slot, Unkept}
 use Rattle.notes.specs.declared.words.Seen.{Seen}
@@ -75,23 +76,23 @@ unclaimed_length (Winding end) fs = omega arith
 record IsCovered (st : Stage) (fs : List Visiting) (units room : ℕ) : Type 0 where
   pub frames : length fs ≤ units
   pub claims : room + unclaimed st fs ≤ units
-  pub most : units ≤ 1000000000
+  pub most : units ≤ MOST_EXPANSIONS
 
 -- so it is in a state
 abbrev Covers : State → Type 0
 Covers s = IsCovered s.stage s.frames s.visits s.claims
 
-winds_covered : (s t : State) (end : WorkEnd) → length s.frames ≤ s.visits → s.claims ≤ s.visits → s.visits ≤ 1000000000 → t ≡ wind s end
+winds_covered : (s t : State) (end : WorkEnd) → length s.frames ≤ s.visits → s.claims ≤ s.visits → s.visits ≤ MOST_EXPANSIONS → t ≡ wind s end
     → Covers t
 winds_covered s t end frames claims most e = let fewer = length-entered s.frames in
     subst Covers (sym e) (record { frames = omega (arith, fewer, frames); claims = omega (arith, claims); most = most })
 
-goes_covered : (task : Task) (s t : State) (f : Visiting) (fs : List Visiting) → s.claims + suc (length fs) ≤ s.visits → s.visits ≤ 1000000000
+goes_covered : (task : Task) (s t : State) (f : Visiting) (fs : List Visiting) → s.claims + suc (length fs) ≤ s.visits → s.visits ≤ MOST_EXPANSIONS
     → GoesOn task s f fs t → Covers t
 goes_covered task s t f fs claims most on = let fewer = unclaimed_length t.stage (on.next ∷ fs) in
     subst Covers (sym on.is) (record { frames = omega (arith, claims); claims = omega (arith, fewer, claims); most = most })
 
-opens_covered : (task : Task) (s t : State) (fs : List Visiting) (kept : Kept) → s.claims + length fs ≤ s.visits → s.visits ≤ 1000000000
+opens_covered : (task : Task) (s t : State) (fs : List Visiting) (kept : Kept) → s.claims + length fs ≤ s.visits → s.visits ≤ MOST_EXPANSIONS
     → Opens task s fs kept t → Covers t
 opens_covered task s t [] kept claims most h = absurd h
 opens_covered task s t (f ∷ fs) kept claims most h = elim h [
@@ -99,12 +100,12 @@ opens_covered task s t (f ∷ fs) kept claims most h = elim h [
   | inr lost ↦ winds_covered (at_stage s Entering (keep f kept ∷ fs)) t NoMemory (omega (arith, claims)) (omega (arith, claims)) most lost
 ]
 
-sees_covered : (task : Task) (s t : State) (place : ℕ) (fs : List Visiting) (seen : Seen) → s.claims + length fs ≤ s.visits → s.visits ≤ 1000000000
+sees_covered : (task : Task) (s t : State) (place : ℕ) (fs : List Visiting) (seen : Seen) → s.claims + length fs ≤ s.visits → s.visits ≤ MOST_EXPANSIONS
     → Sees task s place fs seen t → Covers t
 sees_covered task s t place [] seen claims most h = absurd h
 sees_covered task s t place (f ∷ fs) seen claims most h = goes_covered task s t _ fs claims most h.5
 
-makes_covered : (task : Task) (s t : State) (fs : List Visiting) → fs ≡ s.frames → s.claims + length fs ≤ s.visits → s.visits ≤ 1000000000
+makes_covered : (task : Task) (s t : State) (fs : List Visiting) → fs ≡ s.frames → s.claims + length fs ≤ s.visits → s.visits ≤ MOST_EXPANSIONS
     → Makes task s fs t → Covers t
 makes_covered task s t [] e claims most h = absurd h
 makes_covered task s t (f ∷ fs) e claims most h =
@@ -115,7 +116,7 @@ makes_covered task s t (f ∷ fs) e claims most h =
       | inr refused ↦ winds_covered (one_claim s) t _ (omega (arith, all, claims)) (omega (arith, claims)) most refused.2
     ]
 
-returns_covered : (task : Task) (s t : State) (fs : List Visiting) (left : Left) → s.claims + length fs ≤ s.visits → s.visits ≤ 1000000000
+returns_covered : (task : Task) (s t : State) (fs : List Visiting) (left : Left) → s.claims + length fs ≤ s.visits → s.visits ≤ MOST_EXPANSIONS
     → Returns task s fs left t → Covers t
 returns_covered task s t [] (Solved note) claims most h =
     subst Covers (sym h) (record { frames = omega arith; claims = omega (arith, claims); most = most })

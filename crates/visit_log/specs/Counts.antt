@@ -1,6 +1,7 @@
 -- What a worker counts: the slots that it has entered and not left, its units and its room; and what is still to come.
 use Rattle.std.specs.Prelude.{◌≡◌, ◌+◌, ◌-◌, ◌*◌, ◌==◌, ◌&&◌, ℕ, Bool, true, false, List, [], ◌∷◌, Option, Some, None, length, count_by, not, if◌then◌else◌}
 use Rattle.std.specs.Ordering.{is_eq}
+use Rattle.search_limits.specs.declared.expansions.TheConstants.{MOST_EXPANSIONS}
 use Rattle.board_core.specs.declared.keys.Key.{Key}
 use Rattle.path_tags.specs.Tag.{key_cmp}
 use Rattle.notes.specs.declared.words.Kept.{Kept}
@@ -138,7 +139,7 @@ cost (Winding end) fs = 0
 
 -- How many requests are to come, at most.
 abbrev pub to_come : State → ℕ
-to_come s = 30000 * (1000000000 - s.visits) + (most_children + 6) * length s.frames + cost s.stage s.frames
+to_come s = 30000 * (MOST_EXPANSIONS - s.visits) + (most_children + 6) * length s.frames + cost s.stage s.frames
 
 -- 4. BRACKETS: each Leave leaves what was entered last and not left yet.
 

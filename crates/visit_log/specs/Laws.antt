@@ -1,5 +1,6 @@
 -- What is true of all visit logs and of every worker.
 use Rattle.std.specs.Prelude.{◌≡◌, ◌≤◌, ◌<◌, ◌+◌, ◌⊎◌, ◌↔◌, ℕ, true, List, [], ◌∷◌, Some, Contains, count_by, length, slice_get}
+use Rattle.search_limits.specs.declared.expansions.TheConstants.{MOST_EXPANSIONS}
 use Rattle.board_core.specs.declared.keys.Key.{Key}
 use Rattle.notes.specs.Derivation.{Derivation}
 use Rattle.notes.specs.declared.words.Kept.{Kept}
@@ -92,7 +93,7 @@ pub record IsCounted (s : State) : Type 0 where
   pub slots : own_size s.frames ≤ length s.frames
   pub frames : length s.frames ≤ s.visits
   pub claims : s.claims ≤ s.visits
-  pub most : s.visits ≤ 1000000000
+  pub most : s.visits ≤ MOST_EXPANSIONS
 
 -- A law: so it is wherever a worker stands.
 abbrev pub WorkersAreCounted : Type 0

@@ -1,5 +1,6 @@
 -- The search as a machine: where a worker stands between two requests, what it asks next, and where an answer leads.
 use Rattle.std.specs.Prelude.{◌≡◌, ◌⊎◌, ◌+◌, ◌<◌, ℕ, true, false, List, [], ◌∷◌, Option, Some, None, map, is_some, slice_get, if◌then◌else◌}
+use Rattle.search_limits.specs.declared.expansions.TheConstants.{MOST_EXPANSIONS}
 use Rattle.bit_boards.specs.declared.piece.Side.{Side}
 use Rattle.bit_boards.specs.Kind.{other}
 use Rattle.board_core.specs.declared.keys.Key.{Key}
@@ -226,7 +227,7 @@ MayShowAt task (f ∷ fs) place seen =
 -- The answer is of the kind that was asked for, and may come. A unit comes only where fewer than a billion came before. Nothing answers an End.
 abbrev pub FitsAt : Task → State → Stage → Answer → Type 0
 FitsAt task s (Polling entry) (Polled stop) = Unit {0}
-FitsAt task s (Drawing entry) (Drew (Go unit)) = s.visits < 1000000000
+FitsAt task s (Drawing entry) (Drew (Go unit)) = s.visits < MOST_EXPANSIONS
 FitsAt task s (Drawing entry) (Drew Done) = Unit {0}
 FitsAt task s (Drawing entry) (Drew AllDrawn) = Unit {0}
 FitsAt task s Entering (Entered kept) = Unit {0}

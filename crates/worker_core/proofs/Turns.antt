@@ -1,6 +1,7 @@
 -- One request of a worker over a port, and many, one after the other.
 use Rattle.std.proofs.Common.{◌≡◌, ◌⊎◌, inl, inr, ℕ, ◌+◌, ◌≤◌, ◌<◌, List, [], ◌∷◌, ◌++◌, arith, refl, sym, ap, ◌∙◌, subst, append_assoc, append-nil, Bool, true, false}
 use Rattle.std.specs.Prelude.{Option, Some, None}
+use Rattle.search_limits.specs.declared.expansions.TheConstants.{MOST_EXPANSIONS}
 use Rattle.board_core.specs.declared.keys.Key.{Key}
 use Rattle.board_core.specs.Board.{Board}
 use Rattle.notes.specs.Derivation.{Derivation}
@@ -48,7 +49,7 @@ pub port_goes : (v : Standing) (book : Book) (q : Request) → Suits v book → 
 port_goes v book q suits e is = goes_on_asked book.going q v.state.stage v.state.frames suits.going e is
 
 -- There is room for the slot that it enters.
-pub few_slots : (v : Standing) (book : Book) (key : Key) (numbers : Numbers) → Suits v book → Enter key numbers ≡ asks v.state → book.size < 1000000000
+pub few_slots : (v : Standing) (book : Book) (key : Key) (numbers : Numbers) → Suits v book → Enter key numbers ≡ asks v.state → book.size < MOST_EXPANSIONS
 few_slots v book key numbers suits e =
     let enters = entering_at key numbers v.state.stage v.state.frames e in
     let size = suits.size in

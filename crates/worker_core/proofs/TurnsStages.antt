@@ -2,6 +2,7 @@
 use Rattle.std.proofs.Common.{◌≡◌, ◌⊎◌, inl, inr, ℕ, ◌≤◌, ◌<◌, List, [], ◌∷◌, length, arith, refl, ap, ◌∙◌, subst, Bool, true, false}
 use Rattle.std.proofs.lemmas.List.{length-map}
 use Rattle.std.specs.Prelude.{Option, Some, None, if◌then◌else◌, is_some, map, slice_get}
+use Rattle.search_limits.specs.declared.expansions.TheConstants.{MOST_EXPANSIONS}
 use Rattle.board_core.specs.declared.keys.Key.{Key}
 use Rattle.notes.specs.Derivation.{Derivation}
 use Rattle.notes.specs.declared.words.Kept.{Kept}
@@ -280,7 +281,7 @@ enters_few a (Winding end) (f ∷ fs) = omega arith
 -- What the answer to a request may be, by the request.
 abbrev pub MayAnswer : Task → State → Request → Answer → Type 0
 MayAnswer task s Poll (Polled stop) = Unit {0}
-MayAnswer task s Draws (Drew (Go unit)) = s.visits < 1000000000
+MayAnswer task s Draws (Drew (Go unit)) = s.visits < MOST_EXPANSIONS
 MayAnswer task s Draws (Drew Done) = Unit {0}
 MayAnswer task s Draws (Drew AllDrawn) = Unit {0}
 MayAnswer task s Claims (Claimed claim) = Unit {0}

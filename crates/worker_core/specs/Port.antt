@@ -1,5 +1,6 @@
 -- What a port tells of itself, and a run of a worker over it.
 use Rattle.std.specs.Prelude.{◌≡◌, ◌≤◌, ◌+◌, ◌⊎◌, ◌++◌, ℕ, Bool, true, false, List, [], ◌∷◌, Option, Some, None, Result, Ok, Err, if◌then◌else◌}
+use Rattle.search_limits.specs.declared.expansions.TheConstants.{MOST_EXPANSIONS}
 use Rattle.board_core.specs.Board.{Board}
 use Rattle.board_core.specs.declared.keys.Key.{Key}
 use Rattle.notes.specs.declared.words.Seen.{Seen}
@@ -48,7 +49,7 @@ ends_by answer = false
 pub record IsBooked (event : Event) (before after : Book) : Type 0 where
   pub problem : after.problem ≡ before.problem
   pub units : after.units ≡ before.units + units_by event
-  pub most : before.units ≤ 1000000000 → after.units ≤ 1000000000
+  pub most : before.units ≤ MOST_EXPANSIONS → after.units ≤ MOST_EXPANSIONS
   pub going : after.going ≡ (if ends_by event.1 then false else before.going)
   pub held : (key : Key) (slot : ℕ) → after.held key slot + leaves event key slot ≡ before.held key slot + enters event key slot
   pub size : after.size + leaves_some event ≡ before.size + enters_some event
@@ -86,7 +87,7 @@ pub record Suits (worker : Standing) (book : Book) : Type 0 where
   pub some : own_size worker.state.frames ≤ book.size
   pub units : worker.state.visits ≤ book.units
   pub size : book.size + entering worker.state.stage ≤ book.units
-  pub most : book.units ≤ 1000000000
+  pub most : book.units ≤ MOST_EXPANSIONS
 
 -- What the port holds beside the worker's own slots, and gave beside the worker's own units and room, stays as it was.
 pub record KeepsOthers (worker later : Standing) (before after : Book) : Type 0 where

@@ -1,5 +1,6 @@
 // The machine: one answer, one step.
 ghost use Rattle.std.specs.Prelude.{◌≡◌, ◌≤◌, ℕ, List, Option, Some, None, true, IfOk, Err};
+ghost use Rattle.search_limits.specs.declared.expansions.TheConstants.{MOST_EXPANSIONS};
 ghost use Rattle.board_core.specs.declared.keys.Key.{Key};
 ghost use Rattle.notes.specs.Derivation.{Derivation};
 ghost use Rattle.notes.specs.declared.note.NoteEnd.TheVariants.{TooHigh as NoteHigh};
@@ -164,7 +165,7 @@ impl Core {
     // The copy of the note that goes out with the Leave, where one was made.
     fn claimed(&mut self, alloc: Global, claim: Claim) -> Option<Note>
         requires sound { HasOver (λ f fs. IsSoundVisit self.old.task f fs × Solves self.old.task f) self.old.state.frames }
-        requires few { self.old.state.claims ≤ 1000000000 }
+        requires few { self.old.state.claims ≤ MOST_EXPANSIONS }
         ensures task { self.new.task ≡ self.old.task }
         ensures leads { LeadsAt self.old.task self.old.state Claiming (Claimed claim) self.new.state }
         ensures copy { IsCopy self.new.state.stage result }

@@ -1,5 +1,6 @@
 // What a worker works over.
 ghost use Rattle.std.specs.Prelude.{◌≡◌, ◌<◌, ◌≤◌, ℕ, true, IfOk, Some};
+ghost use Rattle.search_limits.specs.declared.expansions.TheConstants.{MOST_EXPANSIONS};
 
 use board_core::Key;
 use notes::{Claim, Draw, Kept, Note, Seen, Update};
@@ -60,7 +61,7 @@ pub trait Port {
     /// Enters the position of this key, with these numbers, from 1 to the cap, where it is new. Fewer than a billion slots are held.
     fn enter(&mut self, key: &Key, numbers: Numbers) -> Kept
         requires in_range { IsOpen numbers }
-        requires few { (book self.old).size < 1000000000 }
+        requires few { (book self.old).size < MOST_EXPANSIONS }
         ensures turn { (path : List Key) → turn self.old path (Enter key.now numbers) (Some (Entered result)) self.new }
         ensures book { IsBooked (Enter key.now numbers, Some (Entered result)) (book self.old) (book self.new) };
 

@@ -2,6 +2,7 @@
 use Rattle.std.proofs.Common.{◌≡◌, inl, ℕ, ◌+◌, ◌≤◌, ◌<◌, List, ◌++◌, length, set, get_or, arith, refl, sym, ap, ◌∙◌, subst, true, false}
 use Rattle.std.specs.Prelude.{Some, slice_get}
 use Rattle.std.proofs.lemmas.Option.{slice_get_read}
+use Rattle.search_limits.specs.declared.expansions.TheConstants.{MOST_EXPANSIONS}
 use Rattle.board_core.specs.Board.{Board}
 use Rattle.visit_log.specs.Visit.{Event as Exchange}
 use Rattle.visit_log.specs.Frame.{Task}
@@ -63,7 +64,7 @@ crew_suits sound counted book ws place worker crew going e =
 
 -- One of it went on.
 pub crew_on : (before after : Book) (ws : List Standing) (place : ℕ) (worker later : Standing) → IsCrew before ws → slice_get ws place ≡ Some worker
-    → KeepsOthers worker later before after → after.problem ≡ before.problem → after.units ≤ 1000000000 → IsInCrew after.problem later
+    → KeepsOthers worker later before after → after.problem ≡ before.problem → after.units ≤ MOST_EXPANSIONS → IsInCrew after.problem later
     → IsCrew after (set ws place later)
 crew_on before after ws place worker later crew there keep problem most member = record {
   held = λ key slot. (

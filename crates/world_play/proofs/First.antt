@@ -11,7 +11,7 @@ use Rattle.board_core.specs.Kept.{IsKept}
 use Rattle.shogi_rules.specs.Tsume.{IsProblem}
 use Rattle.table_shard.specs.Entry.{Held}
 use Rattle.table_shard.specs.Spot.{place_of}
-use Rattle.unit_desk.specs.Sizes.{SettingsView}
+use Rattle.search_limits.specs.Sizes.{SettingsView}
 use Rattle.unit_desk.specs.Desk.{DeskView, fresh}
 use Rattle.visit_log.specs.declared.words.WorkEnd.{WorkEnd}
 use Rattle.visit_log.specs.declared.words.WorkEnd.TheVariants.{Posted, Spent, NoRoom, TooHigh, NoMemory, Stopped}

@@ -1,5 +1,6 @@
 -- Workers over any port: what it holds, and the units that it gave, are what they have, all together; and what a turn of one of them does.
 use Rattle.std.specs.Prelude.{◌≡◌, ◌≤◌, ◌<◌, ◌++◌, ℕ, false, List, [], ◌∷◌, Option, Some, None, IfSome, IfNone, MatchOption, length, slice_get, slice_set}
+use Rattle.search_limits.specs.declared.expansions.TheConstants.{MOST_EXPANSIONS}
 use Rattle.board_core.specs.Board.{Board}
 use Rattle.board_core.specs.declared.keys.Key.{Key}
 use Rattle.visit_log.specs.declared.words.WorkEnd.{WorkEnd}
@@ -28,7 +29,7 @@ pub record IsCrew (book : Book) (workers : List Standing) : Type 0 where
   pub held : (key : Key) (slot : ℕ) → book.held key slot ≡ all_slots workers key slot
   pub size : book.size ≡ all_sizes workers
   pub units : book.units ≡ all_visits workers
-  pub most : book.units ≤ 1000000000
+  pub most : book.units ≤ MOST_EXPANSIONS
   pub members : (place : ℕ) (worker : Standing) → slice_get workers place ≡ Some worker → IsInCrew book.problem worker
 
 -- The worker stood at the place, and another stands there now; the others stay as they were.

@@ -1,6 +1,6 @@
 // The world.
 ghost use Rattle.std.specs.Prelude.{◌≡◌, ◌<◌, ◌+◌, ◌↔◌, ℕ, zero, suc, true, false, List, Some, None, IfOk, IfSome, IfNone, IsTrue, All, length, slice_get, slice_set, slice_index_or, option_copied, if◌then◌else◌};
-ghost use Rattle.unit_desk.specs.Settings.{settings_in};
+ghost use Rattle.search_limits.specs.Settings.{settings_in};
 ghost use Rattle.visit_log.specs.Visit.{Event as Exchange};
 ghost use Rattle.visit_log.specs.Run.{Standing};
 ghost use Rattle.lone_port.specs.World.{Happens, Plays, IsAtWork, IsIdle, world_at_first};
@@ -19,7 +19,7 @@ use notes::Note;
 use shogi_rules::Problem;
 use std::alloc::{AllocError, Global};
 use std::marker::Model;
-use unit_desk::Settings;
+use search_limits::Settings;
 use visit_log::{count_laws, sound_laws, visit_laws};
 use worker_core::Worker;
 

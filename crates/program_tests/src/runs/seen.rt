@@ -1,6 +1,6 @@
 // Runs over a source and a sink in memory, and what they did.
 ghost use Rattle.std.specs.Prelude.{◌≡◌, IfOk, length, vec_len};
-ghost use Rattle.tsume_words.specs.declared.settings.TheConstants.{MOST_WORKERS};
+ghost use Rattle.search_limits.specs.declared.settings.TheConstants.{MOST_WORKERS};
 
 use crate::lines::words_of;
 use search_gate::{Gate, MemStop, OpenGate, Stop};

@@ -1,6 +1,6 @@
 // Runs that pass a gate and poll stops.
 ghost use Rattle.std.specs.Prelude.{◌≡◌, IfOk, vec_len};
-ghost use Rattle.tsume_words.specs.declared.settings.TheConstants.{MOST_WORKERS};
+ghost use Rattle.search_limits.specs.declared.settings.TheConstants.{MOST_WORKERS};
 
 use super::examples::{NO_CHECK_TEXT, TWO_ROOKS, TWO_ROOKS_TEXT};
 use super::seen::{seen_by, stops_at};

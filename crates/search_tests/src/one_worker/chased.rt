@@ -11,7 +11,7 @@ use notes::{Note, Update};
 use pn_numbers::Numbers;
 use shogi_rules::Problem;
 use std::alloc::{AllocError, Global};
-use unit_desk::Settings;
+use search_limits::Settings;
 use visit_log::WorkEnd;
 use worker_core::{Port, Worker, work};
 

@@ -11,7 +11,7 @@ use path_tags::Path;
 use pn_numbers::Numbers;
 use shogi_rules::Problem;
 use std::alloc::{AllocError, Global};
-use unit_desk::Settings;
+use search_limits::Settings;
 use worker_core::Port;
 
 #[derive(Drop)]

@@ -1,6 +1,7 @@
 use Rattle.std.proofs.Common.{◌<◌, ℕ, sym, subst, ◌∙◌}
 use Rattle.std.proofs.lemmas.List.{take_at}
-use Rattle.tsume_words.specs.Meaning.{settings_in, collection_in}
+use Rattle.tsume_words.specs.Meaning.{collection_in}
+use Rattle.search_limits.specs.Settings.{settings_in}
 use Rattle.problem_answers.specs.Inside.{AreReportsAt}
 use Rattle.problem_answers.proofs.Places.{none_yet}
 use Rattle.problem_answers.proofs.seat.decide_apart.Goals as goal

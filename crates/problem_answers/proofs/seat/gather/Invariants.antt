@@ -1,5 +1,6 @@
 use Rattle.std.proofs.Common.{◌≡◌, ◌<◌, ◌≤◌, ℕ, List, All, length, slice_index_or}
-use Rattle.tsume_words.specs.Given.{SettingsView, CollectionView}
+use Rattle.tsume_words.specs.Given.{CollectionView}
+use Rattle.search_limits.specs.Sizes.{SettingsView}
 use Rattle.problem_lines.specs.declared.line.Line.{Line}
 use Rattle.problem_answers.specs.declared.seat.Seat.{Seat}
 use Rattle.problem_answers.specs.Inside.{IsReportAt, AreReportsAt}

@@ -1,6 +1,7 @@
 use Rattle.std.proofs.Common.{All, sym, subst, ◌∙◌}
 use Rattle.std.proofs.lemmas.List.Elements.{All-push}
-use Rattle.tsume_words.specs.Meaning.{settings_in, collection_in}
+use Rattle.tsume_words.specs.Meaning.{collection_in}
+use Rattle.search_limits.specs.Settings.{settings_in}
 use Rattle.problem_answers.specs.declared.reports.Reported.{Reported}
 use Rattle.problem_answers.specs.Inside.{IsReportOn}
 use Rattle.problem_answers.proofs.Places.{one_more_told}

@@ -1,5 +1,6 @@
 use Rattle.std.proofs.Common.{◌≡◌, All, length, map, take}
-use Rattle.tsume_words.specs.Meaning.{settings_in, collection_in}
+use Rattle.tsume_words.specs.Meaning.{collection_in}
+use Rattle.search_limits.specs.Settings.{settings_in}
 use Rattle.problem_answers.specs.Inside.{IsReportOn, AreReportsAt}
 use Rattle.problem_answers.proofs.seat.in_order.Given as goal
 

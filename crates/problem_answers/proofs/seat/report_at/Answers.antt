@@ -1,5 +1,6 @@
 use Rattle.std.proofs.Common.{◌<◌, ℕ, Option, IfSome, sym, subst}
-use Rattle.tsume_words.specs.Meaning.{settings_in, collection_in}
+use Rattle.tsume_words.specs.Meaning.{collection_in}
+use Rattle.search_limits.specs.Settings.{settings_in}
 use Rattle.app_texts.specs.declared.report.Report.{Report}
 use Rattle.problem_answers.specs.Inside.{IsReportAt}
 use Rattle.problem_answers.proofs.seat.report_at.Goals as goal

@@ -1,6 +1,7 @@
 use Rattle.std.proofs.Common.{All, subst}
 use denote.Param.Send.{sendable}
-use Rattle.tsume_words.specs.Meaning.{settings_in, collection_in}
+use Rattle.tsume_words.specs.Meaning.{collection_in}
+use Rattle.search_limits.specs.Settings.{settings_in}
 use Rattle.problem_answers.specs.declared.seat.Seat.{Seat}
 use Rattle.problem_answers.specs.Inside.{IsReportAt}
 use Rattle.problem_answers.proofs.Sent.{seat_send}

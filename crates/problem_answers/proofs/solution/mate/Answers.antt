@@ -10,9 +10,10 @@ returns-clause-shown c =
     let p = c.args.problem.now.position in (
       refl,
       record {
-        mate = (c.valid_is_accepted.ensures.shows mate p c.laws.ensures.kept c.requires).mate;
-        valid = c.requires;
-        accepted = λ verdict is. c.valid_is_accepted.ensures.accepted mate p verdict is c.requires;
+        mate = (c.valid_is_accepted.ensures.shows mate p c.laws.ensures.kept c.requires.valid).mate;
+        valid = c.requires.valid;
+        accepted = λ verdict is. c.valid_is_accepted.ensures.accepted mate p verdict is c.requires.valid;
+        readable = c.requires.readable;
         line = subst (λ (moves : List Move). IsMainLine c.args.certificate p.side p moves) (sym c.new.ensures) c.in_ok-moves.ensures.line;
       },
     )

@@ -8,8 +8,9 @@ returns-clause-shown c =
     let p = c.args.problem.now.position in (
       refl,
       record {
-        no_mate = (c.valid_is_accepted.ensures.shows escape p c.laws.ensures.kept c.requires).no_mate;
-        valid = c.requires;
-        accepted = λ verdict is. c.valid_is_accepted.ensures.accepted escape p verdict is c.requires;
+        no_mate = (c.valid_is_accepted.ensures.shows escape p c.laws.ensures.kept c.requires.valid).no_mate;
+        valid = c.requires.valid;
+        accepted = λ verdict is. c.valid_is_accepted.ensures.accepted escape p verdict is c.requires.valid;
+        readable = c.requires.readable;
       },
     )

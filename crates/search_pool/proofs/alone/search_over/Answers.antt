@@ -1,5 +1,5 @@
 use Rattle.std.proofs.Common.{Some, sym, ap, ◌∙◌}
-use Rattle.unit_desk.specs.Settings.{settings_in}
+use Rattle.search_limits.specs.Settings.{settings_in}
 use Rattle.search_pool.proofs.Ends.{begun, ends_solved, heeds_solved, ends_unknown, heeds_unknown}
 use Rattle.search_pool.proofs.alone.search_over.Goals as goal
 

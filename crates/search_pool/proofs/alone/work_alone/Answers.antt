@@ -1,4 +1,4 @@
-use Rattle.unit_desk.specs.Settings.{settings_in}
+use Rattle.search_limits.specs.Settings.{settings_in}
 use Rattle.search_pool.proofs.Way.{on_way}
 use Rattle.search_pool.proofs.alone.work_alone.Goals as goal
 

@@ -1,5 +1,5 @@
 use Rattle.visit_log.specs.Counts.{to_come}
-use Rattle.unit_desk.specs.Settings.{settings_in}
+use Rattle.search_limits.specs.Settings.{settings_in}
 use Rattle.search_pool.specs.Inside.{IsUnderWay}
 use Rattle.search_pool.proofs.alone.work_alone.Given as goal
 

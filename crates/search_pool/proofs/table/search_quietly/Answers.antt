@@ -1,5 +1,5 @@
 use Rattle.std.proofs.Common.{refl}
-use Rattle.unit_desk.specs.Settings.{settings_in}
+use Rattle.search_limits.specs.Settings.{settings_in}
 use Rattle.search_pool.proofs.Ends.{alone_quietly}
 use Rattle.search_pool.proofs.table.search_quietly.Goals as goal
 

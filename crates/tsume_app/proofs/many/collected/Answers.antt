@@ -1,7 +1,8 @@
 use Rattle.std.proofs.Common.{ℕ, List, inr, sym, subst}
 use Rattle.tsume_io.specs.Sink.{GrewBy, GrewByPrefix}
 use Rattle.tsume_words.specs.Given.Wish.{to_collect}
-use Rattle.tsume_words.specs.Meaning.{settings_in, collection_in}
+use Rattle.tsume_words.specs.Meaning.{collection_in}
+use Rattle.search_limits.specs.Settings.{settings_in}
 use Rattle.app_texts.specs.declared.fault.Fault.TheVariants.{NoMemory}
 use Rattle.problem_lines.specs.Lines.{problem_lines, seen}
 use Rattle.tsume_app.specs.Outside.{shown}

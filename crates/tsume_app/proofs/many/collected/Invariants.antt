@@ -1,6 +1,7 @@
 use Rattle.std.proofs.Common.{◌≡◌, length}
 use Rattle.problem_lines.specs.Lines.{problem_lines}
-use Rattle.tsume_words.specs.Meaning.{settings_in, collection_in}
+use Rattle.tsume_words.specs.Meaning.{collection_in}
+use Rattle.search_limits.specs.Settings.{settings_in}
 use Rattle.tsume_app.specs.Inside.{AreSoFar}
 use Rattle.tsume_app.specs.Outside.{shown}
 use Rattle.tsume_app.proofs.many.collected.Given as goal

@@ -1,6 +1,7 @@
 use Rattle.std.proofs.Common.{rules}
 use Rattle.tsume_words.specs.Given.Wish.{to_solve}
-use Rattle.tsume_words.specs.Meaning.{settings_in, watch_in}
+use Rattle.tsume_words.specs.Meaning.{watch_in}
+use Rattle.search_limits.specs.Settings.{settings_in}
 use Rattle.tsume_app.proofs.Running.{read_then_wanted}
 use Rattle.tsume_app.proofs.solution.solve_input.Goals as goal
 

@@ -1,5 +1,5 @@
 use Rattle.std.specs.Prelude.{IfOk}
-use Rattle.unit_desk.specs.Settings.{settings_in}
+use Rattle.search_limits.specs.Settings.{settings_in}
 use Rattle.search_pool.specs.End.{IsAloneUntil, HeedsStop}
 use Rattle.tsume_app.proofs.Armed.{first_holds, used_by}
 use Rattle.tsume_app.proofs.stops.search_armed.Goals as goal

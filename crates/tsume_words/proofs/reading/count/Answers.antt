@@ -1,6 +1,6 @@
 use Rattle.std.proofs.Common.{arith, codes}
 use Rattle.clap.specs.Words.{found_of, rows_of}
-use Rattle.tsume_words.specs.declared.many.TheConstants.{MOST_COUNT}
+use Rattle.search_limits.specs.declared.many.TheConstants.{MOST_COUNT}
 use Rattle.tsume_words.proofs.Texts.{readable, within_is}
 use Rattle.tsume_words.proofs.reading.count.Goals as goal
 

@@ -1,6 +1,6 @@
 use Rattle.std.proofs.Common.{codes}
 use Rattle.clap.specs.Words.{found_of, rows_of}
-use Rattle.search_gate.specs.declared.expansions.TheConstants.{MOST_EXPANSIONS}
+use Rattle.search_limits.specs.declared.expansions.TheConstants.{MOST_EXPANSIONS}
 use Rattle.tsume_words.proofs.Texts.{readable}
 use Rattle.tsume_words.proofs.reading.expansions.Goals as goal
 

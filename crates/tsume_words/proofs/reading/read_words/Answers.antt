@@ -24,7 +24,7 @@ returns-in-Ok c =
     let texts : map (λ s. s.now) c.as_slice.result.now ≡ all_words words = ap (map (λ s. s.now)) c.as_slice.ensures.value ∙ c.in_ok-texts.ensures in
     let taken : IsTakenByClap words = sym (ap₂ fault_of app texts) ∙ c.in-Ok.ensures.kinds (ap is_simple_and_free app ∙ is_simple_line) in
     let rows = (c.in-Ok.ensures.matches (ap is_simple app ∙ is_simple_alone)).1 ∙ ap₂ subcommand_of app texts in
-    let promises = promised_by_outcome words c.asked.result taken (given_where_taken words _ c.asked.result taken rows c.asked.ensures.outcome) in
+    let promises = promised_by_outcome c.power_laws.ensures words c.asked.result taken (given_where_taken words _ c.asked.result taken rows c.asked.ensures.outcome) in
     let file = subst (λ (o : Option (Text × List Row)). IfOk c.asked.result (λ asked. option_map string_bytes asked.file ≡ option_and_then file_named o)) rows c.asked.ensures.file in
     record { command = promises.command; file = file; workers = c.asked.ensures.workers; alone = c.asked.ensures.alone; ended = promises.ended; help = promises.help; stopped = promises.stopped; complete = promises.complete }
 

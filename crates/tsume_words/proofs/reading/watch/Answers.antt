@@ -1,7 +1,7 @@
 use Rattle.std.proofs.Common.{codes, ℕ, Option, sym, subst}
 use Rattle.std.specs.Option.{ForSome}
 use Rattle.clap.specs.Words.{found_of, rows_of}
-use Rattle.tsume_words.specs.Sizes.{IsFromTo}
+use Rattle.search_limits.specs.Sizes.{IsFromTo}
 use Rattle.tsume_words.specs.declared.watch.TheConstants.{MOST_DEADLINE}
 use Rattle.tsume_words.proofs.Texts.{readable_if, within_if}
 use Rattle.tsume_words.proofs.reading.watch.Goals as goal

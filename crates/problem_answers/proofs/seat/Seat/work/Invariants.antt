@@ -1,5 +1,6 @@
 use Rattle.std.proofs.Common.{All}
-use Rattle.tsume_words.specs.Meaning.{settings_in, collection_in}
+use Rattle.tsume_words.specs.Meaning.{collection_in}
+use Rattle.search_limits.specs.Settings.{settings_in}
 use Rattle.problem_answers.specs.Inside.{IsReportAt}
 use Rattle.problem_answers.proofs.seat.Seat.work.Given as goal
 

@@ -3,6 +3,7 @@ use Rattle.std.proofs.Common.{◌≡◌, ◌∷◌, [], ◌+◌, ℕ, true, fals
 use Rattle.std.specs.Str.Lines.{lines}
 use Rattle.std.proofs.lemmas.Bool.{eqb-true}
 use Rattle.problem_lines.specs.Lines.{NumberedLine, is_skipped, without_note, problems_among}
+use Rattle.problem_lines.specs.declared.line.TheConstants.{MOST_PROBLEM_BYTES}
 use Rattle.problem_lines.proofs.Among.{problems_among-none, problems_among-skipped, problems_among-kept}
 use Rattle.problem_lines.proofs.Cutting.{lines-empty}
 use Rattle.problem_lines.proofs.lines.Lines.next.Goals as goal
@@ -15,7 +16,7 @@ returns-then-not-is_skipped c =
     let kept : is_skipped (without_note whole) ≡ false =
     ap is_skipped (sym c.without_note-content.ensures) ∙ sym c.is_skipped.ensures ∙ c.if-not-is_skipped.true in
     let listed : List ℕ → List NumberedLine = λ content.
-    record { number = first; content = content; is_too_long = nat_lt 65536 (length whole) } ∷ problems_among (first + 1) others in
+    record { number = first; content = content; is_too_long = nat_lt MOST_PROBLEM_BYTES (length whole) } ∷ problems_among (first + 1) others in
     sym c.self.view_is ∙ sym c.loop-self.invariant.same ∙ ap (problems_among first) c.split_first.ensures.lines
     ∙ problems_among-kept first whole others kept ∙ ap listed (sym c.without_note-content.ensures)
 

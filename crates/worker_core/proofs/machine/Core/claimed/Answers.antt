@@ -1,4 +1,5 @@
 use Rattle.std.proofs.Common.{◌≤◌, ◌+◌, arith, refl, subst, sym}
+use Rattle.search_limits.specs.declared.expansions.TheConstants.{MOST_EXPANSIONS}
 use Rattle.notes.specs.declared.words.Claim.{Claim}
 use Rattle.visit_log.specs.declared.parts.Stage.TheVariants.{Claiming, Leaving}
 use Rattle.visit_log.specs.declared.parts.Left.TheVariants.{Solved}
@@ -10,7 +11,7 @@ use Rattle.worker_core.proofs.machine.Core.claimed.Goals as goal
 
 pub overflow_add-self : goal.overflow_add-self
 overflow_add-self c =
-    let few : c.self.inside.claims ≤ 1000000000 = subst (λ (z : Machine). z.state.claims ≤ 1000000000) (sym c.self.view_is) c.requires.few in
+    let few : c.self.inside.claims ≤ MOST_EXPANSIONS = subst (λ (z : Machine). z.state.claims ≤ MOST_EXPANSIONS) (sym c.self.view_is) c.requires.few in
     omega (arith, few)
 
 pub returns-in-Ok-clause-leads : goal.returns-in-Ok-clause-leads

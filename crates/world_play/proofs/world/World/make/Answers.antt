@@ -1,5 +1,5 @@
 use Rattle.std.proofs.Common.{◌++◌, ◌∷◌, [], List, arith, ap, ◌∙◌, Bool, false}
-use Rattle.unit_desk.specs.Settings.{settings_in}
+use Rattle.search_limits.specs.Settings.{settings_in}
 use Rattle.visit_log.specs.Run.{Standing}
 use Rattle.world_play.proofs.First.{one_more, made_fair, false_push}
 use Rattle.world_play.proofs.world.World.make.Goals as goal

@@ -1,6 +1,6 @@
 use Rattle.std.proofs.Common.{◌∙◌, sym}
-use Rattle.unit_desk.proofs.Powers.{ones-power, power-ones}
-use Rattle.unit_desk.proofs.making.is_power_of_two.Goals as goal
+use Rattle.search_limits.proofs.Powers.{ones-power, power-ones}
+use Rattle.search_limits.proofs.making.is_power_of_two.Goals as goal
 
 pub returns : goal.returns
 returns c = (

@@ -1,26 +1,27 @@
 // The numbers that a search is run with.
-ghost use Rattle.std.specs.Prelude.{◌≡◌, ◌≤◌};
+ghost use Rattle.std.specs.Prelude.{◌≡◌, ◌≤◌, min};
 ghost use Rattle.std.specs.Int.{IsPowerOfTwo};
-ghost use Rattle.unit_desk.specs.Sizes.{IsFromTo};
-ghost use Rattle.unit_desk.specs.declared.settings.TheConstants.{MOST_WORKERS, MOST_EXPANSIONS, MOST_ROOM, LEAST_ROWS, MOST_ROWS, MOST_SHARDS};
+ghost use Rattle.search_limits.specs.Sizes.{IsFromTo};
+ghost use Rattle.search_limits.specs.declared.expansions.TheConstants.{MOST_EXPANSIONS};
+ghost use Rattle.search_limits.specs.declared.settings.TheConstants.{MOST_WORKERS, MOST_ROOM, LEAST_ROWS, MOST_ROWS, MOST_SHARDS, DEFAULT_SHARDS};
 
 /// The most workers of a search.
 pub const MOST_WORKERS: u32 = 64;
 
-/// The most units of a search.
-pub const MOST_EXPANSIONS: u64 = 1_000_000_000;
-
-/// The most notes that a search may make.
-pub const MOST_ROOM: u32 = 1_400_000;
+/// The most notes that a search may make. As a unit makes at most one, this is no limit of its own.
+pub const MOST_ROOM: u32 = 1_000_000_000;
 
 /// The fewest rows of a table of positions.
 pub const LEAST_ROWS: u64 = 16;
 
-/// The most rows of a table of positions.
-pub const MOST_ROWS: u64 = 1_048_576;
+/// The most rows of a table of positions: some 15 GB.
+pub const MOST_ROWS: u64 = 16_777_216;
 
 /// The most parts of a table of positions that are locked each by itself.
-pub const MOST_SHARDS: u64 = 64;
+pub const MOST_SHARDS: u64 = 256;
+
+/// The parts of a table where nothing is said of them, if it has as many rows.
+pub const DEFAULT_SHARDS: u64 = 64;
 
 /// The numbers that a search is run with. Each lies in its range, the rows and the shards are powers of two, and there
 /// are no more shards than rows.
@@ -28,7 +29,7 @@ pub const MOST_SHARDS: u64 = 64;
 pub struct Settings {
     /// Workers that search, 1 to [`MOST_WORKERS`].
     pub workers: u32,
-    /// Units of work before the search gives up, 1 to [`MOST_EXPANSIONS`]: a unit is one visit of a position.
+    /// Units of work before the search gives up, 1 to [`MOST_EXPANSIONS`](crate::MOST_EXPANSIONS): a unit is one visit of a position.
     pub expansions: u64,
     /// Notes that the search may make, 1 to [`MOST_ROOM`].
     pub room: u32,
@@ -44,4 +45,11 @@ pub struct Settings {
     pub ghost rows_power_of_two: { ∥ IsPowerOfTwo rows ∥₁ },
     pub ghost shards_power_of_two: { ∥ IsPowerOfTwo shards ∥₁ },
     pub ghost shards_within_rows: { shards ≤ rows },
+}
+
+/// The parts of a table of so many rows where nothing is said of them: the lesser of [`DEFAULT_SHARDS`] and the rows.
+pub fn default_shards(rows: u64) -> u64
+    ensures { result ≡ min DEFAULT_SHARDS rows }
+{
+    rows.min(DEFAULT_SHARDS)
 }

@@ -1,8 +1,8 @@
 // Settings are made of numbers that pass each test.
 ghost use Rattle.std.specs.Prelude.{◌≡◌, ◌↔◌, IsTrue, IsOk, IfOk, IfErr, IfSome, IfNone};
 ghost use Rattle.std.specs.Int.{IsPowerOfTwo};
-ghost use Rattle.unit_desk.specs.Sizes.{IsFromTo, AreInRange, AreSound, numbers_of};
-ghost use Rattle.unit_desk.specs.Settings.{FailFirst, IsFirstOutside, settings_in};
+ghost use Rattle.search_limits.specs.Sizes.{IsFromTo, AreInRange, AreSound, numbers_of};
+ghost use Rattle.search_limits.specs.Settings.{FailFirst, IsFirstOutside, PowersHaveOneBit, settings_in};
 
 use crate::{
     LEAST_ROWS, MOST_EXPANSIONS, MOST_ROOM, MOST_ROWS, MOST_SHARDS, MOST_WORKERS, Setting,
@@ -74,6 +74,12 @@ fn is_within(number: u64, low: u64, high: u64) -> bool
     ensures { IsTrue result ↔ IsFromTo low high number }
 {
     low <= number && number <= high
+}
+
+/// A law: a number has one bit exactly where it is a power of two. Does nothing; whoever has to tell the one by the other calls it.
+pub fn power_laws()
+    ensures { PowersHaveOneBit }
+{
 }
 
 // Whether a number is a power of two.

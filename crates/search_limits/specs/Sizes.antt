@@ -1,7 +1,8 @@
 -- Which numbers make settings, without the type that keeps them.
 use Rattle.std.specs.Prelude.{ℕ, ◌≤◌}
 use Rattle.std.specs.Int.{IsPowerOfTwo}
-use Rattle.unit_desk.specs.declared.settings.TheConstants.{MOST_WORKERS, MOST_EXPANSIONS, MOST_ROOM, LEAST_ROWS, MOST_ROWS, MOST_SHARDS}
+use Rattle.search_limits.specs.declared.expansions.TheConstants.{MOST_EXPANSIONS}
+use Rattle.search_limits.specs.declared.settings.TheConstants.{MOST_WORKERS, MOST_ROOM, LEAST_ROWS, MOST_ROWS, MOST_SHARDS}
 
 -- A number lies between two others, or is one of them.
 abbrev pub IsFromTo : ℕ → ℕ → ℕ → Type 0

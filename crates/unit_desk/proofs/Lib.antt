@@ -1,2 +1,0 @@
--- Lemmas of the desk and its settings.
-mod Powers
