@@ -37,7 +37,7 @@ place_after_child f choice (Winds end) = refl
 place_after_child f choice (Ends left) = refl
 
 -- Of which place it is a visit doesn't change.
-place_after : (task : Task) (f : Visiting) (doings : Doings) → (known_after task f doings).place ≡ f.place
+pub place_after : (task : Task) (f : Visiting) (doings : Doings) → (known_after task f doings).place ≡ f.place
 place_after task f nothing_yet = refl
 place_after task f (and_look doings sight) = place_after task f doings
 place_after task f (and_visit doings choice visit) =

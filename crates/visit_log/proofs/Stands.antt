@@ -1,8 +1,8 @@
 -- Where a worker stands after a log: for each stage, which visits go on, and what was done in each. So its log is the beginning of a visit log.
-use Rattle.std.proofs.Common.{◌≡◌, ◌⊎◌, inl, inr, List, [], ◌∷◌, ◌++◌, refl, sym, ap, ap₂, ◌∙◌, subst, ℕ, true, false, append_assoc, append-nil}
+use Rattle.std.proofs.Common.{◌≡◌, ◌≤◌, ◌+◌, ◌⊎◌, inl, inr, List, [], ◌∷◌, ◌++◌, arith, refl, sym, ap, ap₂, ◌∙◌, subst, ℕ, true, false, append_assoc, append-nil}
 use Rattle.std.specs.Prelude.{Option, Some, None, slice_get}
 use Rattle.board_core.specs.declared.keys.Key.{Key}
-use Rattle.notes.specs.Derivation.{Derivation}
+use Rattle.notes.specs.Derivation.{Derivation, derived, highest}
 use Rattle.notes.specs.declared.words.Draw.{Draw}
 use Rattle.notes.specs.declared.words.Draw.TheVariants.{Go, Done, Spent as AllDrawn}
 use Rattle.notes.specs.declared.words.Claim.TheVariants.{Room, NoRoom as Full}
@@ -23,7 +23,8 @@ use Rattle.visit_log.specs.declared.words.Request.TheVariants.{Post}
 use Rattle.visit_log.specs.declared.words.Answer.{Answer}
 use Rattle.visit_log.specs.declared.words.Answer.TheVariants.{Poll as Polled, Draw as Drew, Claim as Claimed, Look as Looked, Enter as Entered, Leave as LeftIt, Post as PostedIt}
 use Rattle.visit_log.specs.Frame.{Task, attacker_in, Place, Visiting, root, begun, opened, choose}
-use Rattle.visit_log.specs.Round.{own, Solves, GivesUp, LooksNext, GoesDown, child_place, Sight, looked, IsMade, MayShow, Tells, IsSight, came_back}
+use Rattle.visit_log.specs.Children.{notes_under}
+use Rattle.visit_log.specs.Round.{node_in, own, Solves, GivesUp, LooksNext, GoesDown, child_place, Sight, looked, IsMade, MayShow, Tells, IsSight, came_back}
 use Rattle.visit_log.specs.Visit.{Event, Visit, Unpolled, Halted, Undrawn, Refused, Unentered, Unlisted, nothing_yet, and_look, and_visit, Tail, Cut, Blind, Unclaimed, Unmade, Made, Passed, Ending, Winds, Ends, ending, after_child, known_after, polled, drew, entered, claimed, leave, drawn_on, entered_on, visit_on, tail_on, doings_on, tail_ending, EndsOpen, IsVisit, IsTail, EndsLog, IsVisitLog}
 use Rattle.visit_log.specs.Machine.{State, at_stage, one_unit, one_claim, MayShowAt, Begins, path_of, place_by, start, entered_ones, wind, starve, starve_at, starve_winding, Settles, GoesOn, Opens, Makes, Returns, LeadsAt, FitsAt, keep, asks, asks_at, ask_look, update_by, end_at}
 use Rattle.visit_log.specs.Run.{Happening, Told, Dark, Starved, IsLooking, Happens, Runs, event, events, IsBegunLog}
@@ -357,6 +358,13 @@ told_of task (Winding end) (f ∷ fs) visits claims LeftIt t log h fits leads =
     as_state task (at_stage (the_state (Winding end) (f ∷ fs) visits claims) (Winding end) fs) t (log ++ leave f Nothing ∷ []) leads (unwinds task end f fs log h)
 told_of task stage fs visits claims answer t log h fits leads = absurd fits
 
+-- A note that is made isn't too high.
+made_low : (task : Task) (f : Visiting) (note : Derivation) → IsMade task f note → highest (notes_under (node_in task f) f.children) + 1 ≤ 4096
+made_low task f (derived step notes) made =
+    let valid = made.valid.1 in
+    let same = ap highest made.under in
+    omega (arith, valid.height, valid.low, same)
+
 -- It is starved.
 starving : (task : Task) (stage : Stage) (fs : List Visiting) (visits claims : ℕ) (log : List Event) → StandsAt task stage fs log
     → Stands task (starve_at (the_state stage fs visits claims) stage) log
@@ -376,7 +384,8 @@ starving task Claiming (f ∷ fs) visits claims log (here, solves) = cut_here ta
 starving task (Leaving left) [] visits claims log h = absurd h
 starving task (Leaving (Open numbers)) (f ∷ fs) visits claims log (here, gives, same) = cut_here task f fs log here
 starving task (Leaving (Solved note)) (f ∷ fs) visits claims log (before, room, here, solves, made, same) =
-    cut_with task f fs before NoMemory (Unmade room NoMemory) log here (solves, tt) refl (ap (λ (z : List Event). z ++ leave f Nothing ∷ []) (sym same))
+    cut_with task f fs before NoMemory (Unmade room NoMemory) log here (solves, made_low task f note made) refl
+    (ap (λ (z : List Event). z ++ leave f Nothing ∷ []) (sym same))
 starving task (Posting None) fs visits claims log h = absurd h
 starving task (Posting (Some note)) (f ∷ fs) visits claims log h = absurd h
 starving task (Posting (Some note)) [] visits claims log over = record {

@@ -5,7 +5,7 @@ use Rattle.board_core.specs.declared.keys.Key.{Key}
 use Rattle.notes.specs.Derivation.{Derivation}
 use Rattle.notes.specs.declared.words.Kept.{Kept}
 use Rattle.notes.specs.declared.words.Draw.TheVariants.{Done, Spent as AllDrawn}
-use Rattle.notes.specs.declared.words.Claim.TheVariants.{Room, NoRoom as Full}
+use Rattle.notes.specs.declared.words.Claim.TheVariants.{NoRoom as Full}
 use Rattle.visit_log.specs.declared.parts.Child.{Child}
 use Rattle.visit_log.specs.declared.parts.Left.{Left}
 use Rattle.visit_log.specs.declared.parts.Left.TheVariants.{Solved}
@@ -18,6 +18,7 @@ use Rattle.visit_log.specs.Frame.{Task, attacker_in, Visiting, opened}
 use Rattle.visit_log.specs.Children.{AreChildren}
 use Rattle.visit_log.specs.Round.{MayShow, Tells, Sight, looked, came_back}
 use Rattle.visit_log.specs.Visit.{Event, IsVisitLog, polled, drew, claimed}
+use Rattle.visit_log.specs.Unmade.{EndsTooHigh}
 use Rattle.visit_log.specs.Machine.{State, start, asks, starve, end_of, path_of, Fits, LeadsTo}
 use Rattle.visit_log.specs.Run.{Happening, Runs, Happens, event, events, IsBegunLog}
 use Rattle.visit_log.specs.Sound.{IsTask, IsSound, IsSoundRequest, IsSoundPlace, IsSoundVisit, IsLookedAt, IsNoteOf}
@@ -132,19 +133,19 @@ abbrev pub AsksItsEnd : Type 0
 AsksItsEnd = (task : Task) (happenings : List Happening) (s : State) (end : WorkEnd) → IsTask task → Runs task (start task) happenings s
     → (asks s ≡ End end) ↔ (end_of s ≡ Some end)
 
--- Why a worker ends so, by its log. Posted: it posted, or a draw was answered done. Spent, NoRoom: a draw, a claim was answered so. Stopped: a poll was
--- true. TooHigh: it was given room for a note. Want of memory needs no cause.
-abbrev pub HasCause : WorkEnd → List Event → Type 0
-HasCause Posted log = ((note : Derivation) × Contains log (Post note, Some PostedIt)) ⊎ Contains log (drew Done)
-HasCause Spent log = Contains log (drew AllDrawn)
-HasCause NoRoom log = Contains log (claimed Full)
-HasCause TooHigh log = (room : ℕ) × Contains log (claimed (Room room))
-HasCause NoMemory log = Unit {0}
-HasCause Stopped log = Contains log (polled true)
+-- Why a worker of the task ends so, by its log. Posted: it posted, or a draw was answered done. Spent, NoRoom: a draw, a claim was answered so. Stopped:
+-- a poll was true. TooHigh: a note, for which it was given room, would have been too high. Want of memory needs no cause.
+abbrev pub HasCause : Task → WorkEnd → List Event → Type 0
+HasCause task Posted log = ((note : Derivation) × Contains log (Post note, Some PostedIt)) ⊎ Contains log (drew Done)
+HasCause task Spent log = Contains log (drew AllDrawn)
+HasCause task NoRoom log = Contains log (claimed Full)
+HasCause task TooHigh log = EndsTooHigh task log
+HasCause task NoMemory log = Unit {0}
+HasCause task Stopped log = Contains log (polled true)
 
 -- A law: each end of a visit log has its cause.
 abbrev pub EndsHaveCauses : Type 0
-EndsHaveCauses = (task : Task) (log : List Event) (end : WorkEnd) → IsVisitLog task log end → HasCause end log
+EndsHaveCauses = (task : Task) (log : List Event) (end : WorkEnd) → IsVisitLog task log end → HasCause task end log
 
 -- No key stands twice on the path.
 abbrev pub NoRepeats : List Key → Type 0

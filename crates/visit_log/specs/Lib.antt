@@ -3,6 +3,7 @@ pub mod Frame
 pub mod Children
 pub mod Round
 pub mod Visit
+pub mod Unmade
 pub mod Machine
 pub mod Run
 pub mod Sound

@@ -2,7 +2,7 @@
 -- later the one whose visit has just ended, where that left no note. Then the node is solved, or its numbers have come to a threshold, or a child is
 -- selected; one that this round hasn't looked at is looked at once more, and the node is reckoned with anew; else it is visited, and the next round begins.
 -- (df-pn: Nagai 2002.)
-use Rattle.std.specs.Prelude.{◌≡◌, ◌<◌, ◌+◌, ◌⊎◌, ℕ, true, false, List, Some, None, map, slice_get, slice_set}
+use Rattle.std.specs.Prelude.{◌≡◌, ◌≤◌, ◌<◌, ◌+◌, ◌⊎◌, ℕ, true, false, List, Some, None, map, slice_get, slice_set}
 use Rattle.bit_boards.specs.declared.piece.Side.{Side}
 use Rattle.bit_boards.specs.Kind.{other}
 use Rattle.board_core.specs.declared.keys.Key.{Key}
@@ -169,10 +169,10 @@ pub record IsMade (task : Task) (f : Visiting) (note : Derivation) : Type 0 wher
   pub about : position_of note ≡ f.place.position
   pub under : under_of note ≡ notes_under (node_in task f) f.children
 
--- Why it isn't made: its height would be above 4,096; or there was no memory.
+-- Why it isn't made: its height would be above 4,096; or it wouldn't, and there was no memory.
 abbrev pub IsRefusal : Task → Visiting → WorkEnd → Type 0
 IsRefusal task f TooHigh = 4096 < highest (notes_under (node_in task f) f.children) + 1
-IsRefusal task f NoMemory = Unit {0}
+IsRefusal task f NoMemory = highest (notes_under (node_in task f) f.children) + 1 ≤ 4096
 IsRefusal task f Posted = ⊥
 IsRefusal task f Spent = ⊥
 IsRefusal task f NoRoom = ⊥
