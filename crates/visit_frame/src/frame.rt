@@ -1,5 +1,5 @@
 // What is known in one visit.
-ghost use Rattle.std.specs.Prelude.{◌≡◌, ◌<◌, ◌+◌, ℕ, List, Option, Some, None, Ok, Err, true, IfOk, OnOk, OnErr, IsSome, slice_get};
+ghost use Rattle.std.specs.Prelude.{◌≡◌, ◌<◌, ◌+◌, ◌↔◌, ℕ, List, Option, Some, None, Ok, Err, true, IfOk, OnOk, OnErr, IsSome, slice_get};
 ghost use Rattle.board_core.specs.declared.keys.Key.{Key};
 ghost use Rattle.board_core.specs.Key.{key_of};
 ghost use Rattle.shogi_rules.specs.Rules.{IsQuiet};
@@ -234,13 +234,13 @@ impl Frame {
         next_round(&mut self.children, self.chosen, left);
     }
 
-    /// The note of a solved node, made of its children's. Errors: TooHigh, only where the note's height would be above 4,096; else want
+    /// The note of a solved node, made of its children's. Errors: TooHigh, exactly where the note's height would be above 4,096; else want
     /// of memory alone.
     pub fn make_note(&self, alloc: Global, problem: &Problem, worker: u32) -> Result<Note, NoteEnd>
         requires listed { (path : List Key) × IsListed (task_for problem.now.position worker) path self.now }
         requires solved { is_solved (node_in (task_for problem.now.position worker) self.now) self.now.children ≡ true }
         ensures made { IfOk result (λ note. IsMade (task_for problem.now.position worker) self.now note) }
-        ensures high { result ≡ Err TooHigh → 4096 < highest (notes_under (node_in (task_for problem.now.position worker) self.now) self.now.children) + 1 }
+        ensures high { (result ≡ Err TooHigh) ↔ (4096 < highest (notes_under (node_in (task_for problem.now.position worker) self.now) self.now.children) + 1) }
     {
         let _ = worker;
         let node = node_at(problem, &self.position);
