@@ -4,20 +4,19 @@ use Rattle.std.specs.Prelude.{Some, slice_get}
 use Rattle.std.proofs.lemmas.Option.{get_or_from_slice_get, slice_get_within}
 use Rattle.bit_boards.specs.declared.piece.Side.{Side}
 use Rattle.board_core.specs.declared.moves.Move.{Move}
-use Rattle.cert_text.specs.declared.entry.MateEntry.{MateEntry}
+use Rattle.mate_facts.specs.declared.entry.MateEntry.{MateEntry}
 use Rattle.board_core.specs.Board.{Board}
 use Rattle.board_core.specs.Order.{order_of, Lists, PlacesInOrder}
 use Rattle.shogi_rules.specs.Rules.{after}
 use Rattle.shogi_rules.specs.Tsume.{IsCheck, IsEvasion}
 use Rattle.mate_def.specs.Mate.{HasEvasionTo, after_both}
-use Rattle.cert_text.specs.Certificate.{AreApart, positions_of}
-use Rattle.cert_check.specs.Valid.{IsListedBelow, IsBorneOut}
+use Rattle.mate_facts.specs.Entries.{AreApart, positions_of, IsListedBelow, IsBorneOut}
 use Rattle.cert_check.specs.Reasons.{IsNotLower, MateReason, IsEvasionJudged, IsHeld, EscapeReason, IsFirstReason, reason_order}
 use Rattle.cert_check.specs.declared.verdict.Why.{Why}
 use Rattle.cert_check.specs.declared.verdict.Why.TheVariants.{RootMissing, NotACheck, EvasionOutside, RankNotLower, CheckUnanswered}
 use Rattle.cert_check.proofs.Listing.{before_in, held_at}
 use Rattle.list_laws.proofs.Standing.{contains_map}
-use Rattle.cert_text.specs.Laws.{EntriesApart, EntriesAreFound}
+use Rattle.mate_facts.specs.Laws.{EntriesApart, EntriesAreFound}
 
 -- 1. The judgement on an evasion.
 

@@ -17,7 +17,7 @@ use Rattle.board_core.specs.Board.{Board}
 use Rattle.board_core.specs.Kept.{IsKept}
 use Rattle.board_core.specs.Key.{key_of}
 use Rattle.cert_check.specs.declared.places.Places.{Places}
-use Rattle.cert_text.specs.Certificate.{AreApart}
+use Rattle.mate_facts.specs.Entries.{AreApart}
 use Rattle.cert_check.specs.Places.{key_cmp, StandsAt, ArePlacesOf, IsPlace, IsPlaceOrNext, IsWith}
 
 -- keys are found as one exactly where their words are the same

@@ -4,15 +4,16 @@ use Rattle.std.specs.Prelude.{Some, None, Option, slice_get, IsSomeAnd, Result, 
 use Rattle.std.proofs.Math.ListN.{length-map}
 use Rattle.std.proofs.lemmas.Option.{slice_get_read, slice_get_within, get_or_from_slice_get}
 use Rattle.bit_boards.specs.declared.piece.Side.{Side}
-use Rattle.cert_text.specs.declared.entry.MateEntry.{MateEntry}
+use Rattle.mate_facts.specs.declared.entry.MateEntry.{MateEntry}
 use Rattle.board_core.specs.Board.{Board}
 use Rattle.shogi_rules.specs.Rules.{IsQuiet}
 use Rattle.list_laws.proofs.Standing.{in_first, contains_map, contained, at_place, from_map}
 use Rattle.mate_def.specs.Mate.{RankAtMost, IsClosed, Escapes, EscapeIsNoMate}
 use Rattle.cert_text.specs.declared.certificate.Certificate.{Certificate}
 use Rattle.cert_text.specs.declared.certificate.Certificate.TheVariants.{Mate, Escape}
-use Rattle.cert_text.specs.Certificate.{Mating, Escaping, IsMating, IsEscaping, positions_of}
-use Rattle.cert_check.specs.Valid.{IsBorneOut, ValidMate, ValidEscape, IsValid, ShowsMate, Shows}
+use Rattle.cert_text.specs.Certificate.{Mating, Escaping, IsMating, IsEscaping}
+use Rattle.mate_facts.specs.Entries.{positions_of, IsBorneOut}
+use Rattle.cert_check.specs.Valid.{ValidMate, ValidEscape, IsValid, ShowsMate, Shows}
 use Rattle.cert_text.specs.Kinds.{problem_of, positions_in, IsKeptBy}
 use Rattle.cert_check.specs.Reasons.{MateReason, EscapeReason, IsHeld, RootReason, EntryReason, EntryHolds, HasReason, IsFirstReason, IsSooner, IsVerdict, reason_order}
 use Rattle.cert_check.specs.declared.verdict.Why.{Why}

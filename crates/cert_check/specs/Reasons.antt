@@ -2,7 +2,7 @@
 use Rattle.std.specs.Prelude.{◌≡◌, ◌<◌, ◌+◌, ◌⊎◌, ℕ, zero, suc, List, Option, Some, None, Contains, slice_get, IsSomeAnd}
 use Rattle.bit_boards.specs.declared.piece.Side.{Side}
 use Rattle.board_core.specs.declared.moves.Move.{Move}
-use Rattle.cert_text.specs.declared.entry.MateEntry.{MateEntry}
+use Rattle.mate_facts.specs.declared.entry.MateEntry.{MateEntry}
 use Rattle.board_core.specs.Board.{Board}
 use Rattle.board_core.specs.Order.{order_of}
 use Rattle.shogi_rules.specs.Rules.{after}
@@ -10,8 +10,8 @@ use Rattle.shogi_rules.specs.Tsume.{IsCheck, IsEvasion}
 use Rattle.mate_def.specs.Mate.{after_both, HasEvasionTo}
 use Rattle.cert_text.specs.declared.certificate.Certificate.{Certificate}
 use Rattle.cert_text.specs.declared.certificate.Certificate.TheVariants.{Mate, Escape}
-use Rattle.cert_text.specs.Certificate.{positions_of}
-use Rattle.cert_check.specs.Valid.{IsListedBelow, IsBorneOut, IsValid}
+use Rattle.mate_facts.specs.Entries.{positions_of, IsListedBelow, IsBorneOut}
+use Rattle.cert_check.specs.Valid.{IsValid}
 use Rattle.cert_text.specs.Kinds.{problem_of, positions_in}
 use Rattle.cert_check.specs.declared.verdict.Why.{Why}
 use Rattle.cert_check.specs.declared.verdict.Why.TheVariants.{RootMissing, NotACheck, EvasionOutside, RankNotLower, CheckUnanswered}

@@ -1,29 +1,12 @@
 -- When a certificate is valid for a position, and what it then shows.
-use Rattle.std.specs.Prelude.{◌≡◌, ◌<◌, ℕ, List, [], Contains}
-use Rattle.bit_boards.specs.declared.piece.Side.{Side}
-use Rattle.board_core.specs.declared.moves.Move.{Move}
-use Rattle.cert_text.specs.declared.entry.MateEntry.{MateEntry}
+use Rattle.std.specs.Prelude.{◌≡◌, [], Contains}
+use Rattle.mate_facts.specs.declared.entry.MateEntry.{MateEntry}
 use Rattle.board_core.specs.Board.{Board}
-use Rattle.shogi_rules.specs.Rules.{after}
-use Rattle.shogi_rules.specs.Tsume.{IsCheck, IsEvasion}
-use Rattle.mate_def.specs.Mate.{after_both, RankAtMost, IsMate, IsClosed, Escapes}
+use Rattle.mate_def.specs.Mate.{RankAtMost, IsMate, IsClosed, Escapes}
 use Rattle.cert_text.specs.declared.certificate.Certificate.{Certificate}
 use Rattle.cert_text.specs.declared.certificate.Certificate.TheVariants.{Mate, Escape}
-use Rattle.cert_text.specs.Certificate.{Mating, Escaping, positions_of}
-
--- An entry lists the position with a rank lower than this one.
-pub record IsListedBelow (entries : List MateEntry) (rank : ℕ) (position : Board) : Type 0 where
-  pub entry : MateEntry
-  pub listed : Contains entries entry
-  pub same : entry.at ≡ position
-  pub lower : entry.rank.number < rank
-
--- An entry of a mate is borne out: its move is a check of its position, and each evasion to it leads to a listed position of
--- lower rank.
-pub record IsBorneOut (entries : List MateEntry) (attacker : Side) (entry : MateEntry) : Type 0 where
-  pub check : IsCheck attacker entry.at entry.by
-  pub evasions : (evasion : Move) → IsEvasion attacker (after entry.at entry.by) evasion
-      → IsListedBelow entries entry.rank.number (after_both entry.at entry.by evasion)
+use Rattle.cert_text.specs.Certificate.{Mating, Escaping}
+use Rattle.mate_facts.specs.Entries.{positions_of, IsBorneOut}
 
 -- A mate's certificate is valid for a position: it is about the position, lists it, and each of its entries is borne out.
 pub record ValidMate (c : Mating) (p : Board) : Type 0 where

@@ -4,17 +4,16 @@ ghost use Rattle.board_core.specs.Board.{Board};
 ghost use Rattle.shogi_rules.specs.Rules.{IsQuiet, after};
 ghost use Rattle.shogi_rules.specs.Tsume.{IsCheck};
 ghost use Rattle.mate_def.specs.Mate.{HasEvasionTo};
-ghost use Rattle.cert_text.specs.Certificate.{AreApart, positions_of};
+ghost use Rattle.mate_facts.specs.Entries.{AreApart, positions_of, IsBorneOut};
 ghost use Rattle.cert_check.specs.Places.{ArePlacesOf};
-ghost use Rattle.cert_check.specs.Valid.{IsBorneOut};
 ghost use Rattle.cert_check.specs.Reasons.{MateReason, EscapeReason, IsHeld, IsFirstReason, IsEvasionJudged};
 
 use crate::places::Places;
 use crate::verdict::Why;
 use board_core::{Move, Position, order_laws};
-use cert_text::{MateEntry, cert_laws};
 use check_moves::checks_into;
 use evasions::answers_into;
+use mate_facts::{MateEntry, entry_laws};
 use move_lists::Moves;
 use shogi_rules::{Problem, apply, is_check};
 use std::alloc::AllocError;
@@ -32,7 +31,7 @@ fn evasion_reason(
     ensures { IsEvasionJudged entries.now rank next.now evasion result }
 {
     // Entries of one position are one entry.
-    cert_laws();
+    entry_laws();
     match places.find(next) {
         None => Some(Why::EvasionOutside(evasion)),
         Some(place) => {

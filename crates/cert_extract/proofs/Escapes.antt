@@ -12,7 +12,7 @@ use Rattle.board_core.specs.Kept.{IsKept}
 use Rattle.board_core.specs.Key.{key_of}
 use Rattle.shogi_rules.specs.Tsume.{IsCheck, IsProblem}
 use Rattle.mate_def.specs.Mate.{HasEvasionTo}
-use Rattle.cert_text.specs.Certificate.{AreApart}
+use Rattle.mate_facts.specs.Entries.{AreApart}
 use Rattle.cert_order.specs.Entries.{AreEscapeEntries}
 use Rattle.notes.specs.declared.rule.Conclusion.{Conclusion}
 use Rattle.notes.specs.declared.rule.Conclusion.TheVariants.{Escape}

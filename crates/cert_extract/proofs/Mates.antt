@@ -14,9 +14,8 @@ use Rattle.list_laws.proofs.Standing.{contained, contains_map}
 use Rattle.shogi_rules.specs.Rules.{after}
 use Rattle.shogi_rules.specs.Tsume.{IsCheck, IsEvasion, IsProblem}
 use Rattle.mate_def.specs.Mate.{after_both}
-use Rattle.cert_text.specs.declared.entry.MateEntry.{MateEntry}
-use Rattle.cert_text.specs.Certificate.{AreApart, positions_of}
-use Rattle.cert_check.specs.Valid.{IsListedBelow}
+use Rattle.mate_facts.specs.declared.entry.MateEntry.{MateEntry}
+use Rattle.mate_facts.specs.Entries.{AreApart, positions_of, IsListedBelow}
 use Rattle.cert_order.specs.Entries.{AreMateEntries}
 use Rattle.notes.specs.declared.rule.Rule.TheVariants.{MateBy}
 use Rattle.notes.specs.declared.rule.Conclusion.TheVariants.{Mate}

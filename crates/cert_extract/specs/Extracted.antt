@@ -1,7 +1,7 @@
 -- What is extracted from a note's tree.
 use Rattle.std.specs.Prelude.{◌≡◌, ◌*◌, Contains}
 use Rattle.board_core.specs.Board.{Board}
-use Rattle.cert_text.specs.declared.entry.MateEntry.{MateEntry}
+use Rattle.mate_facts.specs.declared.entry.MateEntry.{MateEntry}
 use Rattle.cert_text.specs.declared.head.Claim.{Claim}
 use Rattle.cert_text.specs.declared.head.Claim.TheVariants as claims
 use Rattle.cert_text.specs.declared.certificate.Certificate.{Certificate}

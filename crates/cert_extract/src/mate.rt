@@ -1,6 +1,6 @@
 // The entries of a mate, from a note about the problem.
 ghost use Rattle.std.specs.Prelude.{◌≡◌, ◌*◌, [], IfOk, Contains};
-ghost use Rattle.cert_text.specs.declared.entry.MateEntry.{MateEntry};
+ghost use Rattle.mate_facts.specs.declared.entry.MateEntry.{MateEntry};
 ghost use Rattle.notes.specs.Derivation.{position_of, attacker_of, rule_of, height_of, conclusion_of};
 ghost use Rattle.notes.specs.declared.rule.Rule.TheVariants.{MateBy};
 ghost use Rattle.notes.specs.declared.rule.Conclusion.TheVariants.{Mate};
@@ -10,7 +10,7 @@ ghost use Rattle.cert_extract.specs.Extracted.{IsMateFrom};
 
 use crate::steps::push_next;
 use cert_check::Places;
-use cert_text::{MateEntry, Rank};
+use mate_facts::{MateEntry, Rank};
 use notes::{Note, Rule};
 use shogi_rules::{Problem, legal_laws};
 use std::alloc::{AllocError, Global};

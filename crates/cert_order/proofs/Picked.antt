@@ -5,12 +5,13 @@ use Rattle.std.specs.Option.{option_map}
 use Rattle.std.proofs.lemmas.List.{take_more, take_all, length-map, map-id}
 use Rattle.std.proofs.lemmas.Option.{slice_get-map, slice_get_read}
 use Rattle.bit_boards.specs.declared.piece.Side.{Side}
-use Rattle.cert_text.specs.declared.entry.MateEntry.{MateEntry}
+use Rattle.mate_facts.specs.declared.entry.MateEntry.{MateEntry}
 use Rattle.board_core.specs.Board.{Board}
 use Rattle.shogi_rules.specs.Tsume.{IsProblem}
 use Rattle.mate_def.specs.Mate.{IsClosed}
-use Rattle.cert_text.specs.Certificate.{Mating, Escaping, IsMating, IsEscaping, IsRising, positions_of}
-use Rattle.cert_check.specs.Valid.{IsListedBelow, ValidMate, ValidEscape}
+use Rattle.cert_text.specs.Certificate.{Mating, Escaping, IsMating, IsEscaping, IsRising}
+use Rattle.mate_facts.specs.Entries.{positions_of, IsListedBelow}
+use Rattle.cert_check.specs.Valid.{ValidMate, ValidEscape}
 use Rattle.cert_order.specs.Entries.{AreMateEntries, AreEscapeEntries, HaveSame}
 use Rattle.cert_order.specs.Order.{RiseAt, IsTextOrder, ArePicked}
 use Rattle.list_laws.proofs.Standing.{contained, at_place, from_map}

@@ -21,7 +21,7 @@ use Rattle.board_core.specs.Board.{Board}
 use Rattle.board_core.specs.Kept.{IsKept}
 use Rattle.sfen_text.specs.Spelling.{sfen_of}
 use Rattle.cert_text.specs.Certificate.{IsBefore}
-use Rattle.cert_text.specs.Certificate.{AreApart}
+use Rattle.mate_facts.specs.Entries.{AreApart}
 use Rattle.cert_order.specs.Order.{RiseAt, IsTextOrder}
 use Rattle.list_laws.proofs.Standing.{contained, at_place, from_map, contains_map}
 

@@ -1,12 +1,12 @@
 -- Entries that a certificate can be made of, before they are put in order.
 use Rattle.std.specs.Prelude.{◌↔◌, List, [], Contains}
-use Rattle.cert_text.specs.declared.entry.MateEntry.{MateEntry}
+use Rattle.mate_facts.specs.declared.entry.MateEntry.{MateEntry}
 use Rattle.board_core.specs.Board.{Board}
 use Rattle.board_core.specs.Kept.{IsKept}
 use Rattle.board_core.specs.Text.{HasText}
 use Rattle.mate_def.specs.Mate.{IsClosed}
-use Rattle.cert_text.specs.Certificate.{IsEntry, AreApart, positions_of}
-use Rattle.cert_check.specs.Valid.{IsBorneOut}
+use Rattle.cert_text.specs.Certificate.{IsEntry}
+use Rattle.mate_facts.specs.Entries.{AreApart, positions_of, IsBorneOut}
 
 -- The entries of a mate: the problem is listed, each is borne out, none is listed twice, and each keeps what a certificate's
 -- entry keeps.

@@ -6,7 +6,8 @@ ghost use Rattle.cert_order.specs.Order.{ArePicked};
 
 use crate::order::text_order;
 use board_core::Position;
-use cert_text::{EscapeCertificate, MateCertificate, MateEntry};
+use cert_text::{EscapeCertificate, MateCertificate};
+use mate_facts::MateEntry;
 use shogi_rules::Problem;
 use std::alloc::{AllocError, Global};
 

@@ -2,7 +2,7 @@
 ghost use Rattle.std.specs.Prelude.{IfOk, Contains};
 ghost use Rattle.board_core.specs.Board.{Board};
 ghost use Rattle.board_core.specs.Kept.{IsKept};
-ghost use Rattle.cert_text.specs.Certificate.{AreApart};
+ghost use Rattle.mate_facts.specs.Entries.{AreApart};
 ghost use Rattle.cert_order.specs.Order.{IsTextOrder};
 
 use board_core::Position;

@@ -5,11 +5,11 @@ use Rattle.std.specs.List.{AllByRecursion}
 use Rattle.std.specs.Fmt.{decimal}
 use Rattle.std.proofs.lemmas.Fmt.{decimal_injective}
 use Rattle.std.proofs.lemmas.List.{append_cancel_left, append-nil}
-use Rattle.cert_text.specs.declared.entry.MateEntry.{MateEntry}
+use Rattle.mate_facts.specs.declared.entry.MateEntry.{MateEntry}
 use mathlib.Core.HLevel.{is_prop→PathP}
 use Rattle.std.proofs.Math.Bridge.{le_prop}
-use Rattle.cert_text.specs.declared.rank.Rank.{Rank}
-use Rattle.cert_text.specs.declared.limits.TheConstants.{MOST_RANK}
+use Rattle.mate_facts.specs.declared.rank.Rank.{Rank}
+use Rattle.mate_facts.specs.declared.rank.TheConstants.{MOST_RANK}
 use Rattle.board_core.specs.Board.{Board}
 use Rattle.usi_text.specs.MoveText.{move_text, MoveTextsApart as MovesApart}
 use Rattle.sfen_text.specs.Spelling.{sfen_of, board_text, side_letter, hands_text}

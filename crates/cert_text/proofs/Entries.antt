@@ -2,8 +2,8 @@
 use Rattle.std.proofs.Common.{◌≡◌, ◌<◌, ◌^◌, ℕ, List, [], ◌∷◌, ◌++◌, sym, ◌∙◌, append_assoc, arith}
 use Rattle.std.specs.Fmt.{decimal}
 use Rattle.std.proofs.lemmas.List.{append_cancel_right}
-use Rattle.cert_text.specs.declared.entry.MateEntry.{MateEntry}
-use Rattle.cert_text.specs.declared.rank.Rank.{Rank}
+use Rattle.mate_facts.specs.declared.entry.MateEntry.{MateEntry}
+use Rattle.mate_facts.specs.declared.rank.Rank.{Rank}
 use Rattle.usi_text.specs.MoveText.{move_text}
 use Rattle.sfen_text.specs.Spelling.{sfen_of}
 use Rattle.cert_text.specs.Entries.{line, mate_entry_text}

@@ -5,4 +5,3 @@ pub mod Bodies
 pub mod Again
 pub mod Readable
 pub mod Apart
-pub mod Listed

@@ -1,9 +1,9 @@
 -- What a certificate is, before anybody has checked it.
-use Rattle.std.specs.Prelude.{◌≡◌, ℕ, List, [], ◌∷◌, Some, map, Contains, slice_get}
+use Rattle.std.specs.Prelude.{◌≡◌, ℕ, List, [], ◌∷◌, map, Contains}
 use Rattle.std.specs.Ordering.{nat_cmp}
 use Rattle.std.specs.Cmp.Lexicographic.{slice_cmp}
 use Rattle.std.specs.declared.cmp.Ordering.TheVariants.{Less}
-use Rattle.cert_text.specs.declared.entry.MateEntry.{MateEntry}
+use Rattle.mate_facts.specs.declared.entry.MateEntry.{MateEntry}
 use Rattle.board_core.specs.Board.{Board}
 use Rattle.board_core.specs.Kept.{IsKept}
 use Rattle.shogi_rules.specs.Tsume.{IsProblem}
@@ -33,10 +33,6 @@ abbrev pub IsRising : List Board → Type 0
 IsRising [] = Unit {0}
 IsRising (a ∷ []) = Unit {0}
 IsRising (a ∷ b ∷ rest) = IsBefore a b × IsRising (b ∷ rest)
-
--- No position stands at two places of the list.
-abbrev pub AreApart : List Board → Type 0
-AreApart positions = (i j : ℕ) (b : Board) → slice_get positions i ≡ Some b → slice_get positions j ≡ Some b → i ≡ j
 
 -- A kind of entries: which may be listed in a certificate about a problem, the text of each, and its position.
 pub record Form (Entry : Type 0) : Type 1 where
@@ -81,7 +77,3 @@ IsMating c = IsListing (mate_form c.problem) c
 -- What an escape's certificate keeps.
 abbrev pub IsEscaping : Escaping → Type 0
 IsEscaping c = IsListing (escape_form c.problem) c
-
--- The positions of a mate's entries.
-abbrev pub positions_of : List MateEntry → List Board
-positions_of entries = map (λ entry. entry.at) entries

@@ -1,7 +1,7 @@
 -- The lines of a certificate that tell a problem or an entry.
 use Rattle.std.specs.Prelude.{ℕ, List, [], ◌∷◌, ◌++◌, codes}
 use Rattle.std.specs.Fmt.{decimal}
-use Rattle.cert_text.specs.declared.entry.MateEntry.{MateEntry}
+use Rattle.mate_facts.specs.declared.entry.MateEntry.{MateEntry}
 use Rattle.board_core.specs.Board.{Board}
 use Rattle.usi_text.specs.MoveText.{move_text}
 use Rattle.sfen_text.specs.Spelling.{sfen_of}

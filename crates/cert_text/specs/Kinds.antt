@@ -5,7 +5,8 @@ use Rattle.cert_text.specs.declared.certificate.Certificate.{Certificate}
 use Rattle.cert_text.specs.declared.certificate.Certificate.TheVariants.{Mate, Escape}
 use Rattle.cert_text.specs.declared.head.Claim.{Claim}
 use Rattle.cert_text.specs.declared.head.Claim.TheVariants as claims
-use Rattle.cert_text.specs.Certificate.{IsMating, IsEscaping, positions_of}
+use Rattle.cert_text.specs.Certificate.{IsMating, IsEscaping}
+use Rattle.mate_facts.specs.Entries.{positions_of}
 
 -- What a certificate claims of its problem.
 abbrev pub claim_of : Certificate → Claim

@@ -1,10 +1,12 @@
 // Certificates as values.
 ghost use Rattle.std.specs.Prelude.{◌≡◌, length, map};
-ghost use Rattle.cert_text.specs.Certificate.{IsListing, AreApart};
+ghost use Rattle.cert_text.specs.Certificate.{IsListing};
+ghost use Rattle.mate_facts.specs.Entries.{AreApart};
 ghost use Rattle.cert_text.specs.Kinds.{claim_of, problem_of, positions_in, IsKeptBy};
 
-use crate::{Claim, Entry, MateEntry};
+use crate::{Claim, Entry};
 use board_core::Position;
+use mate_facts::MateEntry;
 use shogi_rules::Problem;
 use std::marker::Model;
 

@@ -6,26 +6,14 @@ ghost use Rattle.sfen_text.specs.Spelling.{sfen_of};
 ghost use Rattle.cert_text.specs.Entries.{line};
 ghost use Rattle.cert_text.specs.Certificate.{Form, MayBeListed, mate_form, escape_form};
 
-use crate::Rank;
 use crate::parts::{cut, position_of_text, rank_of_text};
 use crate::write::append_number;
-use board_core::{Move, Position};
+use board_core::Position;
+use mate_facts::MateEntry;
 use sfen_text::append_sfen;
 use shogi_rules::Problem;
 use std::alloc::AllocError;
 use usi_text::{read_move, write_move};
-
-/// One line of a mate's certificate. What it says, and what an accepted certificate bears out: at this position of the
-/// attacker the move is a check after which each evasion leads to a position of lower rank.
-#[derive(Clone, Copy, Debug)]
-pub struct MateEntry {
-    /// The rank: an upper bound for the number of the attacker's moves up to the mate.
-    pub rank: Rank,
-    /// The attacker's move.
-    pub by: Move,
-    /// The position, with the attacker to move.
-    pub at: Position,
-}
 
 /// What a certificate lists: a mate's entries are [`MateEntry`], an escape's are positions. Which a certificate may list, the
 /// text of each and its position are told by `form`.

@@ -3,7 +3,7 @@
 //! A certificate says of a problem that it is a mate, by positions with falling ranks and a check at each, or that it is
 //! none, by positions each check from which has an evasion back to one of them. Whether what it says is so is another crate's
 //! question. Here it keeps what its form promises: its positions rise by the bytes of their SFEN texts, so that none stands
-//! twice, each is a problem of the same side to move, ranks are from 1 to [`MOST_RANK`], and moves have a text.
+//! twice, each is a problem of the same side to move, ranks are from 1 to [`mate_facts::MOST_RANK`], and moves have a text.
 //!
 //! [`CertificateOf`] is a certificate with entries of one kind ([`Entry`]); [`Certificate`] is one of either kind. [`read_cert`] and
 //! [`write_cert`] are its text both ways, and [`cert_laws`] are facts about all of them.
@@ -16,16 +16,14 @@ mod head;
 mod laws;
 mod limits;
 mod parts;
-mod rank;
 mod read;
 mod write;
 
 pub use certificate::{Certificate, CertificateOf, EscapeCertificate, MateCertificate};
-pub use entry::{Entry, MateEntry};
+pub use entry::Entry;
 pub use fault::{CertEnd, CertFault};
 pub use head::Claim;
 pub use laws::cert_laws;
-pub use limits::{MOST_ENTRIES, MOST_RANK};
-pub use rank::Rank;
+pub use limits::MOST_ENTRIES;
 pub use read::read_cert;
 pub use write::{append_cert, append_escape_cert, append_mate_cert, append_number, write_cert};

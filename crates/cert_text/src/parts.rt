@@ -8,13 +8,13 @@ ghost use Rattle.board_core.specs.Board.{Board};
 ghost use Rattle.board_core.specs.Kept.{IsKept};
 ghost use Rattle.shogi_rules.specs.Tsume.{IsProblem};
 ghost use Rattle.sfen_text.specs.Spelling.{sfen_of};
-ghost use Rattle.cert_text.specs.declared.rank.Rank.{Rank};
-ghost use Rattle.cert_text.specs.declared.limits.TheConstants.{MOST_RANK};
+ghost use Rattle.mate_facts.specs.declared.rank.Rank.{Rank};
+ghost use Rattle.mate_facts.specs.declared.rank.TheConstants.{MOST_RANK};
 ghost use Rattle.cert_text.specs.Reading.{Lacks};
 
-use crate::{MOST_RANK, Rank};
 use board_core::{Position, Side};
 use itoa::Buffer;
+use mate_facts::{MOST_RANK, Rank};
 use sfen_text::{append_sfen, read_sfen, sfen_laws};
 use shogi_rules::{Problem, accept_problem};
 use std::alloc::AllocError;

@@ -6,7 +6,7 @@ use Rattle.std.proofs.lemmas.List.{length_push}
 use Rattle.bit_boards.specs.declared.piece.Side.{Side}
 use Rattle.bit_boards.specs.declared.piece.Side.TheVariants.{Black, White}
 use Rattle.board_core.specs.declared.moves.Move.{Move}
-use Rattle.cert_text.specs.declared.entry.MateEntry.{MateEntry}
+use Rattle.mate_facts.specs.declared.entry.MateEntry.{MateEntry}
 use Rattle.bit_boards.specs.Kind.{other}
 use Rattle.board_core.specs.Board.{Board, kings_of}
 use Rattle.board_core.specs.Kept.{IsKept}
@@ -15,12 +15,11 @@ use Rattle.shogi_rules.specs.Rules.{after}
 use Rattle.shogi_rules.specs.Tsume.{IsCheck, IsEvasion}
 use Rattle.mate_def.specs.Mate.{after_both}
 use Rattle.board_core.specs.Text.{HasText}
-use Rattle.cert_text.specs.Certificate.{IsEntry, positions_of}
-use Rattle.cert_check.specs.Valid.{IsListedBelow}
+use Rattle.cert_text.specs.Certificate.{IsEntry}
+use Rattle.mate_facts.specs.Entries.{positions_of, IsListedBelow, AreApart}
 use Rattle.plain_search.specs.declared.graph.Step.{Step}
 use Rattle.plain_search.specs.declared.graph.Graph.{Graph}
 use Rattle.plain_search.specs.Queue.{IsStep}
-use Rattle.cert_text.specs.Certificate.{AreApart}
 use Rattle.plain_search.specs.Graph.{AreSteps, IsGraph, moves_of, steps_at, expansions_of}
 use Rattle.plain_search.specs.Ranks.{rank_at, HasRank, IsBelow, IsRanked, IsBeaten, IsWon, AreRanks}
 use Rattle.plain_search.specs.Agenda.{AreListed}

@@ -1,7 +1,7 @@
 -- What is plain stays so when its entries are put in order.
 use Rattle.std.proofs.Common.{List}
 use Rattle.board_core.specs.Board.{Board}
-use Rattle.cert_text.specs.declared.entry.MateEntry.{MateEntry}
+use Rattle.mate_facts.specs.declared.entry.MateEntry.{MateEntry}
 use Rattle.cert_text.specs.Certificate.{Mating, Escaping}
 use Rattle.cert_order.specs.Entries.{HaveSame}
 use Rattle.plain_search.specs.Plain.{IsPlainMate, IsPlainEscape}

@@ -11,7 +11,7 @@ use Rattle.shogi_rules.specs.Tsume.{IsCheck, IsEvasion}
 use Rattle.mate_def.specs.Mate.{after_both}
 use Rattle.plain_search.specs.declared.graph.Step.{Step}
 use Rattle.plain_search.specs.declared.graph.Graph.{Graph}
-use Rattle.cert_text.specs.Certificate.{AreApart}
+use Rattle.mate_facts.specs.Entries.{AreApart}
 use Rattle.plain_search.specs.Graph.{IsGraph, steps_at, expansions_of, positions_met}
 use Rattle.plain_search.specs.Ranks.{rank_at, HasRank, IsRanked, IsBeaten, AreWon, AreLost, AreRanks}
 use Rattle.plain_search.specs.Within.{RankWithin, IsHeldWithin, IsUndecided}

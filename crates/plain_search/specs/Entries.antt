@@ -1,6 +1,6 @@
 -- For the functions of the crate alone: the entries of a plain mate, before and after they are put in order.
 use Rattle.std.specs.Prelude.{List}
-use Rattle.cert_text.specs.declared.entry.MateEntry.{MateEntry}
+use Rattle.mate_facts.specs.declared.entry.MateEntry.{MateEntry}
 use Rattle.board_core.specs.Board.{Board}
 use Rattle.cert_text.specs.Certificate.{Mating}
 use Rattle.plain_search.specs.Plain.{IsPlainMate}

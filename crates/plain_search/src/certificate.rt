@@ -7,7 +7,8 @@ ghost use Rattle.plain_search.specs.Plain.{IsPlainMate, IsPlainEscape};
 ghost use Rattle.plain_search.specs.Entries.{ArePlainEntries};
 
 use board_core::Position;
-use cert_text::{EscapeCertificate, MateCertificate, MateEntry};
+use cert_text::{EscapeCertificate, MateCertificate};
+use mate_facts::MateEntry;
 use shogi_rules::Problem;
 use std::alloc::{AllocError, Global};
 

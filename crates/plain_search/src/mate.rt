@@ -13,7 +13,7 @@ use crate::agenda::Agenda;
 use crate::graph::{Graph, Step};
 use crate::ranks::{is_beaten, rank_of};
 use board_core::order_laws;
-use cert_text::{MateEntry, Rank};
+use mate_facts::{MateEntry, Rank};
 use shogi_rules::Problem;
 use std::alloc::{AllocError, Global};
 

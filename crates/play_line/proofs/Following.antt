@@ -4,18 +4,19 @@ use Rattle.std.specs.Prelude.{Some, None, Option, slice_get}
 use Rattle.std.proofs.Math.ListN.{length-map}
 use Rattle.std.proofs.lemmas.Option.{get_or_from_slice_get, slice_get_within, slice_get_read}
 use Rattle.board_core.specs.declared.moves.Move.{Move}
-use Rattle.cert_text.specs.declared.entry.MateEntry.{MateEntry}
+use Rattle.mate_facts.specs.declared.entry.MateEntry.{MateEntry}
 use Rattle.board_core.specs.Board.{Board}
 use Rattle.shogi_rules.specs.Rules.{IsLegal, IsQuiet, after}
 use Rattle.shogi_rules.specs.Tsume.{IsEvasion}
 use Rattle.mate_def.specs.Mate.{after_both}
 use Rattle.board_core.specs.Text.{HasText}
 use Rattle.usi_text.specs.Lines.{AllHaveText}
-use Rattle.cert_text.specs.Certificate.{Mating, IsMating, AreApart, positions_of}
+use Rattle.cert_text.specs.Certificate.{Mating, IsMating}
+use Rattle.mate_facts.specs.Entries.{AreApart, positions_of}
 use Rattle.cert_check.specs.Valid.{ValidMate}
 use Rattle.play_line.specs.Line.{IsMoveAt, IsLongest, IsMainLine}
 use Rattle.list_laws.proofs.Standing.{contains_map, from_map}
-use Rattle.cert_text.specs.Laws.{EntriesApart, EntriesAreFound}
+use Rattle.mate_facts.specs.Laws.{EntriesApart, EntriesAreFound}
 
 -- 1. Texts.
 

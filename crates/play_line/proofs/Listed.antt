@@ -2,12 +2,13 @@
 use Rattle.std.proofs.Common.{◌≡◌, ◌<◌, ◌≤◌, ℕ, List, get_or, length, arith, ap, sym, refl, ◌∙◌, subst}
 use Rattle.std.proofs.lemmas.Option.{slice_get_read}
 use Rattle.std.specs.Prelude.{Some, slice_get}
-use Rattle.cert_text.specs.declared.entry.MateEntry.{MateEntry}
+use Rattle.mate_facts.specs.declared.entry.MateEntry.{MateEntry}
 use Rattle.board_core.specs.declared.moves.Move.{Move}
 use Rattle.board_core.specs.Board.{Board}
 use Rattle.board_core.specs.Order.{order_of, RisesFrom, PlacesInOrder}
-use Rattle.cert_text.specs.Certificate.{Mating, AreApart, positions_of}
-use Rattle.cert_text.specs.Laws.{EntriesApart, EntriesAreFound}
+use Rattle.cert_text.specs.Certificate.{Mating}
+use Rattle.mate_facts.specs.Entries.{AreApart, positions_of}
+use Rattle.mate_facts.specs.Laws.{EntriesApart, EntriesAreFound}
 use Rattle.play_line.specs.Line.{IsRankAt}
 
 -- 1. Places.

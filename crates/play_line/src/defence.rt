@@ -3,7 +3,7 @@ ghost use Rattle.std.specs.Prelude.{IfOk, Contains};
 ghost use Rattle.board_core.specs.declared.moves.Move.{Move};
 ghost use Rattle.shogi_rules.specs.Rules.{IsQuiet, after};
 ghost use Rattle.shogi_rules.specs.Tsume.{IsEvasion};
-ghost use Rattle.cert_text.specs.Certificate.{positions_of};
+ghost use Rattle.mate_facts.specs.Entries.{positions_of};
 ghost use Rattle.cert_check.specs.Places.{ArePlacesOf};
 ghost use Rattle.play_line.specs.Line.{IsDefence};
 ghost use Rattle.play_line.specs.Lasting.{IsLonger};

@@ -1,13 +1,14 @@
 // Finding the entries of a certificate by their positions.
 ghost use Rattle.std.specs.Prelude.{◌≡◌, ℕ, Some, Contains, slice_get};
 ghost use Rattle.shogi_rules.specs.Rules.{IsQuiet, IsLegal, after};
-ghost use Rattle.cert_text.specs.Certificate.{positions_of};
+ghost use Rattle.mate_facts.specs.Entries.{positions_of};
 ghost use Rattle.cert_check.specs.Places.{ArePlacesOf};
 ghost use Rattle.play_line.specs.Line.{IsRankAt};
 
 use board_core::{Move, Position};
 use cert_check::Places;
-use cert_text::{MateCertificate, cert_laws};
+use cert_text::MateCertificate;
+use mate_facts::entry_laws;
 use shogi_rules::apply;
 
 /// The place of a position that is listed.
@@ -37,7 +38,7 @@ pub(crate) fn rank_after(
     ensures only { (rank : ℕ) → IsRankAt certificate.now (after position.now by) rank → rank ≡ result }
 {
     // Entries of one position are one entry.
-    cert_laws();
+    entry_laws();
     let place = place_of(certificate, places, &apply(position, by));
     certificate.entries()[place].rank.number
 }

@@ -8,7 +8,8 @@ use crate::defence::defence;
 use crate::finding::place_of;
 use board_core::Move;
 use cert_check::places_of;
-use cert_text::{MateCertificate, cert_laws};
+use cert_text::MateCertificate;
+use mate_facts::entry_laws;
 use shogi_rules::{Problem, apply};
 use std::alloc::{AllocError, Global};
 
@@ -25,7 +26,7 @@ pub fn main_line(
     ensures texts { IfOk result (λ moves. AllHaveText moves.items) }
 {
     // Entries of one position are one entry.
-    cert_laws();
+    entry_laws();
     let places = places_of(alloc, certificate)?;
     let entries = certificate.entries();
     let mut place = place_of(certificate, &places, &problem.position);

@@ -1,6 +1,6 @@
 use Rattle.std.proofs.Common.{List, Contains, subst}
 use Rattle.board_core.specs.Board.{Board}
-use Rattle.cert_text.specs.declared.entry.MateEntry.{MateEntry}
+use Rattle.mate_facts.specs.declared.entry.MateEntry.{MateEntry}
 use Rattle.cert_extract.proofs.extract.Goals as goal
 
 pub returns-in_ok-mate_certificate-in-Mate-clause-from : goal.returns-in_ok-mate_certificate-in-Mate-clause-from

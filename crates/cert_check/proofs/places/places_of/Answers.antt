@@ -2,7 +2,7 @@ use Rattle.std.proofs.Common.{◌+◌, List, length, map, take, ap, sym, refl, s
 use Rattle.std.specs.Option.{option_map}
 use Rattle.std.proofs.lemmas.Option.{slice_get_read, slice_get-map}
 use Rattle.board_core.specs.Board.{Board}
-use Rattle.cert_text.specs.Certificate.{AreApart}
+use Rattle.mate_facts.specs.Entries.{AreApart}
 use Rattle.cert_check.specs.Places.{IsWith}
 use Rattle.cert_check.proofs.Finding.{with_next}
 use Rattle.cert_check.proofs.places.places_of.Goals as goal

@@ -4,7 +4,7 @@ use Rattle.board_core.specs.Board.{Board}
 use Rattle.board_core.specs.declared.moves.Move.{Move}
 use Rattle.shogi_rules.specs.Rules.{after}
 use Rattle.shogi_rules.specs.Tsume.{IsEvasion}
-use Rattle.cert_check.specs.Valid.{IsListedBelow}
+use Rattle.mate_facts.specs.Entries.{IsListedBelow}
 use Rattle.cert_check.proofs.Listing.{held_at}
 use Rattle.list_laws.proofs.Standing.{each_more}
 use Rattle.cert_check.proofs.Entries.{first_against, borne_out}

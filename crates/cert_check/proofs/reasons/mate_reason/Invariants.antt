@@ -1,7 +1,7 @@
 use Rattle.std.proofs.Common.{◌≡◌, ◌<◌, ℕ, get_or}
 use Rattle.board_core.specs.declared.moves.Move.{Move}
 use Rattle.shogi_rules.specs.Rules.{after}
-use Rattle.cert_check.specs.Valid.{IsListedBelow}
+use Rattle.mate_facts.specs.Entries.{IsListedBelow}
 use Rattle.cert_check.proofs.reasons.mate_reason.Given as goal
 
 abbrev pub invariant-loop-evasion : goal.invariant-loop-evasion

@@ -1,7 +1,7 @@
 use Rattle.std.proofs.Common.{List, set, arith, refl, sym, subst}
-use Rattle.cert_text.specs.declared.entry.MateEntry.{MateEntry}
+use Rattle.mate_facts.specs.declared.entry.MateEntry.{MateEntry}
 use Rattle.notes.specs.declared.rule.Conclusion.TheVariants.{Mate}
-use Rattle.cert_text.specs.Certificate.{positions_of}
+use Rattle.mate_facts.specs.Entries.{positions_of}
 use Rattle.cert_check.specs.Places.{ArePlacesOf}
 use Rattle.cert_extract.proofs.Pushed.{lighter_walked, lighter_met}
 use Rattle.cert_extract.proofs.Escapes.{pending_first}

@@ -1,5 +1,5 @@
 use Rattle.std.proofs.Common.{map}
-use Rattle.cert_text.specs.Certificate.{positions_of}
+use Rattle.mate_facts.specs.Entries.{positions_of}
 use Rattle.cert_check.specs.Places.{ArePlacesOf}
 use Rattle.cert_extract.proofs.Trees.{weight}
 use Rattle.cert_extract.proofs.Mates.{IsMateWalk}

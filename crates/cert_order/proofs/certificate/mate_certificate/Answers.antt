@@ -1,7 +1,7 @@
 use Rattle.std.proofs.Common.{◌∙◌, arith, sym, subst, List, ℕ, Contains}
 use Rattle.board_core.specs.Board.{Board}
 use Rattle.board_core.specs.Kept.{IsKept}
-use Rattle.cert_text.specs.Certificate.{AreApart}
+use Rattle.mate_facts.specs.Entries.{AreApart}
 use Rattle.cert_order.specs.Order.{IsTextOrder, ArePicked}
 use Rattle.cert_order.proofs.Picked.{all_positions, as_many, of_entries, mating, valid_mate, same_mate}
 use Rattle.cert_order.proofs.certificate.mate_certificate.Goals as goal

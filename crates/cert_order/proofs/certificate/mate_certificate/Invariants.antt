@@ -1,5 +1,5 @@
 use Rattle.std.proofs.Common.{◌≡◌, take}
-use Rattle.cert_text.specs.Certificate.{positions_of}
+use Rattle.mate_facts.specs.Entries.{positions_of}
 use Rattle.cert_order.proofs.certificate.mate_certificate.Given as goal
 
 abbrev pub invariant-loop-entry : goal.invariant-loop-entry

@@ -1,6 +1,6 @@
 use Rattle.std.proofs.Common.{List, ℕ, arith, ap, sym, refl, subst, length, get_or}
 use Rattle.std.specs.Prelude.{Some}
-use Rattle.cert_text.specs.declared.entry.MateEntry.{MateEntry}
+use Rattle.mate_facts.specs.declared.entry.MateEntry.{MateEntry}
 use Rattle.plain_search.proofs.Mates.{AreShown, IsNext, next_place, evasion_at, evasion_more, shown_more, mate_shown}
 use Rattle.plain_search.proofs.Reached.{AreReached, from_more, reached_more, plain_shown}
 use Rattle.plain_search.proofs.mate.mate_entries.Goals as goal

@@ -7,7 +7,7 @@ use Rattle.play_line.proofs.line.main_line.Goals as goal
 
 pub loop-moves-init : goal.loop-moves-init
 loop-moves-init c =
-    begins c.cert_laws.ensures.found c.args.certificate.now c.args.problem.now.position c.entries-entries.result.now c.place_of-place.result c.new-moves.result.items
+    begins c.entry_laws.ensures.found c.args.certificate.now c.args.problem.now.position c.entries-entries.result.now c.place_of-place.result c.new-moves.result.items
     c.entries-entries.ensures.entries c.place_of-place.ensures c.new-moves.ensures.items
 
 pub bounds-entries-place : goal.bounds-entries-place
@@ -62,14 +62,14 @@ place_of-place-requires-in-Some-clause-listed c =
 pub loop-moves-smaller : goal.loop-moves-smaller
 loop-moves-smaller c =
     let best = subst (λ (o : Option Move). IsDefence c.args.certificate.now c.args.problem.now.position.side c.apply-checked.result o) c.in-Some.is c.in_ok-defence.ensures in
-    rank_falls c.cert_laws.ensures.apart c.args.certificate.now c.args.problem.now.position c.apply-checked.result c.apply.result c.entries-entries.result.now c.loop-moves.place
+    rank_falls c.entry_laws.ensures.apart c.args.certificate.now c.args.problem.now.position c.apply-checked.result c.apply.result c.entries-entries.result.now c.loop-moves.place
     c.place_of-place-in-Some.result c.index-entries-place.result c.in-Some.evasion c.entries-entries.ensures.apart c.requires c.entries-entries.ensures.entries
     c.loop-moves.invariant.within c.index-entries-place.is c.apply-checked.ensures.position c.apply.ensures.position best.is_evasion c.place_of-place-in-Some.ensures
 
 pub loop-moves-preserved : goal.loop-moves-preserved
 loop-moves-preserved c =
     let best = subst (λ (o : Option Move). IsDefence c.args.certificate.now c.args.problem.now.position.side c.apply-checked.result o) c.in-Some.is c.in_ok-defence.ensures in
-    goes_on c.cert_laws.ensures.found c.args.certificate.now c.args.problem.now.position c.apply-checked.result c.apply.result c.entries-entries.result.now c.loop-moves.place
+    goes_on c.entry_laws.ensures.found c.args.certificate.now c.args.problem.now.position c.apply-checked.result c.apply.result c.entries-entries.result.now c.loop-moves.place
     c.place_of-place-in-Some.result c.loop-moves.moves.items c.push.new.self.items c.push-in-Some.new.self.items c.index-entries-place.result c.in-Some.evasion
     c.entries-entries.ensures.entries c.index-entries-place.is c.apply-checked.ensures.position c.apply.ensures.position best c.place_of-place-in-Some.ensures
     c.in_ok-push.ensures.items c.in_ok-push-in-Some.ensures.items c.apply-checked.ensures.has_text c.apply.ensures.has_text c.loop-moves.invariant

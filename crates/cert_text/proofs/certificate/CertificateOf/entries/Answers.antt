@@ -1,5 +1,5 @@
 use Rattle.std.proofs.Common.{map, subst}
-use Rattle.cert_text.specs.Certificate.{AreApart}
+use Rattle.mate_facts.specs.Entries.{AreApart}
 use Rattle.cert_text.proofs.Apart.{rising_apart}
 use Rattle.cert_text.proofs.certificate.CertificateOf.entries.Goals as goal
 

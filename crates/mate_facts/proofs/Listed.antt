@@ -4,10 +4,10 @@ use Rattle.std.proofs.Math.ListN.{length-map}
 use Rattle.std.proofs.lemmas.Option.{slice_get-map, slice_get_read, slice_get_within, same_Some}
 use Rattle.std.specs.Prelude.{Some, slice_get}
 use Rattle.std.specs.Option.{option_map}
-use Rattle.cert_text.specs.declared.entry.MateEntry.{MateEntry}
+use Rattle.mate_facts.specs.declared.entry.MateEntry.{MateEntry}
 use Rattle.board_core.specs.Board.{Board}
-use Rattle.cert_text.specs.Certificate.{positions_of}
-use Rattle.cert_text.specs.Laws.{EntriesStand, EntriesAreListed, EntriesApart, EntriesAreFound}
+use Rattle.mate_facts.specs.Entries.{positions_of}
+use Rattle.mate_facts.specs.Laws.{EntriesStand, EntriesAreListed, EntriesApart, EntriesAreFound}
 use Rattle.list_laws.proofs.Standing.{at_place, contains_map}
 
 abbrev position_of : MateEntry → Board

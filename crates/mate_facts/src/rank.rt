@@ -1,10 +1,11 @@
 // The rank of a mate's entry.
 ghost use Rattle.std.specs.Prelude.{◌≡◌, ◌≤◌, ◌↔◌, IfSome, IsSome};
-ghost use Rattle.cert_text.specs.declared.limits.TheConstants.{MOST_RANK};
+ghost use Rattle.mate_facts.specs.declared.rank.TheConstants.{MOST_RANK};
 
-use crate::MOST_RANK;
+/// The greatest rank that an entry of a mate may have.
+pub const MOST_RANK: u32 = 999_999_999;
 
-/// A rank as an entry states it, 1 to [`MOST_RANK`]. Where the certificate is valid, the mate takes at most so many of the
+/// A rank as an entry states it, 1 to [`MOST_RANK`]. Where the entry is borne out, the mate takes at most so many of the
 /// attacker's moves.
 #[derive(Clone, Copy, PartialEq, Eq, PartialOrd, Ord, Debug)]
 pub struct Rank {

@@ -1,0 +1,3 @@
+-- The tsume rule.
+pub mod Entries
+pub mod Laws
