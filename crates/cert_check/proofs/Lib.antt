@@ -1,4 +1,3 @@
 pub mod Listing
 pub mod Entries
 pub mod Verdicts
-pub mod Finding

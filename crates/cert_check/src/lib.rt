@@ -9,5 +9,5 @@ mod places;
 mod reasons;
 mod verdict;
 
-pub use places::{Places, places_of};
+pub use places::places_of;
 pub use verdict::{Verdict, Why, check, valid_is_accepted};

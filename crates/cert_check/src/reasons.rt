@@ -5,16 +5,16 @@ ghost use Rattle.shogi_rules.specs.Rules.{IsQuiet, after};
 ghost use Rattle.shogi_rules.specs.Tsume.{IsCheck};
 ghost use Rattle.mate_def.specs.Mate.{HasEvasionTo};
 ghost use Rattle.mate_facts.specs.Entries.{AreApart, positions_of, IsBorneOut};
-ghost use Rattle.cert_check.specs.Places.{ArePlacesOf};
+ghost use Rattle.position_places.specs.Places.{ArePlacesOf};
 ghost use Rattle.cert_check.specs.Reasons.{MateReason, EscapeReason, IsHeld, IsFirstReason, IsEvasionJudged};
 
-use crate::places::Places;
 use crate::verdict::Why;
 use board_core::{Move, Position, order_laws};
 use check_moves::checks_into;
 use evasions::answers_into;
 use mate_facts::{MateEntry, entry_laws};
 use move_lists::Moves;
+use position_places::Places;
 use shogi_rules::{Problem, apply, is_check};
 use std::alloc::AllocError;
 

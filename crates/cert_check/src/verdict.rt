@@ -1,6 +1,6 @@
 // The verdict on a certificate.
 ghost use Rattle.std.specs.Prelude.{◌≡◌, ◌<◌, ◌↔◌, ℕ, length, IfOk, IsTrue, Contains, false};
-ghost use Rattle.cert_check.specs.Places.{ArePlacesOf};
+ghost use Rattle.position_places.specs.Places.{ArePlacesOf};
 ghost use Rattle.cert_check.specs.Valid.{IsValid, Shows};
 ghost use Rattle.cert_text.specs.Kinds.{problem_of, positions_in, IsKeptBy};
 ghost use Rattle.cert_check.specs.Reasons.{RootReason, EntryReason, EntryHolds, IsFirstReason, IsVerdict};
@@ -10,12 +10,13 @@ ghost use Rattle.cert_check.specs.declared.verdict.Verdict.TheVariants.{Accepted
 ghost use Rattle.cert_text.specs.declared.certificate.Certificate.{Certificate};
 ghost use Rattle.board_core.specs.Board.{Board};
 
-use crate::places::{Places, places_of};
+use crate::places::places_of;
 use crate::reasons::{escape_reason, mate_reason};
 use board_core::Move;
 use cert_text::Certificate;
 use mate_def::escape_is_no_mate;
 use move_lists::Moves;
+use position_places::Places;
 use shogi_rules::Problem;
 use std::alloc::{AllocError, Global};
 

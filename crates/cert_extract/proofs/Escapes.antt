@@ -16,8 +16,8 @@ use Rattle.mate_facts.specs.Entries.{AreApart}
 use Rattle.cert_order.specs.Entries.{AreEscapeEntries}
 use Rattle.notes.specs.declared.rule.Conclusion.{Conclusion}
 use Rattle.notes.specs.declared.rule.Conclusion.TheVariants.{Escape}
-use Rattle.cert_check.specs.declared.places.Places.{Places}
-use Rattle.cert_check.specs.Places.{ArePlacesOf, IsWith, IsPlaceOrNext}
+use Rattle.position_places.specs.declared.places.Places.{Places}
+use Rattle.position_places.specs.Places.{ArePlacesOf, IsWith, IsPlaceOrNext}
 use Rattle.list_laws.proofs.Standing.{contained}
 use Rattle.notes.specs.Valid.{IsValid}
 use Rattle.notes.specs.Derivation.{Derivation, attacker_of, conclusion_of, position_of, tag_of}

@@ -24,8 +24,8 @@ use Rattle.cert_extract.specs.Tree.{two_under}
 use Rattle.cert_extract.specs.Extracted.{IsMateFrom}
 use Rattle.cert_extract.proofs.Trees.{in_reverse, of_reverse}
 use Rattle.cert_extract.proofs.Rules.{IsPending, MatesDown, mates_down, kept_at, problem_at}
-use Rattle.cert_check.specs.declared.places.Places.{Places}
-use Rattle.cert_check.specs.Places.{ArePlacesOf, IsPlaceOrNext}
+use Rattle.position_places.specs.declared.places.Places.{Places}
+use Rattle.position_places.specs.Places.{ArePlacesOf, IsPlaceOrNext}
 use Rattle.shogi_rules.specs.Laws.{LegalBoardMoves}
 use Rattle.cert_extract.proofs.Escapes.{IsAhead, none_in, Adds, is_old, placed_new, placed_old, first_pending, popped}
 use Rattle.cert_extract.proofs.Texts.{check_has_text}

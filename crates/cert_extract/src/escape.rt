@@ -8,8 +8,8 @@ ghost use Rattle.cert_extract.specs.Extracted.{IsEscapeFrom};
 
 use crate::steps::push_next;
 use board_core::Position;
-use cert_check::Places;
 use notes::Note;
+use position_places::Places;
 use shogi_rules::Problem;
 use std::alloc::{AllocError, Global};
 

@@ -9,9 +9,9 @@ ghost use Rattle.cert_order.specs.Entries.{AreMateEntries};
 ghost use Rattle.cert_extract.specs.Extracted.{IsMateFrom};
 
 use crate::steps::push_next;
-use cert_check::Places;
 use mate_facts::{MateEntry, Rank};
 use notes::{Note, Rule};
+use position_places::Places;
 use shogi_rules::{Problem, legal_laws};
 use std::alloc::{AllocError, Global};
 

@@ -8,7 +8,7 @@ use Rattle.board_core.specs.declared.moves.Move.{Move}
 use Rattle.board_core.specs.Board.{Board}
 use Rattle.board_core.specs.Order.{order_of, RisesFrom, OrdersApart}
 use Rattle.shogi_rules.specs.Rules.{after}
-use Rattle.cert_check.specs.Places.{IsWith}
+use Rattle.position_places.specs.Places.{IsWith}
 use Rattle.plain_search.specs.Queue.{IsStep, IsWithAll, IsExpansion, IsQueue}
 use Rattle.plain_search.specs.Plain.{EndsLevel}
 use Rattle.list_laws.proofs.Standing.{contained, at_place}

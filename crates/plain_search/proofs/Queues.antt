@@ -6,9 +6,9 @@ use Rattle.std.proofs.lemmas.List.Elements.{Contains-push_cases}
 use Rattle.board_core.specs.declared.moves.Move.{Move}
 use Rattle.board_core.specs.Board.{Board}
 use Rattle.shogi_rules.specs.Rules.{after}
-use Rattle.cert_check.specs.Places.{ArePlacesOf, IsPlaceOrNext}
+use Rattle.position_places.specs.Places.{ArePlacesOf, IsPlaceOrNext}
 use Rattle.plain_search.specs.Queue.{IsWithAll}
-use Rattle.cert_check.specs.Places.{IsWith}
+use Rattle.position_places.specs.Places.{IsWith}
 use Rattle.plain_search.specs.Graph.{IsInPlay, IsKeptQueue}
 use Rattle.plain_search.specs.declared.graph.Queue.{Queue}
 use Rattle.list_laws.proofs.Standing.{get_kept, contained}

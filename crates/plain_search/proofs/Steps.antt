@@ -13,7 +13,7 @@ use Rattle.bit_boards.specs.declared.piece.Side.{Side}
 use Rattle.bit_boards.specs.declared.piece.Side.TheVariants.{Black, White}
 use Rattle.shogi_rules.specs.Tsume.{IsCheck, IsEvasion}
 use Rattle.shogi_rules.specs.Rules.{IsLegal, IsQuiet, after}
-use Rattle.cert_check.specs.Places.{IsWith}
+use Rattle.position_places.specs.Places.{IsWith}
 use Rattle.plain_search.specs.Queue.{IsStep, IsWithAll}
 use Rattle.plain_search.specs.Graph.{IsInPlay, IsKeptQueue, AreSteps, moves_of}
 use Rattle.plain_search.specs.declared.graph.Step.{Step}

@@ -9,7 +9,7 @@ use Rattle.board_core.specs.Board.{Board, kings_of}
 use Rattle.board_core.specs.Order.{Lists}
 use Rattle.board_core.specs.Text.{HasText}
 use Rattle.shogi_rules.specs.Rules.{IsQuiet, after}
-use Rattle.cert_check.specs.Places.{ArePlacesOf}
+use Rattle.position_places.specs.Places.{ArePlacesOf}
 use Rattle.plain_search.specs.Queue.{IsStep, IsQueue}
 use Rattle.plain_search.specs.declared.graph.Step.{Step}
 use Rattle.plain_search.specs.declared.graph.Queue.{Queue}

@@ -7,7 +7,7 @@ use Rattle.board_core.specs.Board.{Board}
 use Rattle.board_core.specs.Order.{Lists}
 use Rattle.shogi_rules.specs.Rules.{after}
 use Rattle.shogi_rules.specs.Tsume.{IsCheck, IsEvasion}
-use Rattle.cert_check.specs.Places.{IsWith}
+use Rattle.position_places.specs.Places.{IsWith}
 
 -- A step of play: a check of the attacker, or an evasion of the defender.
 abbrev pub IsStep : Side → Board → Move → Type 0

@@ -1,11 +1,11 @@
 // Positions by their place in a queue, and the steps between them.
 ghost use Rattle.std.specs.Prelude.{◌≡◌, ◌<◌, ◌∷◌, [], ◌↔◌, Some, IfOk, OnOk, IsTrue, length, slice_get};
 ghost use Rattle.board_core.specs.Board.{Board};
-ghost use Rattle.cert_check.specs.Places.{IsWith};
+ghost use Rattle.position_places.specs.Places.{IsWith};
 ghost use Rattle.plain_search.specs.Graph.{IsInPlay, IsKeptQueue, steps_at, expansions_of, positions_met};
 
 use board_core::{Move, Position};
-use cert_check::Places;
+use position_places::Places;
 use shogi_rules::Problem;
 use std::alloc::{AllocError, Global};
 

@@ -4,15 +4,15 @@ ghost use Rattle.board_core.specs.declared.moves.Move.{Move};
 ghost use Rattle.shogi_rules.specs.Rules.{IsQuiet, after};
 ghost use Rattle.shogi_rules.specs.Tsume.{IsEvasion};
 ghost use Rattle.mate_facts.specs.Entries.{positions_of};
-ghost use Rattle.cert_check.specs.Places.{ArePlacesOf};
+ghost use Rattle.position_places.specs.Places.{ArePlacesOf};
 ghost use Rattle.play_line.specs.Line.{IsDefence};
 ghost use Rattle.play_line.specs.Lasting.{IsLonger};
 
 use crate::finding::rank_after;
 use board_core::{Move, Position, order_laws};
-use cert_check::Places;
 use cert_text::MateCertificate;
 use evasions::answers;
+use position_places::Places;
 use shogi_rules::Problem;
 use std::alloc::{AllocError, Global};
 

@@ -2,13 +2,13 @@
 ghost use Rattle.std.specs.Prelude.{◌≡◌, ℕ, Some, Contains, slice_get};
 ghost use Rattle.shogi_rules.specs.Rules.{IsQuiet, IsLegal, after};
 ghost use Rattle.mate_facts.specs.Entries.{positions_of};
-ghost use Rattle.cert_check.specs.Places.{ArePlacesOf};
+ghost use Rattle.position_places.specs.Places.{ArePlacesOf};
 ghost use Rattle.play_line.specs.Line.{IsRankAt};
 
 use board_core::{Move, Position};
-use cert_check::Places;
 use cert_text::MateCertificate;
 use mate_facts::entry_laws;
+use position_places::Places;
 use shogi_rules::apply;
 
 /// The place of a position that is listed.

@@ -3,8 +3,8 @@ use Rattle.std.specs.Option.{option_map}
 use Rattle.std.proofs.lemmas.Option.{slice_get_read, slice_get-map}
 use Rattle.board_core.specs.Board.{Board}
 use Rattle.mate_facts.specs.Entries.{AreApart}
-use Rattle.cert_check.specs.Places.{IsWith}
-use Rattle.cert_check.proofs.Finding.{with_next}
+use Rattle.position_places.specs.Places.{IsWith}
+use Rattle.cert_check.proofs.Listing.{with_next}
 use Rattle.cert_check.proofs.places.places_of.Goals as goal
 
 pub loop-entry-preserved : goal.loop-entry-preserved

@@ -1,5 +1,5 @@
 use Rattle.std.proofs.Common.{take, map}
-use Rattle.cert_check.specs.Places.{ArePlacesOf}
+use Rattle.position_places.specs.Places.{ArePlacesOf}
 use Rattle.cert_check.proofs.places.places_of.Given as goal
 
 abbrev pub invariant-loop-entry : goal.invariant-loop-entry

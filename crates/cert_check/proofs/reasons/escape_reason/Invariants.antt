@@ -1,7 +1,7 @@
 use Rattle.std.proofs.Common.{◌≡◌, ◌<◌, ℕ, List, Contains, get_or}
 use Rattle.board_core.specs.declared.moves.Move.{Move}
 use Rattle.board_core.specs.Board.{Board}
-use Rattle.cert_check.specs.Places.{ArePlacesOf}
+use Rattle.position_places.specs.Places.{ArePlacesOf}
 use Rattle.mate_def.specs.Mate.{HasEvasionTo}
 use Rattle.cert_check.proofs.reasons.escape_reason.Given as goal
 

@@ -3,7 +3,7 @@ use Rattle.std.specs.Prelude.{Option}
 use Rattle.board_core.specs.Board.{Board}
 use Rattle.cert_text.specs.declared.certificate.Certificate.{Certificate}
 use Rattle.cert_text.specs.Kinds.{positions_in}
-use Rattle.cert_check.specs.Places.{ArePlacesOf}
+use Rattle.position_places.specs.Places.{ArePlacesOf}
 use Rattle.cert_check.specs.Reasons.{IsFirstReason, IsHeld, EscapeReason}
 use Rattle.cert_check.specs.declared.verdict.Why.{Why}
 use Rattle.cert_check.proofs.Verdicts.{turned, mate_judged, mate_quiet, escape_judged, escape_quiet}

@@ -1,5 +1,5 @@
 use Rattle.std.proofs.Common.{arith, sym, ◌∙◌, subst}
-use Rattle.cert_check.specs.Places.{ArePlacesOf}
+use Rattle.position_places.specs.Places.{ArePlacesOf}
 use Rattle.notes.specs.declared.rule.Conclusion.TheVariants.{Escape}
 use Rattle.cert_extract.proofs.Pushed.{lighter_walked, lighter_met}
 use Rattle.cert_extract.proofs.Escapes.{pending_first, is_old, placed_new, placed_old, escape_at_first, escape_on, escape_past, escape_done}

@@ -1,5 +1,5 @@
 use Rattle.std.proofs.Common.{map}
-use Rattle.cert_check.specs.Places.{ArePlacesOf}
+use Rattle.position_places.specs.Places.{ArePlacesOf}
 use Rattle.cert_extract.proofs.Trees.{weight}
 use Rattle.cert_extract.proofs.Escapes.{IsEscapeWalk}
 use Rattle.cert_extract.proofs.escape.positions.Given as goal

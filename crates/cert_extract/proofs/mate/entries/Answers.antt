@@ -2,7 +2,7 @@ use Rattle.std.proofs.Common.{List, set, arith, refl, sym, subst}
 use Rattle.mate_facts.specs.declared.entry.MateEntry.{MateEntry}
 use Rattle.notes.specs.declared.rule.Conclusion.TheVariants.{Mate}
 use Rattle.mate_facts.specs.Entries.{positions_of}
-use Rattle.cert_check.specs.Places.{ArePlacesOf}
+use Rattle.position_places.specs.Places.{ArePlacesOf}
 use Rattle.cert_extract.proofs.Pushed.{lighter_walked, lighter_met}
 use Rattle.cert_extract.proofs.Escapes.{pending_first}
 use Rattle.cert_extract.proofs.Mates.{within_entries, old_entry, positions_set, entries_placed_new, entries_placed_old, mate_at_first, mate_past, mate_on, mate_lower, mate_done}

@@ -1,6 +1,6 @@
 use Rattle.std.proofs.Common.{map}
 use Rattle.mate_facts.specs.Entries.{positions_of}
-use Rattle.cert_check.specs.Places.{ArePlacesOf}
+use Rattle.position_places.specs.Places.{ArePlacesOf}
 use Rattle.cert_extract.proofs.Trees.{weight}
 use Rattle.cert_extract.proofs.Mates.{IsMateWalk}
 use Rattle.cert_extract.proofs.mate.entries.Given as goal

@@ -4,7 +4,7 @@ use Rattle.std.proofs.lemmas.List.{take_more, take_all}
 use Rattle.board_core.specs.Board.{Board}
 use Rattle.board_core.specs.Order.{Lists}
 use Rattle.board_core.specs.declared.moves.Move.{Move}
-use Rattle.cert_check.specs.Places.{IsWith}
+use Rattle.position_places.specs.Places.{IsWith}
 use Rattle.plain_search.specs.Queue.{IsStep, IsWithAll}
 use Rattle.plain_search.specs.declared.graph.Step.{Step}
 use Rattle.plain_search.proofs.Steps.{AreFirstSteps, no_steps, step_more, all_steps, in_play_after, step_legal}

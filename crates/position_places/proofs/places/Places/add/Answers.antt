@@ -1,8 +1,8 @@
 use Rattle.std.proofs.Common.{◌∙◌, subst, arith}
 use Rattle.std.specs.BTreeMap.Entry.{map_with_value}
-use Rattle.cert_check.specs.Places.{ArePlacesOf}
-use Rattle.cert_check.proofs.Finding.{found, after_entry, place_of_entry}
-use Rattle.cert_check.proofs.places.Places.add.Goals as goal
+use Rattle.position_places.specs.Places.{ArePlacesOf}
+use Rattle.position_places.proofs.Finding.{found, after_entry, place_of_entry}
+use Rattle.position_places.proofs.places.Places.add.Goals as goal
 
 pub returns-clause-place : goal.returns-clause-place
 returns-clause-place c = λ positions known.

@@ -9,7 +9,7 @@ use Rattle.board_core.specs.Board.{Board}
 use Rattle.board_core.specs.Kept.{IsKept}
 use Rattle.board_core.specs.Key.{key_of}
 use Rattle.mate_facts.specs.Entries.{AreApart}
-use Rattle.cert_check.specs.declared.places.Places.{Places}
+use Rattle.position_places.specs.declared.places.Places.{Places}
 
 -- The order of keys: by their words.
 abbrev pub key_cmp : Key → Key → Ordering

@@ -1,5 +1,5 @@
 -- A position is found by its key exactly where it is listed.
-use Rattle.std.proofs.Common.{◌≡◌, ◌<◌, ◌+◌, ◌++◌, inl, inr, ℕ, List, [], ◌∷◌, length, take, Contains, arith, ap, sym, refl, ◌∙◌, subst, true, false, ⊎_elim, length-take, get_or-take, if◌then◌else◌}
+use Rattle.std.proofs.Common.{◌≡◌, ◌+◌, ◌++◌, inl, inr, ℕ, List, [], ◌∷◌, length, Contains, arith, ap, sym, refl, ◌∙◌, subst, true, false, ⊎_elim, if◌then◌else◌}
 use Rattle.std.specs.Prelude.{Some, None, Option, slice_get, IsSome, is_some, unwrap_or}
 use Rattle.std.specs.Ordering.{nat_cmp, is_eq}
 use Rattle.std.specs.Cmp.Lexicographic.{slice_cmp}
@@ -7,8 +7,8 @@ use Rattle.std.specs.BTreeMap.{get, is_at, Updates, btree_map_len}
 use Rattle.std.proofs.lemmas.Cmp.{nat_list_cmp_total, tied_itself}
 use Rattle.std.proofs.lemmas.Map.Lookups.{exact_bytes}
 use Rattle.std.proofs.lemmas.List.Elements.{Contains-push_cases}
-use Rattle.std.proofs.lemmas.Option.{get_or_from_slice_get, slice_get_within, slice_get_read}
-use Rattle.std.proofs.lemmas.List.{take_more, length_push}
+use Rattle.std.proofs.lemmas.Option.{get_or_from_slice_get, slice_get_within}
+use Rattle.std.proofs.lemmas.List.{length_push}
 use Rattle.std.proofs.lemmas.Bool.{cases_Bool}
 use Rattle.list_laws.proofs.Standing.{get_kept, get_last, apart_more, contained}
 use Rattle.list_laws.proofs.Mapped.{equal_from, written, unwritten}
@@ -16,9 +16,8 @@ use Rattle.board_core.specs.declared.keys.Key.{Key}
 use Rattle.board_core.specs.Board.{Board}
 use Rattle.board_core.specs.Kept.{IsKept}
 use Rattle.board_core.specs.Key.{key_of}
-use Rattle.cert_check.specs.declared.places.Places.{Places}
-use Rattle.mate_facts.specs.Entries.{AreApart}
-use Rattle.cert_check.specs.Places.{key_cmp, StandsAt, ArePlacesOf, IsPlace, IsPlaceOrNext, IsWith}
+use Rattle.position_places.specs.declared.places.Places.{Places}
+use Rattle.position_places.specs.Places.{key_cmp, StandsAt, ArePlacesOf, IsPlace, IsPlaceOrNext, IsWith}
 
 -- keys are found as one exactly where their words are the same
 same_words : (a k : Key) → is_at (key_cmp a) k ≡ true → a.0 ≡ k.0
@@ -120,22 +119,6 @@ pub with_new : (positions : List Board) (p : Board) (longer : List Board) → ¬
     → longer ≡ positions ++ p ∷ []
 with_new positions p longer absent (inl old) = absurd (absent old.0)
 with_new positions p longer absent (inr new) = new.1
-
--- among positions that are apart the next one isn't one of the first
-pub with_next : (positions : List Board) (i : ℕ) (p : Board) → AreApart positions → slice_get positions i ≡ Some p
-    → IsWith (take i positions) p (take (i + 1) positions)
-with_next positions i p apart at =
-    let inside = slice_get_within positions i p at in
-    inr (
-      (λ there.
-          let below = there.1 in
-          let shorter : there.0 < i = omega (arith, length-take i positions) in
-          let earlier = slice_get_read positions (length positions) there.0 p refl (omega (arith, length-take i positions))
-          (sym (sym (get_or-take i positions there.0 p shorter) ∙ there.2)) in
-          let same = apart there.0 i p earlier at in
-          omega arith),
-      take_more positions i p inside ∙ ap (λ (x : Board). take i positions ++ x ∷ []) (get_or_from_slice_get positions i p p at),
-    )
 
 -- what is found by the key is the place of the position
 pub found : (places : Places) (key : Key) (p : Board) (o : Option ℕ) (positions : List Board) → key.0 ≡ key_of p

@@ -1,6 +1,6 @@
 use Rattle.std.proofs.Common.{◌∙◌}
-use Rattle.cert_check.proofs.Finding.{found}
-use Rattle.cert_check.proofs.places.Places.find.Goals as goal
+use Rattle.position_places.proofs.Finding.{found}
+use Rattle.position_places.proofs.places.Places.find.Goals as goal
 
 pub returns : goal.returns
 returns c = λ positions places.

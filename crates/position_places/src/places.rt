@@ -1,0 +1,51 @@
+// Finding a position among those of a list.
+ghost use Rattle.std.specs.Prelude.{[], ◌↔◌, List, OnOk, IfOk, OnErr, IsTrue, Contains};
+ghost use Rattle.board_core.specs.Board.{Board};
+ghost use Rattle.position_places.specs.Places.{ArePlacesOf, IsPlace, IsPlaceOrNext, IsWith};
+
+use board_core::{Key, Position, key};
+use std::alloc::{AllocError, Global};
+use std::collections::BTreeMap;
+
+/// Where each position of a list stands, by its key: found in a time that grows as the logarithm of their number.
+#[derive(Drop)]
+pub struct Places {
+    by_key: BTreeMap<Key, usize>,
+}
+
+impl Places {
+    /// The places of no position. Takes no memory.
+    pub fn new(alloc: Global) -> Places
+        ensures { ArePlacesOf result [] }
+    {
+        Places {
+            by_key: BTreeMap::new(alloc),
+        }
+    }
+
+    /// The place of the position: where it isn't listed yet, it is listed behind the others, and its place is how many they
+    /// were. Errors: want of memory alone, and then the places stay as they were.
+    pub fn add(&mut self, position: &Position) -> Result<usize, AllocError>
+        ensures place { IfOk result (λ place. (positions : List Board) → ArePlacesOf self.old positions → IsPlaceOrNext positions position.now place) }
+        ensures added { OnOk result ((positions longer : List Board) → ArePlacesOf self.old positions → IsWith positions position.now longer → ArePlacesOf self.new longer) }
+        ensures unchanged { OnErr result ((positions : List Board) → ArePlacesOf self.old positions → ArePlacesOf self.new positions) }
+    {
+        let next = self.by_key.len();
+        let place = *self.by_key.entry(key(position))?.or_insert(next);
+        Ok(place)
+    }
+
+    /// Whether the position is listed.
+    pub fn holds(&self, position: &Position) -> bool
+        ensures { (positions : List Board) → ArePlacesOf self.now positions → IsTrue result ↔ Contains positions position.now }
+    {
+        self.find(position).is_some()
+    }
+
+    /// The place of the position, where it is listed.
+    pub fn find(&self, position: &Position) -> Option<usize>
+        ensures { (positions : List Board) → ArePlacesOf self.now positions → IsPlace positions position.now result }
+    {
+        self.by_key.get(&key(position)).copied()
+    }
+}
