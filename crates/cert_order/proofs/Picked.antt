@@ -2,6 +2,7 @@
 use Rattle.std.proofs.Common.{◌≡◌, ◌<◌, ◌≤◌, ◌+◌, ◌++◌, inl, inr, ℕ, zero, suc, List, [], ◌∷◌, get_or, length, map, take, Contains, arith, ap, sym, refl, ◌∙◌, subst, ⊎_elim}
 use Rattle.std.specs.Prelude.{Some, slice_get}
 use Rattle.std.specs.Option.{option_map}
+use Rattle.std.specs.List.{AllByRecursion}
 use Rattle.std.proofs.lemmas.List.{take_more, take_all, length-map, map-id}
 use Rattle.std.proofs.lemmas.Option.{slice_get-map, slice_get_read}
 use Rattle.bit_boards.specs.declared.piece.Side.{Side}
@@ -9,7 +10,9 @@ use Rattle.mate_facts.specs.declared.entry.MateEntry.{MateEntry}
 use Rattle.board_core.specs.Board.{Board}
 use Rattle.shogi_rules.specs.Tsume.{IsProblem}
 use Rattle.mate_def.specs.Mate.{IsClosed}
-use Rattle.cert_text.specs.Certificate.{Mating, Escaping, IsMating, IsEscaping, IsRising}
+use Rattle.board_core.specs.Kept.{IsKept}
+use Rattle.cert_text.specs.Certificate.{Mating, Escaping, IsMating, IsEscaping, IsRising, MayBeListed, mate_form, escape_form}
+use Rattle.cert_text.specs.Reading.{IsReadCount, IsReadableOf}
 use Rattle.mate_facts.specs.Entries.{positions_of, IsListedBelow}
 use Rattle.cert_check.specs.Valid.{ValidMate, ValidEscape}
 use Rattle.cert_order.specs.Entries.{AreMateEntries, AreEscapeEntries, HaveSame}
@@ -58,6 +61,21 @@ module _ {X : Type 0} where
   is_picked xs order ys all p x c =
       let o = all c.0 c.1 in
       contained ys o.0 x (picked_place xs order ys p o.0 c.0 x (at_place order c.0 o) (at_place xs x c))
+
+-- as many are picked as there are places
+pub as_many_picked : {X : Type 0} (xs : List X) (order : List ℕ) (ys : List X) → ArePicked xs order ys → length ys ≡ length order
+as_many_picked xs [] [] p = refl
+as_many_picked xs [] (z ∷ zs) p = absurd p
+as_many_picked xs (o ∷ os) [] p = absurd p
+as_many_picked xs (o ∷ os) (z ∷ zs) p = ap suc (as_many_picked xs os zs p.1)
+
+-- what each listed item has, all have
+all_listed : {X : Type 0} (P : X → Type 0) (xs : List X) → ((x : X) → Contains xs x → P x) → AllByRecursion P xs
+all_listed P [] each = tt
+all_listed P (x ∷ xs) each = (
+  each x (zero, omega arith, refl),
+  all_listed P xs (λ y c. each y (suc c.0, (let inside = c.1 in omega (arith, inside)), c.2)),
+)
 
 picked_map : {X Y : Type 0} (f : X → Y) (xs : List X) (order : List ℕ) (ys : List X) → ArePicked xs order ys → ArePicked (map f xs) order (map f ys)
 picked_map {X} {Y} f xs [] [] p = tt
@@ -136,6 +154,30 @@ same_mate p entries sorted order certificate is ordered picked =
     subst (λ (c : Mating). HaveSame c.entries entries) (sym is)
     (λ entry. (of_picked entries order sorted picked entry, is_picked entries order sorted (all_entries entries order ordered) picked entry))
 
+pub count_mate : (p : Board) (entries sorted : List MateEntry) (order : List ℕ) (certificate : Mating)
+    → certificate ≡ record { problem = p; entries = sorted }
+    → IsTextOrder (positions_of entries) order → ArePicked entries order sorted → length certificate.entries ≡ length entries
+count_mate p entries sorted order certificate is ordered picked =
+    ap (λ (c : Mating). length c.entries) is ∙ (as_many_picked entries order sorted picked ∙ (ordered.count ∙ as_many entries))
+
+pub readable_mate : (p : Board) (entries sorted : List MateEntry) (order : List ℕ) (certificate : Mating)
+    → certificate ≡ record { problem = p; entries = sorted } → IsProblem p → AreMateEntries p entries
+    → IsTextOrder (positions_of entries) order → ArePicked entries order sorted
+    → IsReadCount (length certificate.entries) → IsReadableOf (mate_form certificate.problem) certificate
+readable_mate p entries sorted order certificate is accepted are ordered picked =
+    let keeps = mating p entries sorted order accepted are ordered picked in
+    subst (λ (c : Mating). IsReadCount (length c.entries) → IsReadableOf (mate_form c.problem) c) (sym is)
+    (λ count. record {
+      kept = of_entries IsKept entries are.kept p are.listed;
+      is_problem = accepted;
+      count = count;
+      good = record {
+        fit = all_listed (MayBeListed (mate_form p)) sorted
+            (λ entry c. record { kept = are.kept entry (of_picked entries order sorted picked entry c); listed = keeps.listed entry c });
+        rising = keeps.rising;
+      };
+    })
+
 -- 3. An escape's entries.
 
 pub escaping : (p : Board) (entries sorted : List Board) (order : List ℕ) → IsProblem p → AreEscapeEntries p entries
@@ -170,3 +212,27 @@ pub same_escape : (p : Board) (entries sorted : List Board) (order : List ℕ) (
 same_escape p entries sorted order certificate is ordered picked =
     subst (λ (c : Escaping). HaveSame c.entries entries) (sym is)
     (λ b. (of_picked entries order sorted picked b, is_picked entries order sorted ordered.all picked b))
+
+pub count_escape : (p : Board) (entries sorted : List Board) (order : List ℕ) (certificate : Escaping)
+    → certificate ≡ record { problem = p; entries = sorted } → IsTextOrder entries order → ArePicked entries order sorted
+    → length certificate.entries ≡ length entries
+count_escape p entries sorted order certificate is ordered picked =
+    ap (λ (c : Escaping). length c.entries) is ∙ (as_many_picked entries order sorted picked ∙ ordered.count)
+
+pub readable_escape : (p : Board) (entries sorted : List Board) (order : List ℕ) (certificate : Escaping)
+    → certificate ≡ record { problem = p; entries = sorted } → IsProblem p → AreEscapeEntries p entries
+    → IsTextOrder entries order → ArePicked entries order sorted
+    → IsReadCount (length certificate.entries) → IsReadableOf (escape_form certificate.problem) certificate
+readable_escape p entries sorted order certificate is accepted are ordered picked =
+    let keeps = escaping p entries sorted order accepted are ordered picked in
+    subst (λ (c : Escaping). IsReadCount (length c.entries) → IsReadableOf (escape_form c.problem) c) (sym is)
+    (λ count. record {
+      kept = are.kept p are.listed;
+      is_problem = accepted;
+      count = count;
+      good = record {
+        fit = all_listed (MayBeListed (escape_form p)) sorted
+            (λ b c. record { kept = are.kept b (of_picked entries order sorted picked b c); listed = keeps.listed b c });
+        rising = keeps.rising;
+      };
+    })

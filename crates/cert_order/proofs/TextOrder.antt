@@ -1,6 +1,6 @@
 -- A map from texts to places holds the places of the positions in the order of their texts.
-use Rattle.std.proofs.Common.{◌≡◌, ◌≢◌, ◌<◌, ◌+◌, ℕ, suc, List, [], ◌∷◌, length, Contains, Vec, arith, ap, sym, refl, ◌∙◌, subst, true, false, ⊎_elim}
-use Rattle.std.specs.Prelude.{Some, None, slice_get}
+use Rattle.std.proofs.Common.{◌≡◌, ◌≢◌, ◌<◌, ◌+◌, if◌then◌else◌, ℕ, suc, Bool, Option, List, [], ◌∷◌, length, Contains, Vec, arith, ap, sym, refl, ◌∙◌, subst, true, false, ⊎_elim}
+use Rattle.std.specs.Prelude.{Some, None, is_some, slice_get}
 use Rattle.std.specs.Global.{Global}
 use Rattle.std.specs.Ordering.{nat_cmp, is_eq}
 use Rattle.std.specs.Cmp.{IsTotalOrder}
@@ -11,6 +11,7 @@ use Rattle.std.specs.Map.{lookup, values_of, keys_of}
 use Rattle.std.specs.List.Sorted.{IsStrictlySortedBy}
 use Rattle.std.specs.BTreeMap.{get, is_at, BTreeMap, Updates, IsOrdered, values}
 use Rattle.std.proofs.lemmas.Bool.{cases_eq, cases_Bool}
+use Rattle.std.proofs.lemmas.List.{length-map}
 use Rattle.std.proofs.lemmas.Cmp.{nat_list_cmp_total, tied_itself, on_total}
 use Rattle.std.proofs.lemmas.Map.Lookups.{exact_bytes}
 use Rattle.std.proofs.lemmas.Map.Entries.{place_from_lookup, btree_map_get_place}
@@ -44,10 +45,11 @@ pub record HasKey (by_text : BTreeMap Text ℕ) (place : ℕ) : Type 0 where
   pub text : Text
   pub leads : get text_cmp by_text text ≡ Some place
 
--- the map has the texts of the first positions, each with its place
+-- the map has the texts of the first positions, each with its place, and no others
 pub record AreTextsBelow (positions : List Board) (bound : ℕ) (by_text : BTreeMap Text ℕ) : Type 0 where
   pub right : (text : Text) (place : ℕ) → get text_cmp by_text text ≡ Some place → HasTextAt positions bound place text
   pub all : (place : ℕ) → place < bound → HasKey by_text place
+  pub count : length by_text.entries ≡ bound
 
 -- 1. The map grows.
 
@@ -57,6 +59,7 @@ none_yet positions by_text empty = record {
       let at : None ≡ Some place = subst (λ (es : List (Text × ℕ)). lookup (is_at (text_cmp text)) es ≡ Some place) empty h in
       absurd (cc);
   all = λ place h. absurd (omega arith);
+  count = ap (λ (es : List (Text × ℕ)). length es) empty;
 }
 
 same_text : (a k : Text) → is_at (text_cmp a) k ≡ true → a.items ≡ k.items
@@ -101,17 +104,36 @@ stays positions n p key old new apart kept here words own updates known place h 
     (λ (no : is_at (text_cmp key) k.text ≡ false). record { text = k.text; leads = unwritten text_cmp old new key n updates k.text no ∙ k.leads })
     (cases_Bool (is_at (text_cmp key) k.text))
 
-pub one_text_more : (positions : List Board) (n : ℕ) (p : Board) (key : Text) (old new : BTreeMap Text ℕ)
+-- no position so far has the text of the next one
+no_text_yet : (positions : List Board) (n : ℕ) (p : Board) (key : Text) (old : BTreeMap Text ℕ)
+    → AreApart positions → ((b : Board) → Contains positions b → IsKept b)
+    → slice_get positions n ≡ Some p → ((other : Board) → IsKept other → sfen_of other ≡ key.items → other ≡ p)
+    → AreTextsBelow positions n old → (found : Option ℕ) → get text_cmp old key ≡ found → is_some found ≡ false
+no_text_yet positions n p key old apart kept here own known None e = refl
+no_text_yet positions n p key old apart kept here own known (Some place) e =
+    let s = known.right key place e in
+    let same : s.position ≡ p = own s.position (kept s.position (contained positions place s.position s.there)) s.text_of in
+    let one : place ≡ n = apart place n p (s.there ∙ ap (λ (b : Board). Some b) same) here in
+    absurd (let below = s.below in omega (arith, below, one))
+
+pub one_text_more : (positions : List Board) (n : ℕ) (p : Board) (key : Text) (old new : BTreeMap Text ℕ) (found : Option ℕ)
     → AreApart positions → ((b : Board) → Contains positions b → IsKept b)
     → slice_get positions n ≡ Some p → key.items ≡ sfen_of p → ((other : Board) → IsKept other → sfen_of other ≡ key.items → other ≡ p)
-    → Updates text_cmp old new key (Some n) → AreTextsBelow positions n old → AreTextsBelow positions (n + 1) new
-one_text_more positions n p key old new apart kept here words own updates known = record {
+    → Updates text_cmp old new key (Some n) → found ≡ get text_cmp old key
+    → length new.entries ≡ length old.entries + (if is_some found then 0 else 1)
+    → AreTextsBelow positions n old → AreTextsBelow positions (n + 1) new
+one_text_more positions n p key old new found apart kept here words own updates was longer known = record {
   right = right_after positions n p key old new here words updates known;
   all = λ place h.
       ⊎_elim
       (λ (last : place ≡ n). record { text = key; leads = written text_cmp old new key n updates key (at_itself key) ∙ ap (λ (i : ℕ). Some i) (sym last) })
       (λ (sooner : place ≢ n). stays positions n p key old new apart kept here words own updates known place (omega arith))
       (cases_eq place n);
+  count =
+      let none = no_text_yet positions n p key old apart kept here own known found (sym was) in
+      let more = longer ∙ ap (λ (there : Bool). length old.entries + (if there then 0 else 1)) none in
+      let before = known.count in
+      omega (arith, more, before);
 }
 
 -- 2. Its values are the order.
@@ -162,5 +184,6 @@ text_ordered positions n by_text order whole is ordered known =
           let e = from_map (λ (e : Text × ℕ). e.1) by_text.entries c.0 place (at_place (values by_text) place c) in
           let r = right c.0 e.0.0 e.0.1 e.1 in
           subst (λ (n : ℕ). n < length positions) e.2 r.below;
+      count = length-map by_text.entries (λ (e : Text × ℕ). e.1) ∙ known_all.count;
       rises = rising positions by_text.entries ordered right;
     })

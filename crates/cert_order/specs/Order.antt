@@ -11,10 +11,11 @@ RiseAt positions (i ∷ []) = Unit {0}
 RiseAt positions (i ∷ j ∷ rest) =
     ((a b : Board) → slice_get positions i ≡ Some a → slice_get positions j ≡ Some b → IsBefore a b) × RiseAt positions (j ∷ rest)
 
--- All places of the list, in the order of the bytes of the positions' SFEN texts.
+-- All places of the list, each once, in the order of the bytes of the positions' SFEN texts.
 pub record IsTextOrder (positions : List Board) (order : List ℕ) : Type 0 where
   pub all : (place : ℕ) → place < length positions → Contains order place
   pub within : (place : ℕ) → Contains order place → place < length positions
+  pub count : length order ≡ length positions
   pub rises : RiseAt positions order
 
 -- The picked items are those of the list at the places of the order, one by one.

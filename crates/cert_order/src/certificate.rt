@@ -1,5 +1,7 @@
 // Certificates of entries that are yet to be put in order.
-ghost use Rattle.std.specs.Prelude.{◌<◌, ℕ, IfOk, Contains, length};
+ghost use Rattle.std.specs.Prelude.{◌≡◌, ◌<◌, ℕ, IfOk, Contains, length};
+ghost use Rattle.cert_text.specs.Certificate.{mate_form, escape_form};
+ghost use Rattle.cert_text.specs.Reading.{IsReadCount, IsReadableOf};
 ghost use Rattle.cert_check.specs.Valid.{ValidMate, ValidEscape};
 ghost use Rattle.cert_order.specs.Entries.{AreMateEntries, AreEscapeEntries, HaveSame};
 ghost use Rattle.cert_order.specs.Order.{ArePicked};
@@ -23,8 +25,8 @@ fn items_at<T: Copy>(alloc: Global, items: &[T], order: &[usize]) -> Result<Vec<
     Ok(picked)
 }
 
-/// The certificate of a mate's entries: it is about the problem, lists the same entries, in the order of the bytes of their positions'
-/// SFEN texts, and is valid. Errors: want of memory alone.
+/// The certificate of a mate's entries: it is about the problem, lists the same entries, each once, in the order of the bytes of their
+/// positions' SFEN texts, and is valid. Its text can be read, where a reader takes that many entries. Errors: want of memory alone.
 pub fn mate_certificate(
     alloc: Global,
     problem: &Problem,
@@ -33,6 +35,10 @@ pub fn mate_certificate(
     requires { AreMateEntries problem.now.position entries.now }
     ensures valid { IfOk result (λ certificate. ValidMate certificate problem.now.position) }
     ensures same { IfOk result (λ certificate. HaveSame certificate.entries entries.now) }
+
+    // It has as many entries. Where that many are read, it can be read once it is written.
+    ensures count { IfOk result (λ certificate. length certificate.entries ≡ length entries.now) }
+    ensures readable { IfOk result (λ certificate. IsReadCount (length certificate.entries) → IsReadableOf (mate_form certificate.problem) certificate) }
 {
     let mut positions = Vec::new(alloc);
     for entry in entries {
@@ -43,8 +49,8 @@ pub fn mate_certificate(
     Ok(MateCertificate::new(*problem, sorted))
 }
 
-/// The certificate of an escape's positions: it is about the problem, lists the same positions, in the order of the bytes of their SFEN
-/// texts, and is valid. Errors: want of memory alone.
+/// The certificate of an escape's positions: it is about the problem, lists the same positions, each once, in the order of the bytes of
+/// their SFEN texts, and is valid. Its text can be read, where a reader takes that many entries. Errors: want of memory alone.
 pub fn escape_certificate(
     alloc: Global,
     problem: &Problem,
@@ -53,6 +59,10 @@ pub fn escape_certificate(
     requires { AreEscapeEntries problem.now.position entries.now }
     ensures valid { IfOk result (λ certificate. ValidEscape certificate problem.now.position) }
     ensures same { IfOk result (λ certificate. HaveSame certificate.entries entries.now) }
+
+    // It has as many entries. Where that many are read, it can be read once it is written.
+    ensures count { IfOk result (λ certificate. length certificate.entries ≡ length entries.now) }
+    ensures readable { IfOk result (λ certificate. IsReadCount (length certificate.entries) → IsReadableOf (escape_form certificate.problem) certificate) }
 {
     let order = text_order(alloc, entries)?;
     let sorted = items_at(alloc, entries, &order)?;

@@ -1,6 +1,6 @@
 use Rattle.std.proofs.Common.{List, ℕ, Contains, subst}
 use Rattle.cert_order.specs.Order.{ArePicked}
-use Rattle.cert_order.proofs.Picked.{escaping, valid_escape, same_escape}
+use Rattle.cert_order.proofs.Picked.{escaping, valid_escape, same_escape, count_escape, readable_escape}
 use Rattle.cert_order.proofs.certificate.escape_certificate.Goals as goal
 
 pub items_at-requires : goal.items_at-requires
@@ -23,4 +23,16 @@ pub returns-clause-same : goal.returns-clause-same
 returns-clause-same c =
     same_escape c.args.problem.now.position c.args.entries.now c.in_ok-sorted.sorted.items c.in_ok-order.order.items c.new.result c.new.ensures
     c.in_ok-order.ensures
+    (subst (λ (os : List ℕ). ArePicked c.args.entries.now os c.in_ok-sorted.sorted.items) c.deref.ensures.value c.in_ok-sorted.ensures)
+
+pub returns-clause-count : goal.returns-clause-count
+returns-clause-count c =
+    count_escape c.args.problem.now.position c.args.entries.now c.in_ok-sorted.sorted.items c.in_ok-order.order.items c.new.result c.new.ensures
+    c.in_ok-order.ensures
+    (subst (λ (os : List ℕ). ArePicked c.args.entries.now os c.in_ok-sorted.sorted.items) c.deref.ensures.value c.in_ok-sorted.ensures)
+
+pub returns-clause-readable : goal.returns-clause-readable
+returns-clause-readable c =
+    readable_escape c.args.problem.now.position c.args.entries.now c.in_ok-sorted.sorted.items c.in_ok-order.order.items c.new.result c.new.ensures
+    c.args.problem.now.accepted c.requires c.in_ok-order.ensures
     (subst (λ (os : List ℕ). ArePicked c.args.entries.now os c.in_ok-sorted.sorted.items) c.deref.ensures.value c.in_ok-sorted.ensures)

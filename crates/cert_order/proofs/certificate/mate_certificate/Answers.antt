@@ -3,7 +3,7 @@ use Rattle.board_core.specs.Board.{Board}
 use Rattle.board_core.specs.Kept.{IsKept}
 use Rattle.mate_facts.specs.Entries.{AreApart}
 use Rattle.cert_order.specs.Order.{IsTextOrder, ArePicked}
-use Rattle.cert_order.proofs.Picked.{all_positions, as_many, of_entries, mating, valid_mate, same_mate}
+use Rattle.cert_order.proofs.Picked.{all_positions, as_many, of_entries, mating, valid_mate, same_mate, count_mate, readable_mate}
 use Rattle.cert_order.proofs.certificate.mate_certificate.Goals as goal
 
 pub text_order-requires-clause-apart : goal.text_order-requires-clause-apart
@@ -41,4 +41,8 @@ returns c =
           c.requires ordered picked;
       same = same_mate c.args.problem.now.position c.args.entries.now c.in_ok-sorted.sorted.items c.in_ok-order.order.items c.new.result c.new.ensures
           ordered picked;
+      count = count_mate c.args.problem.now.position c.args.entries.now c.in_ok-sorted.sorted.items c.in_ok-order.order.items c.new.result c.new.ensures
+          ordered picked;
+      readable = readable_mate c.args.problem.now.position c.args.entries.now c.in_ok-sorted.sorted.items c.in_ok-order.order.items c.new.result
+          c.new.ensures c.args.problem.now.accepted c.requires ordered picked;
     }

@@ -12,9 +12,11 @@ loop-place-init c = none_yet c.args.positions.now c.new-by_text.result c.new-by_
 pub loop-place-preserved : goal.loop-place-preserved
 loop-place-preserved c =
     one_text_more c.args.positions.now c.loop-place.place c.index-positions-place.result c.in_ok-write_sfen.field-0 c.loop-place.by_text c.insert.new.self
+    c.in_ok-insert.field-0
     c.requires.apart c.requires.kept
     (slice_get_read c.args.positions.now (length c.args.positions.now) c.loop-place.place c.index-positions-place.result (omega arith) (omega arith) c.index-positions-place.is)
-    c.in_ok-write_sfen.ensures.text c.in_ok-write_sfen.ensures.apart c.in_ok-insert.ensures.updates c.loop-place.invariant
+    c.in_ok-write_sfen.ensures.text c.in_ok-write_sfen.ensures.apart c.in_ok-insert.ensures.updates
+    c.in_ok-insert.ensures.old c.in_ok-insert.ensures.len c.loop-place.invariant
 
 pub returns : goal.returns
 returns c =
