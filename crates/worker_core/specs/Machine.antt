@@ -4,7 +4,7 @@ use Rattle.notes.specs.Derivation.{Derivation}
 use Rattle.visit_log.specs.Frame.{Task}
 use Rattle.visit_log.specs.Machine.{State}
 use Rattle.visit_log.specs.declared.parts.Stage.{Stage}
-use Rattle.visit_log.specs.declared.parts.Stage.TheVariants.{Polling, Leaving, Posting}
+use Rattle.visit_log.specs.declared.parts.Stage.TheVariants.{Polling, Looking, Leaving, Posting, Winding}
 use Rattle.visit_log.specs.declared.words.Request.{Request}
 use Rattle.visit_log.specs.declared.words.Request.TheVariants.{Poll}
 use Rattle.visit_log.specs.declared.parts.Left.TheVariants.{Solved}
@@ -33,3 +33,13 @@ is_poll request = false
 abbrev pub polls_at : Stage → Bool
 polls_at (Polling entry) = true
 polls_at stage = false
+
+-- Whether a worker at this stage looks next.
+abbrev pub looks_at : Stage → Bool
+looks_at (Looking place) = true
+looks_at stage = false
+
+-- Whether a worker at this stage winds up.
+abbrev pub winds_at : Stage → Bool
+winds_at (Winding end) = true
+winds_at stage = false

@@ -3,8 +3,8 @@ ghost use Rattle.std.specs.Prelude.{◌≡◌, ◌≤◌, ℕ, List, Option, Som
 ghost use Rattle.search_limits.specs.declared.expansions.TheConstants.{MOST_EXPANSIONS};
 ghost use Rattle.board_core.specs.declared.keys.Key.{Key};
 ghost use Rattle.notes.specs.Derivation.{Derivation};
-ghost use Rattle.notes.specs.declared.note.NoteEnd.TheVariants.{TooHigh as NoteHigh};
-ghost use Rattle.visit_log.specs.declared.words.WorkEnd.TheVariants.{TooHigh};
+ghost use Rattle.notes.specs.declared.note.NoteEnd.TheVariants.{TooHigh as NoteHigh, NoMemory as NoNoteMemory};
+ghost use Rattle.visit_log.specs.declared.words.WorkEnd.TheVariants.{TooHigh, NoMemory};
 ghost use Rattle.visit_log.specs.declared.parts.Left.TheVariants.{Solved};
 ghost use Rattle.visit_log.specs.declared.parts.Stage.TheVariants.{Polling, Drawing, Entering, Looking, Claiming, Leaving, Posting, Winding};
 ghost use Rattle.visit_log.specs.declared.words.Answer.TheVariants.{Poll as Polled, Draw as Drew, Claim as Claimed, Look as Looked, Enter as Entered, Leave as LeftIt, Post as PostedIt};
@@ -15,7 +15,7 @@ ghost use Rattle.visit_log.specs.Machine.{start, wind, starve, asks, asks_at, as
 ghost use Rattle.visit_log.specs.Laws.{IsCounted};
 ghost use Rattle.visit_log.specs.Sound.{IsSound, IsSoundAt, IsListed, IsSoundVisit, IsSoundPlace, IsSoundEntry, IsLookedAt, AreSound};
 ghost use Rattle.worker_core.specs.Stack.{HasTop, HasOver};
-ghost use Rattle.worker_core.specs.Machine.{IsCopy, IsNotPosting, polls_at};
+ghost use Rattle.worker_core.specs.Machine.{IsCopy, IsNotPosting, polls_at, looks_at, winds_at};
 
 use crate::stack::Stack;
 use board_core::key;
@@ -54,8 +54,8 @@ impl Core {
     ghost use Rattle.std.specs.Prelude.{◌≡◌, ◌≤◌, ℕ, List, Option, Some, None, true, IfOk, Err};
     ghost use Rattle.board_core.specs.declared.keys.Key.{Key};
     ghost use Rattle.notes.specs.Derivation.{Derivation};
-    ghost use Rattle.notes.specs.declared.note.NoteEnd.TheVariants.{TooHigh as NoteHigh};
-    ghost use Rattle.visit_log.specs.declared.words.WorkEnd.TheVariants.{TooHigh};
+    ghost use Rattle.notes.specs.declared.note.NoteEnd.TheVariants.{TooHigh as NoteHigh, NoMemory as NoNoteMemory};
+    ghost use Rattle.visit_log.specs.declared.words.WorkEnd.TheVariants.{TooHigh, NoMemory};
     ghost use Rattle.visit_log.specs.declared.parts.Left.TheVariants.{Solved};
     ghost use Rattle.visit_log.specs.declared.parts.Stage.TheVariants.{Polling, Drawing, Entering, Looking, Claiming, Leaving, Posting, Winding};
     ghost use Rattle.visit_log.specs.declared.words.Answer.TheVariants.{Poll as Polled, Draw as Drew, Claim as Claimed, Look as Looked, Enter as Entered, Leave as LeftIt, Post as PostedIt};
@@ -65,7 +65,7 @@ impl Core {
     ghost use Rattle.visit_log.specs.Laws.{IsCounted};
     ghost use Rattle.visit_log.specs.Sound.{IsSound, IsSoundAt, IsListed, IsSoundVisit, IsSoundPlace, IsSoundEntry, IsLookedAt, AreSound};
     ghost use Rattle.worker_core.specs.Stack.{HasTop, HasOver};
-    ghost use Rattle.worker_core.specs.Machine.{IsCopy, IsNotPosting, polls_at};
+    ghost use Rattle.worker_core.specs.Machine.{IsCopy, IsNotPosting, polls_at, looks_at, winds_at};
 
     /// The machine before it asks anything. Takes no memory.
     pub(crate) fn new(alloc: Global, problem: &Problem, number: u32) -> Core
@@ -201,6 +201,7 @@ impl Core {
         ensures made { IfOk result (λ both. HasTop (λ f. IsMade self.now.task f both.0) self.now.state.frames) }
         ensures copy { IfOk result (λ both. both.1 ≡ both.0) }
         ensures high { result ≡ Err NoteHigh → HasTop (λ f. IsRefusal self.now.task f TooHigh) self.now.state.frames }
+        ensures low { result ≡ Err NoNoteMemory → HasTop (λ f. IsRefusal self.now.task f NoMemory) self.now.state.frames }
     {
         let note = self.stack.make_note(alloc)?;
         let copy = note.share()?;
@@ -346,6 +347,20 @@ impl Core {
         ensures { result ≡ polls_at self.now.state.stage }
     {
         matches!(self.stage, Stage::Polling(_))
+    }
+
+    /// Whether it looks next.
+    pub(crate) fn is_looking(&self) -> bool
+        ensures { result ≡ looks_at self.now.state.stage }
+    {
+        matches!(self.stage, Stage::Looking(_))
+    }
+
+    /// Whether it winds up.
+    pub(crate) fn is_winding(&self) -> bool
+        ensures { result ≡ winds_at self.now.state.stage }
+    {
+        matches!(self.stage, Stage::Winding(_))
     }
 
     /// The path.

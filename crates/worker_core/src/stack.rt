@@ -1,9 +1,9 @@
 // The visits of a worker that are going on, and its path.
-ghost use Rattle.std.specs.Prelude.{◌≡◌, ◌<◌, ◌+◌, ◌∷◌, [], ℕ, List, Option, Some, None, true, OnOk, OnErr, IfOk, IsSome, IsTrue, ◌↔◌, Err, slice_get, option_copied, reverse, length, map};
+ghost use Rattle.std.specs.Prelude.{◌≡◌, ◌≤◌, ◌<◌, ◌+◌, ◌∷◌, [], ℕ, List, Option, Some, None, true, OnOk, OnErr, IfOk, IsSome, IsTrue, ◌↔◌, Err, slice_get, option_copied, reverse, length, map};
 ghost use Rattle.board_core.specs.declared.keys.Key.{Key};
 ghost use Rattle.shogi_rules.specs.Rules.{after};
 ghost use Rattle.notes.specs.Derivation.{highest};
-ghost use Rattle.notes.specs.declared.note.NoteEnd.TheVariants.{TooHigh};
+ghost use Rattle.notes.specs.declared.note.NoteEnd.TheVariants.{TooHigh, NoMemory};
 ghost use Rattle.visit_log.specs.declared.parts.Child.{Child};
 ghost use Rattle.visit_log.specs.Frame.{Visiting, attacker_in, begun, task_for};
 ghost use Rattle.visit_log.specs.Children.{AreChildren, is_solved, notes_under};
@@ -69,11 +69,11 @@ fn played_after(problem: &Problem, worker: u32, frame: &Frame, by: Move) -> Posi
 }
 
 impl Stack {
-    ghost use Rattle.std.specs.Prelude.{◌≡◌, ◌<◌, ◌+◌, ◌∷◌, [], ℕ, List, Option, Some, None, true, OnOk, OnErr, IfOk, IsSome, IsTrue, ◌↔◌, Err, slice_get, option_copied, reverse, length, map};
+    ghost use Rattle.std.specs.Prelude.{◌≡◌, ◌≤◌, ◌<◌, ◌+◌, ◌∷◌, [], ℕ, List, Option, Some, None, true, OnOk, OnErr, IfOk, IsSome, IsTrue, ◌↔◌, Err, slice_get, option_copied, reverse, length, map};
     ghost use Rattle.board_core.specs.declared.keys.Key.{Key};
     ghost use Rattle.shogi_rules.specs.Rules.{after};
     ghost use Rattle.notes.specs.Derivation.{highest};
-    ghost use Rattle.notes.specs.declared.note.NoteEnd.TheVariants.{TooHigh};
+    ghost use Rattle.notes.specs.declared.note.NoteEnd.TheVariants.{TooHigh, NoMemory};
     ghost use Rattle.visit_log.specs.declared.parts.Child.{Child};
     ghost use Rattle.visit_log.specs.Frame.{Visiting, attacker_in, begun, task_for};
     ghost use Rattle.visit_log.specs.Children.{AreChildren, is_solved, notes_under};
@@ -254,12 +254,13 @@ impl Stack {
         come_back_top(self.frames.as_mut_slice(), left);
     }
 
-    /// The note of the innermost position, which is solved. Errors: TooHigh only where its height would be above 4,096; else want of memory.
+    /// The note of the innermost position, which is solved. Errors: TooHigh exactly where its height would be above 4,096; else want of memory.
     pub(crate) fn make_note(&self, alloc: Global) -> Result<Note, NoteEnd>
         requires listed { HasTop (λ f. (path : List Key) × IsListed self.now.task path f) self.now.frames }
         requires solved { HasTop (λ f. is_solved (node_in self.now.task f) f.children ≡ true) self.now.frames }
         ensures made { IfOk result (λ note. HasTop (λ f. IsMade self.now.task f note) self.now.frames) }
         ensures high { result ≡ Err TooHigh → HasTop (λ f. 4096 < highest (notes_under (node_in self.now.task f) f.children) + 1) self.now.frames }
+        ensures low { result ≡ Err NoMemory → HasTop (λ f. highest (notes_under (node_in self.now.task f) f.children) + 1 ≤ 4096) self.now.frames }
     {
         match top(&self.frames) {
             Some(frame) => frame.make_note(alloc, &self.problem, self.worker),

@@ -55,7 +55,7 @@ impl Worker {
     ghost use Rattle.visit_log.specs.Laws.{IsLeftAlone, IsCounted};
     ghost use Rattle.visit_log.specs.declared.words.WorkEnd.{WorkEnd};
     ghost use Rattle.visit_log.specs.declared.words.Request.TheVariants.{End};
-    ghost use Rattle.worker_core.specs.Machine.{is_poll};
+    ghost use Rattle.worker_core.specs.Machine.{is_poll, looks_at, winds_at};
 
     /// The worker of this number, from 1, before it asks anything. Takes no memory.
     pub fn make(alloc: Global, problem: &Problem, number: u32) -> Worker
@@ -144,6 +144,20 @@ impl Worker {
         ensures { result ≡ is_poll (asks self.now.state) }
     {
         self.core.is_polling()
+    }
+
+    /// Whether it looks next: its next request is a Look. Takes no memory.
+    pub fn is_looking(&self) -> bool
+        ensures { result ≡ looks_at self.now.state.stage }
+    {
+        self.core.is_looking()
+    }
+
+    /// Whether it winds up: it asks only to leave what it has entered, or has ended. Takes no memory.
+    pub fn is_winding(&self) -> bool
+        ensures { result ≡ winds_at self.now.state.stage }
+    {
+        self.core.is_winding()
     }
 
     /// How many units it was given. Takes no memory.
