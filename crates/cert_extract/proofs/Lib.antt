@@ -4,3 +4,4 @@ pub mod Rules
 pub mod Escapes
 pub mod Texts
 pub mod Mates
+pub mod Counts

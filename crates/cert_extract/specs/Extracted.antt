@@ -1,7 +1,9 @@
 -- What is extracted from a note's tree.
-use Rattle.std.specs.Prelude.{◌≡◌, ◌*◌, Contains}
+use Rattle.std.specs.Prelude.{◌≡◌, ◌<◌, ◌*◌, ℕ, List, Contains, length}
+use Rattle.bit_boards.specs.declared.piece.Side.{Side}
 use Rattle.board_core.specs.Board.{Board}
 use Rattle.mate_facts.specs.declared.entry.MateEntry.{MateEntry}
+use Rattle.mate_facts.specs.Entries.{AreApart}
 use Rattle.cert_text.specs.declared.head.Claim.{Claim}
 use Rattle.cert_text.specs.declared.head.Claim.TheVariants as claims
 use Rattle.cert_text.specs.declared.certificate.Certificate.{Certificate}
@@ -10,6 +12,8 @@ use Rattle.notes.specs.declared.rule.Rule.TheVariants.{MateBy}
 use Rattle.notes.specs.declared.rule.Conclusion.{Conclusion}
 use Rattle.notes.specs.declared.rule.Conclusion.TheVariants.{Mate, Escape}
 use Rattle.notes.specs.Derivation.{Derivation, rule_of, position_of, height_of, conclusion_of}
+use Rattle.cert_extract.specs.declared.ends.ExtractEnd.{ExtractEnd}
+use Rattle.cert_extract.specs.declared.ends.ExtractEnd.TheVariants.{TooMany, NoMemory}
 use Rattle.cert_extract.specs.Tree.{IsIn}
 
 -- What a certificate of a conclusion claims.
@@ -37,3 +41,24 @@ pub record IsEscapeFrom (tree : Derivation) (b : Board) : Type 0 where
 abbrev pub ComesFrom : Derivation → Certificate → Type 0
 ComesFrom tree (certificates.Mate c) = (entry : MateEntry) → Contains c.entries entry → IsMateFrom tree entry
 ComesFrom tree (certificates.Escape c) = (b : Board) → Contains c.entries b → IsEscapeFrom tree b
+
+-- The position is met in the tree, with this side to move: a note in it is about the position, and concludes what the whole does.
+pub record IsMet (tree : Derivation) (attacker : Side) (b : Board) : Type 0 where
+  pub note : Derivation
+  pub within : IsIn tree note
+  pub about : position_of note ≡ b
+  pub concludes : conclusion_of note ≡ conclusion_of tree
+  pub turn : b.side ≡ attacker
+
+-- More different positions of the attacker than so many are met in the tree: a list of them, each once.
+pub record HasMoreThan (most : ℕ) (problem : Board) (tree : Derivation) : Type 0 where
+  pub positions : List Board
+  pub more : most < length positions
+  pub apart : AreApart positions
+  pub from : (b : Board) → Contains positions b → IsMet tree problem.side b
+
+-- Why no certificate of so many entries at most is extracted: more of the attacker's positions are met in the tree, or memory was
+-- wanted.
+abbrev pub IsEndFor : ℕ → Board → Derivation → ExtractEnd → Type 0
+IsEndFor most problem tree TooMany = HasMoreThan most problem tree
+IsEndFor most problem tree NoMemory = Unit {0}

@@ -3,30 +3,42 @@
 //! A search by proof numbers ends with a note about the problem: a derivation whose tree may be read many times over, since notes
 //! share what is under them. [`extract`] walks it, each position once, or again where a mate is shorter, and lists the attacker's
 //! positions that it meets. What comes out is a valid certificate, of the kind that the note concludes, that anybody can check without
-//! the note.
+//! the note. It has no more entries than the caller asks for, so that whoever reads no more can read it; where the tree has more of the
+//! attacker's positions than that, the walk ends at the first one too many, and nothing comes out ([`ExtractEnd::TooMany`]).
 #![tactic(auto)]
 
-ghost use Rattle.std.specs.Prelude.{◌≡◌, [], IfOk};
+ghost use Rattle.std.specs.Prelude.{◌≡◌, ◌≤◌, [], IfOk, IfErr, length};
 ghost use Rattle.notes.specs.Derivation.{position_of, attacker_of, tag_of, conclusion_of};
-ghost use Rattle.cert_text.specs.Kinds.{claim_of};
+ghost use Rattle.cert_text.specs.declared.limits.TheConstants.{MOST_ENTRIES};
+ghost use Rattle.cert_text.specs.Kinds.{claim_of, positions_in};
+ghost use Rattle.cert_text.specs.Reading.{IsReadable};
 ghost use Rattle.cert_check.specs.Valid.{IsValid};
-ghost use Rattle.cert_extract.specs.Extracted.{claim_by, ComesFrom};
+ghost use Rattle.cert_extract.specs.Extracted.{claim_by, ComesFrom, IsEndFor};
 
+mod ends;
 mod escape;
 mod mate;
 mod steps;
 
 use cert_order::{escape_certificate, mate_certificate};
 use cert_text::Certificate;
+pub use ends::ExtractEnd;
 use notes::{Conclusion, Note};
 use shogi_rules::Problem;
-use std::alloc::{AllocError, Global};
+use std::alloc::Global;
 
 /// The certificate of what a note says that depends on no repetition and is about the problem, for its attacker. It is a mate's or an
 /// escape's as the note concludes, and valid for the problem. It lists positions of the attacker that notes of the note's tree are about:
 /// a mate's each with the check of one of these notes, and half its height as the rank. The tree is walked depth first, in the order
-/// of the notes; a position that is met again is walked again only where the note is a lower mate. Errors: want of memory alone.
-pub fn extract(alloc: Global, problem: &Problem, note: &Note) -> Result<Certificate, AllocError>
+/// of the notes; a position that is met again is walked again only where the note is a lower mate. It lists `most` positions at most,
+/// and one at least, the problem's. Errors: more than `most` positions of the attacker stand in the tree (always, where `most` is 0);
+/// want of memory.
+pub fn extract(
+    alloc: Global,
+    problem: &Problem,
+    note: &Note,
+    most: usize,
+) -> Result<Certificate, ExtractEnd>
     requires closed { tag_of note.now ≡ [] }
     requires about { position_of note.now ≡ problem.now.position }
     requires same_attacker { attacker_of note.now ≡ problem.now.position.side }
@@ -37,14 +49,21 @@ pub fn extract(alloc: Global, problem: &Problem, note: &Note) -> Result<Certific
 
     // Whatever it lists comes from a note of the tree.
     ensures from { IfOk result (λ certificate. ComesFrom note.now certificate) }
+
+    // It lists no more than asked for; so it can be read once it is written, where no more is asked for than is read.
+    ensures count { IfOk result (λ certificate. length (positions_in certificate) ≤ most) }
+    ensures readable { most ≤ MOST_ENTRIES → IfOk result IsReadable }
+
+    // It is refused only where more of the attacker's positions than that stand in the note's tree.
+    ensures too_many { IfErr result (IsEndFor most problem.now.position note.now) }
 {
     match note.conclusion() {
         Conclusion::Mate => {
-            let entries = mate::entries(alloc, problem, note)?;
+            let entries = mate::entries(alloc, problem, note, most)?;
             Ok(Certificate::Mate(mate_certificate(alloc, problem, &entries)?))
         }
         Conclusion::Escape => {
-            let positions = escape::positions(alloc, problem, note)?;
+            let positions = escape::positions(alloc, problem, note, most)?;
             Ok(Certificate::Escape(escape_certificate(alloc, problem, &positions)?))
         }
     }

@@ -1,19 +1,20 @@
 // The entries of a mate, from a note about the problem.
-ghost use Rattle.std.specs.Prelude.{◌≡◌, ◌*◌, [], IfOk, Contains};
+ghost use Rattle.std.specs.Prelude.{◌≡◌, ◌≤◌, ◌*◌, [], IfOk, IfErr, Contains, length};
 ghost use Rattle.mate_facts.specs.declared.entry.MateEntry.{MateEntry};
 ghost use Rattle.notes.specs.Derivation.{position_of, attacker_of, rule_of, height_of, conclusion_of};
 ghost use Rattle.notes.specs.declared.rule.Rule.TheVariants.{MateBy};
 ghost use Rattle.notes.specs.declared.rule.Conclusion.TheVariants.{Mate};
 ghost use Rattle.notes.specs.Truth.{IsToMove};
 ghost use Rattle.cert_order.specs.Entries.{AreMateEntries};
-ghost use Rattle.cert_extract.specs.Extracted.{IsMateFrom};
+ghost use Rattle.cert_extract.specs.Extracted.{IsMateFrom, IsEndFor};
 
+use crate::ends::ExtractEnd;
 use crate::steps::push_next;
+use position_places::Places;
 use mate_facts::{MateEntry, Rank};
 use notes::{Note, Rule};
-use position_places::Places;
 use shogi_rules::{Problem, legal_laws};
-use std::alloc::{AllocError, Global};
+use std::alloc::Global;
 
 // What a note of a mate says of its position, the attacker's to move.
 fn entry_of(note: &Note) -> MateEntry
@@ -36,17 +37,21 @@ fn entry_of(note: &Note) -> MateEntry
     }
 }
 
-/// The attacker's positions in the note's tree, each once, with the check and half the height of the lowest note that was met there.
+/// The attacker's positions in the note's tree, each once, with the check and half the height of the lowest note that was met there; no
+/// more than so many.
 pub(crate) fn entries(
     alloc: Global,
     problem: &Problem,
     note: &Note,
-) -> Result<Vec<MateEntry>, AllocError>
+    most: usize,
+) -> Result<Vec<MateEntry>, ExtractEnd>
     requires about { position_of note.now ≡ problem.now.position }
     requires same_attacker { attacker_of note.now ≡ problem.now.position.side }
     requires mate { conclusion_of note.now ≡ Mate }
     ensures entries { IfOk result (λ entries. AreMateEntries problem.now.position entries.items) }
     ensures from { IfOk result (λ entries. (entry : MateEntry) → Contains entries.items entry → IsMateFrom note.now entry) }
+    ensures few { IfOk result (λ entries. length entries.items ≤ most) }
+    ensures too_many { IfErr result (IsEndFor most problem.now.position note.now) }
 {
     // The note is valid, and so is each note of its tree; and checks have a text.
     note.laws();
@@ -59,6 +64,9 @@ pub(crate) fn entries(
         let entry = entry_of(next);
         let place = places.add(&entry.at)?;
         if place == entries.len() {
+            if place == most {
+                return Err(ExtractEnd::TooMany);
+            }
             entries.push(entry)?;
             push_next(&mut pending, next)?;
         } else if entry.rank.number < entries[place].rank.number {

@@ -5,7 +5,7 @@ use crate::letters::{by, moved, problem};
 use crate::same::{same, shown};
 use crate::texts::{CHASE, MATE_IN_ONE};
 use board_core::Position;
-use cert_extract::extract;
+use cert_extract::{ExtractEnd, extract};
 use cert_text::write_cert;
 use evasions::answers;
 use notes::Note;
@@ -18,8 +18,12 @@ use std::test::Fail;
 const ROOKS_AGAIN: &str =
     "certificate 1 mate 8\nproblem 4k4/R8/8R/9/9/9/9/9/9 b -\n1 1c1a 2k6/R8/8R/9/9/9/9/9/9 b -\n1 1c1a 3k5/R8/8R/9/9/9/9/9/9 b -\n1 1c1a 4k4/R8/8R/9/9/9/9/9/9 b -\n1 1c1a 5k3/R8/8R/9/9/9/9/9/9 b -\n1 1c1a 6k2/R8/8R/9/9/9/9/9/9 b -\n2 9a9b R8/3k5/8R/9/9/9/9/9/9 b -\n2 9a9b R8/4k4/8R/9/9/9/9/9/9 b -\n2 9a9b R8/5k3/8R/9/9/9/9/9/9 b -\nend\n";
 
-// The text of the certificate that a note is extracted to; nothing, where it isn't closed or isn't about the problem.
-fn text_of(alloc: Global, problem: &Problem, note: &Note) -> Result<Vec<u8>, Fail> {
+// What stands for the text of a certificate with more entries than asked for at most.
+const TOO_MANY: &str = "too many";
+
+// The text of the certificate of so many entries at most that a note is extracted to; nothing, where it isn't closed or isn't about
+// the problem.
+fn text_of(alloc: Global, problem: &Problem, note: &Note, most: usize) -> Result<Vec<u8>, Fail> {
     if !note.is_closed() {
         return Ok(Vec::new(alloc));
     }
@@ -29,7 +33,11 @@ fn text_of(alloc: Global, problem: &Problem, note: &Note) -> Result<Vec<u8>, Fai
     if note.attacker() != problem.attacker() {
         return Ok(Vec::new(alloc));
     }
-    Ok(write_cert(alloc, &extract(alloc, problem, note)?)?)
+    match extract(alloc, problem, note, most) {
+        Ok(certificate) => Ok(write_cert(alloc, &certificate)?),
+        Err(ExtractEnd::TooMany) => Ok(Vec::from_slice(alloc, TOO_MANY.as_bytes())?),
+        Err(ExtractEnd::NoMemory) => Err(Fail::from(ExtractEnd::NoMemory)),
+    }
 }
 
 #[test]
@@ -40,8 +48,11 @@ fn the_rook_chase_is_listed_with_both_its_positions(rt: HostRuntime) -> Result<(
     let second = chase.second_escaped(alloc, &chase.repeated(alloc)?)?;
     let there = chase.gone_there(alloc, &second)?;
     let note = chase.first_escaped(alloc, &there)?;
-    let text = text_of(alloc, &chase.problem, &note)?;
-    same(&rt, "chase", (note.height(), shown(&text)), (5, CHASE));
+    for (most, wanted) in [(5, TOO_MANY), (6, CHASE)] {
+        let text = text_of(alloc, &chase.problem, &note, most)?;
+        let found = (note.height(), shown(&text));
+        same(&rt, ("chase", most), found, (5, wanted));
+    }
     Ok(())
 }
 
@@ -75,15 +86,19 @@ fn a_mate_is_listed_with_the_least_height_that_is_met(rt: HostRuntime) -> Result
     let alloc = rt.alloc();
     let gold = problem(&rt, "4k4/9/4P4/9/9/9/9/9/9 b G");
     let note = mated(&rt, alloc, &gold, &gold.position, &["G*5b"])?;
-    let text = text_of(alloc, &gold, &note)?;
-    let found = (note.height(), shown(&text));
-    same(&rt, "gold", found, (2, MATE_IN_ONE));
+    for (most, wanted) in [(0, TOO_MANY), (1, MATE_IN_ONE)] {
+        let text = text_of(alloc, &gold, &note, most)?;
+        let found = (note.height(), shown(&text));
+        same(&rt, ("gold", most), found, (2, wanted));
+    }
 
     let rooks = problem(&rt, "4k4/R8/8R/9/9/9/9/9/9 b -");
     let checks = ["9b9a", "9a9b", "1c1a"];
     let note = mated(&rt, alloc, &rooks, &rooks.position, &checks)?;
-    let text = text_of(alloc, &rooks, &note)?;
-    let found = (note.height(), shown(&text));
-    same(&rt, "rooks", found, (6, ROOKS_AGAIN));
+    for (most, wanted) in [(7, TOO_MANY), (8, ROOKS_AGAIN)] {
+        let text = text_of(alloc, &rooks, &note, most)?;
+        let found = (note.height(), shown(&text));
+        same(&rt, ("rooks", most), found, (6, wanted));
+    }
     Ok(())
 }

@@ -1,8 +1,9 @@
-use Rattle.std.proofs.Common.{arith, sym, ◌∙◌, subst}
+use Rattle.std.proofs.Common.{arith, sym, ap, ◌∙◌, subst, List, length}
+use Rattle.board_core.specs.Board.{Board}
 use Rattle.position_places.specs.Places.{ArePlacesOf}
 use Rattle.notes.specs.declared.rule.Conclusion.TheVariants.{Escape}
 use Rattle.cert_extract.proofs.Pushed.{lighter_walked, lighter_met}
-use Rattle.cert_extract.proofs.Escapes.{pending_first, is_old, placed_new, placed_old, escape_at_first, escape_on, escape_past, escape_done}
+use Rattle.cert_extract.proofs.Escapes.{pending_first, is_old, placed_new, placed_old, escape_at_first, escape_on, escape_past, escape_too_many, escape_done, few_more}
 use Rattle.cert_extract.proofs.escape.positions.Goals as goal
 
 pub loop-next-init : goal.loop-next-init
@@ -12,6 +13,7 @@ loop-next-init c = record {
       c.new-positions.ensures.items c.new-pending.ensures.items c.in_ok-push.ensures.items
       (pending_first Escape c.args.problem.now.position c.args.note.now c.laws.ensures.valid c.requires.escape c.requires.about c.requires.same_attacker)
       c.requires.about c.requires.closed;
+  few = let none = ap (λ (bs : List Board). length bs) c.new-positions.ensures.items in omega (arith, none);
 }
 
 pub loop-next-smaller-in-Continue-branch-4 : goal.loop-next-smaller-in-Continue-branch-4
@@ -28,6 +30,8 @@ loop-next-preserved-in-Continue-branch-4 c = record {
   walk = escape_on (λ n. n.now) c.args.problem.now.position c.args.note.now c.loop-next.positions.items c.push-then-place-len.new.self.items
       c.loop-next.pending.items c.pop.new.self.items c.push_next.new.pending.items c.in-Some.next c.position-then-place-len.result.now
       c.in-Some.ensures.items c.in_ok-push_next.ensures c.position-then-place-len.ensures c.in_ok-push-2.ensures.items c.loop-next.invariant.walk;
+  few = few_more c.loop-next.positions.items c.push-then-place-len.new.self.items c.position-then-place-len.result.now c.in_ok-place.place c.args.most
+      c.in_ok-push-2.ensures.items (omega arith) (omega arith) c.loop-next.invariant.few;
 }
 
 pub loop-next-smaller : goal.loop-next-smaller
@@ -42,7 +46,15 @@ loop-next-preserved c = record {
       (is_old c.loop-next.positions.items c.position.result.now c.in_ok-place.place
       (c.in_ok-place.ensures.place c.loop-next.positions.items c.loop-next.invariant.places) (omega arith))
       c.loop-next.invariant.walk;
+  few = c.loop-next.invariant.few;
 }
+
+pub returns-then-place-most-clause-too_many : goal.returns-then-place-most-clause-too_many
+returns-then-place-most-clause-too_many c =
+    escape_too_many (λ n. n.now) c.args.problem.now.position c.args.note.now c.loop-next.positions.items c.loop-next.pending.items c.pop.new.self.items
+    c.in-Some.next c.position.result.now c.loop-next.places c.add.new.self c.in_ok-place.place c.args.most c.requires.escape c.in-Some.ensures.items
+    c.position.ensures c.loop-next.invariant.places c.in_ok-place.ensures.added
+    (c.in_ok-place.ensures.place c.loop-next.positions.items c.loop-next.invariant.places) (omega arith) (omega arith) c.loop-next.invariant.walk
 
 pub returns-clause-entries : goal.returns-clause-entries
 returns-clause-entries c =

@@ -1,11 +1,12 @@
-use Rattle.std.proofs.Common.{List, set, arith, refl, sym, subst}
+use Rattle.std.proofs.Common.{List, length, set, arith, refl, sym, ap, subst}
+use Rattle.std.proofs.lemmas.List.{length-set}
 use Rattle.mate_facts.specs.declared.entry.MateEntry.{MateEntry}
 use Rattle.notes.specs.declared.rule.Conclusion.TheVariants.{Mate}
 use Rattle.mate_facts.specs.Entries.{positions_of}
 use Rattle.position_places.specs.Places.{ArePlacesOf}
 use Rattle.cert_extract.proofs.Pushed.{lighter_walked, lighter_met}
-use Rattle.cert_extract.proofs.Escapes.{pending_first}
-use Rattle.cert_extract.proofs.Mates.{within_entries, old_entry, positions_set, entries_placed_new, entries_placed_old, mate_at_first, mate_past, mate_on, mate_lower, mate_done}
+use Rattle.cert_extract.proofs.Escapes.{pending_first, few_more}
+use Rattle.cert_extract.proofs.Mates.{within_entries, old_entry, positions_set, entries_placed_new, entries_placed_old, mate_at_first, mate_past, mate_on, mate_lower, mate_too_many, mate_done}
 use Rattle.cert_extract.proofs.mate.entries.Goals as goal
 
 pub loop-next-init : goal.loop-next-init
@@ -15,6 +16,7 @@ loop-next-init c = record {
       c.new-entries.ensures.items c.new-pending.ensures.items c.in_ok-push.ensures.items
       (pending_first Mate c.args.problem.now.position c.args.note.now c.laws.ensures.valid c.requires.mate c.requires.about c.requires.same_attacker)
       c.requires.about;
+  few = let none = ap (λ (es : List MateEntry). length es) c.new-entries.ensures.items in omega (arith, none);
 }
 
 pub loop-next-smaller-in-Continue-branch-4 : goal.loop-next-smaller-in-Continue-branch-4
@@ -31,6 +33,8 @@ loop-next-preserved-in-Continue-branch-4 c = record {
       c.in-Some.next c.in-Some.ensures.items c.loop-next.invariant.walk c.push_next.new.pending.items c.entry_of-entry.result c.in_ok-push_next.ensures
       (record { about = c.entry_of-entry.ensures.about; by = c.entry_of-entry.ensures.by; high = c.entry_of-entry.ensures.high })
       c.legal_laws.ensures.board c.push-then-place-len.new.self.items c.in_ok-push-2.ensures.items;
+  few = few_more c.loop-next.entries.items c.push-then-place-len.new.self.items c.entry_of-entry.result c.in_ok-place.place c.args.most
+      c.in_ok-push-2.ensures.items (omega arith) (omega arith) c.loop-next.invariant.few;
 }
 
 pub index-requires : goal.index-requires
@@ -65,6 +69,10 @@ loop-next-preserved-in-Continue-branch-5 c =
           c.index.result.now c.in_ok-place.place c.in_ok-push_next-2.ensures
           (record { about = c.entry_of-entry.ensures.about; by = c.entry_of-entry.ensures.by; high = c.entry_of-entry.ensures.high })
           c.legal_laws.ensures.board old.0 old.1 (omega arith) (set c.loop-next.entries.items c.in_ok-place.place c.entry_of-entry.result) refl;
+      few =
+          let long = length-set c.loop-next.entries.items c.in_ok-place.place c.entry_of-entry.result in
+          let few = c.loop-next.invariant.few in
+          omega (arith, long, few);
     }
 
 pub loop-next-smaller : goal.loop-next-smaller
@@ -82,7 +90,17 @@ loop-next-preserved c =
           c.in-Some.next c.in-Some.ensures.items c.loop-next.invariant.walk c.in_ok-place.place c.index.result.now c.entry_of-entry.result
           (record { about = c.entry_of-entry.ensures.about; by = c.entry_of-entry.ensures.by; high = c.entry_of-entry.ensures.high })
           old.0 old.1 (omega arith);
+      few = c.loop-next.invariant.few;
     }
+
+pub returns-then-place-most-clause-too_many : goal.returns-then-place-most-clause-too_many
+returns-then-place-most-clause-too_many c =
+    mate_too_many (λ n. n.now) c.args.problem.now.position c.args.note.now c.loop-next.entries.items c.loop-next.pending.items c.pop.new.self.items
+    c.in-Some.next c.entry_of-entry.result c.loop-next.places c.add.new.self c.in_ok-place.place c.args.most c.requires.mate c.in-Some.ensures.items
+    (record { about = c.entry_of-entry.ensures.about; by = c.entry_of-entry.ensures.by; high = c.entry_of-entry.ensures.high })
+    c.legal_laws.ensures.board c.loop-next.invariant.places c.in_ok-place.ensures.added
+    (c.in_ok-place.ensures.place (positions_of c.loop-next.entries.items) c.loop-next.invariant.places) (omega arith) (omega arith)
+    c.loop-next.invariant.walk
 
 pub returns-clause-entries : goal.returns-clause-entries
 returns-clause-entries c =

@@ -1,4 +1,4 @@
-use Rattle.std.proofs.Common.{map}
+use Rattle.std.proofs.Common.{◌≤◌, length, map}
 use Rattle.mate_facts.specs.Entries.{positions_of}
 use Rattle.position_places.specs.Places.{ArePlacesOf}
 use Rattle.cert_extract.proofs.Trees.{weight}
@@ -9,6 +9,7 @@ abbrev pub invariant-loop-next : goal.invariant-loop-next
 invariant-loop-next l = record {
   places : ArePlacesOf l.places (positions_of l.entries.items);
   walk : IsMateWalk l.problem.position l.note l.entries.items (map (λ n. n.now) l.pending.items);
+  few : length l.entries.items ≤ l.most;
 }
 
 abbrev pub decreases-loop-next : goal.decreases-loop-next
