@@ -1,4 +1,4 @@
-//! The public calls on notes and certificates, tried by examples.
+//! The public calls on notes, certificates and lists of positions, tried by examples.
 //!
 //! The tests of this layer stand here and not in its libraries, so that no library is proved twice. Without tests this
 //! crate is empty.
@@ -18,6 +18,8 @@ mod extraction;
 mod letters;
 #[cfg(test)]
 mod main_lines;
+#[cfg(test)]
+mod places;
 #[cfg(test)]
 mod same;
 #[cfg(test)]

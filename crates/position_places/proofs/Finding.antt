@@ -20,7 +20,7 @@ use Rattle.position_places.specs.declared.places.Places.{Places}
 use Rattle.position_places.specs.Places.{key_cmp, StandsAt, ArePlacesOf, IsPlace, IsPlaceOrNext, IsWith}
 
 -- keys are found as one exactly where their words are the same
-same_words : (a k : Key) → is_at (key_cmp a) k ≡ true → a.0 ≡ k.0
+pub same_words : (a k : Key) → is_at (key_cmp a) k ≡ true → a.0 ≡ k.0
 same_words a k h = exact_bytes a.0 k.0 (equal_from (key_cmp a k) h)
 
 at_words : (a k : Key) → a.0 ≡ k.0 → is_at (key_cmp a) k ≡ true

@@ -1,2 +1,3 @@
 -- This project's.
 pub mod Places
+pub mod Boards

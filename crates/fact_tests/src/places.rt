@@ -1,0 +1,45 @@
+// Where positions stand in a list, found by the position and by its board.
+use crate::letters::problem;
+use crate::same::same;
+use position_places::Places;
+use std::test::Fail;
+
+// Three boards, of which one stands with either side to move, and hands that differ.
+const LISTED: [&str; 7] = [
+    "4k4/9/4P4/9/9/9/9/9/4K4 b G",
+    "4k4/9/9/4P4/9/9/9/9/4K4 b G",
+    "4k4/9/4P4/9/9/9/9/9/4K4 w G",
+    "4k4/9/4P4/9/9/9/9/9/4K4 b 2R2B4G4S4N4L17P",
+    "4k4/9/9/9/9/9/9/9/4K4 b -",
+    "4k4/9/4P4/9/9/9/9/9/4K4 b -",
+    "4k4/9/4P4/9/9/9/9/9/4K4 b 2r2b4g4s4n4l17p",
+];
+
+#[test]
+fn positions_are_found_by_themselves_and_by_their_boards(rt: HostRuntime) -> Result<(), Fail> {
+    let mut places = Places::new(rt.alloc());
+    // Those that are listed aren't listed again.
+    for _ in 0..2 {
+        for (place, text) in LISTED.iter().enumerate() {
+            same(&rt, *text, places.add(&problem(&rt, text).position)?, place);
+        }
+    }
+    for (place, text) in LISTED.iter().enumerate() {
+        same(&rt, *text, places.find(&problem(&rt, text).position), Some(place));
+    }
+    let other = "4k4/9/4P4/9/9/9/9/9/4K4 w g";
+    same(&rt, other, places.find(&problem(&rt, other).position), None);
+    let mut found = Vec::new(rt.alloc());
+    let wanted: [(&str, &[usize]); 5] = [
+        (LISTED[5], &[0, 3, 5, 6]),
+        (LISTED[1], &[1]),
+        (other, &[2]),
+        ("4k4/9/9/4P4/9/9/9/9/4K4 w -", &[]),
+        (LISTED[4], &[4]),
+    ];
+    for (text, wanted) in wanted {
+        places.on_board(&problem(&rt, text).position, &mut found)?;
+        same(&rt, text, found.as_slice(), wanted);
+    }
+    Ok(())
+}
