@@ -102,30 +102,32 @@ changed_keeps port key row counts is eight there notes =
 abbrev pub after_enter : Lone → Key → ℕ → List Held → Lone
 after_enter port key slot row = record port { rows = with_row port.rows key row; pins = pinned port.pins key (Slot slot) }
 
-row_entered : (port : Lone) (key : Key) (numbers : Numbers) (slot : ℕ) (row : List Held) → IsLone port → All IsRow port.rows
+-- A row of the table has at most eight entries.
+row_few : (port : Lone) (key : Key) → IsLone port → All IsRow port.rows → length (row_of port.rows key) ≤ 8
+row_few port key is rows = (All-get_or IsRow port.rows (place_of key (length port.rows)) [] (row_known port key is).row_within rows).few
+
+row_entered : (port : Lone) (key : Key) (numbers : Numbers) (slot : ℕ) (row : List Held) → IsLone port → length (row_of port.rows key) ≤ 8
     → Enters (row_of port.rows key) (pins_of port.pins key) key numbers (Slot slot) row
     → IsEntered port.desk.position.side (row_of port.rows key) (pins_of port.pins key) key slot row
-row_entered port key numbers slot row is rows enters =
-    let known = row_known port key is in
-    entered port.desk.position.side (row_of port.rows key) (pins_of port.pins key) key numbers slot row
-    (All-get_or IsRow port.rows (place_of key (length port.rows)) [] known.row_within rows).few known.there enters
+row_entered port key numbers slot row is few enters =
+    entered port.desk.position.side (row_of port.rows key) (pins_of port.pins key) key numbers slot row few (row_known port key is).there enters
 
-enter_keeps_at : (port : Lone) (key : Key) (numbers : Numbers) (slot : ℕ) (row : List Held) → IsLone port → All IsRow port.rows
+pub enter_keeps_at : (port : Lone) (key : Key) (numbers : Numbers) (slot : ℕ) (row : List Held) → IsLone port → length (row_of port.rows key) ≤ 8
     → Enters (row_of port.rows key) (pins_of port.pins key) key numbers (Slot slot) row → IsLone (after_enter port key slot row)
-enter_keeps_at port key numbers slot row is rows enters =
+enter_keeps_at port key numbers slot row is few enters =
     let known = row_known port key is in
-    let went = row_entered port key numbers slot row is rows enters in
+    let went = row_entered port key numbers slot row is few enters in
     changed_keeps port key row (set (pins_of port.pins key) slot (get_or (pins_of port.pins key) slot 0 + 1)) is
     (length-set (pins_of port.pins key) slot (get_or (pins_of port.pins key) slot 0 + 1) ∙ known.eight)
     (there_at row (row_of port.rows key) (pins_of port.pins key) slot (get_or (pins_of port.pins key) slot 0 + 1) (holds_within row key slot went.holds) went.grows known.there)
     (went.notes known.notes)
 
-enter_books_at : (port : Lone) (key : Key) (numbers : Numbers) (slot : ℕ) (row : List Held) → IsLone port → All IsRow port.rows
+pub enter_books_at : (port : Lone) (key : Key) (numbers : Numbers) (slot : ℕ) (row : List Held) → IsLone port → length (row_of port.rows key) ≤ 8
     → Enters (row_of port.rows key) (pins_of port.pins key) key numbers (Slot slot) row
     → IsBooked (Enter key numbers, Some (Entered (Slot slot))) (book_of port) (book_of (after_enter port key slot row))
-enter_books_at port key numbers slot row is rows enters =
+enter_books_at port key numbers slot row is few enters =
     let known = row_known port key is in
-    let went = row_entered port key numbers slot row is rows enters in
+    let went = row_entered port key numbers slot row is few enters in
     let within : slot < length (pins_of port.pins key) = (let w = went.within in let e = known.eight in omega (arith, w, e)) in
     let sums = size_moves port.pins (place_of key (length port.pins)) slot (get_or (pins_of port.pins key) slot 0 + 1) known.pins_within within in
     record {
@@ -156,7 +158,7 @@ pub enter_keeps : (port : Lone) (after : List (List Held)) (key : Key) (numbers 
     → IsLone (record port { rows = after; pins = set port.pins p (set counts slot (get_or counts slot 0 + 1)) })
 enter_keeps port after key numbers p n slot counts seen is rows long at within its too enters =
     subst IsLone (enter_same port after key p n slot counts enters.row long at within its enters.others)
-    (enter_keeps_at port key numbers slot enters.row is rows
+    (enter_keeps_at port key numbers slot enters.row is (row_few port key is rows)
     (subst (λ (c : List ℕ). Enters (row_of port.rows key) c key numbers (Slot slot) enters.row) (found port.pins key p n seen long at within too) enters.enters))
 
 -- Entering a key is booked.
@@ -167,17 +169,17 @@ pub enter_books : (port : Lone) (after : List (List Held)) (key : Key) (numbers 
 enter_books port after key numbers p n slot counts seen is rows long at within its too enters =
     subst (λ (q : Lone). IsBooked (Enter key numbers, Some (Entered (Slot slot))) (book_of port) (book_of q))
     (enter_same port after key p n slot counts enters.row long at within its enters.others)
-    (enter_books_at port key numbers slot enters.row is rows
+    (enter_books_at port key numbers slot enters.row is (row_few port key is rows)
     (subst (λ (c : List ℕ). Enters (row_of port.rows key) c key numbers (Slot slot) enters.row) (found port.pins key p n seen long at within too) enters.enters))
 
 -- 5. LEAVING.
 
 -- What a worker that has entered a slot of a key knows of it.
-record IsOwn (port : Lone) (key : Key) (slot : ℕ) : Type 0 where
+pub record IsOwn (port : Lone) (key : Key) (slot : ℕ) : Type 0 where
   pub holds : HoldsAt (row_of port.rows key) slot key
   pub some : 0 < get_or (pins_of port.pins key) slot 0
 
-own : (port : Lone) (key : Key) (slot : ℕ) → ((other : Key) (s : ℕ) → slot_once (Slot slot) key other s ≤ held_in port.rows port.pins other s) → IsOwn port key slot
+pub own : (port : Lone) (key : Key) (slot : ℕ) → ((other : Key) (s : ℕ) → slot_once (Slot slot) key other s ≤ held_in port.rows port.pins other s) → IsOwn port key slot
 own port key slot held =
     let one = once_itself key slot in
     let more = held key slot in
@@ -208,7 +210,7 @@ leave_some port key p n slot counts long at within is held =
 abbrev pub after_leave : Lone → Key → ℕ → Update → Lone
 after_leave port key slot update = record port { rows = with_row port.rows key (left (row_of port.rows key) slot update); pins = unpinned port.pins key (Slot slot) }
 
-leave_keeps_at : (port : Lone) (key : Key) (slot : ℕ) (update : Update) → IsLone port → IsOwn port key slot → IsSoundUpdate port.desk.position.side key update
+pub leave_keeps_at : (port : Lone) (key : Key) (slot : ℕ) (update : Update) → IsLone port → IsOwn port key slot → IsSoundUpdate port.desk.position.side key update
     → IsLone (after_leave port key slot update)
 leave_keeps_at port key slot update is mine sound =
     let known = row_known port key is in
@@ -220,12 +222,11 @@ leave_keeps_at port key slot update is mine sound =
     (there_at row (row_of port.rows key) (pins_of port.pins key) slot (get_or (pins_of port.pins key) slot 0 - 1) low (omega (arith, long)) known.there)
     (left_for port.desk.position.side key update (row_of port.rows key) slot sound known.notes)
 
-leave_books_at : (port : Lone) (key : Key) (slot : ℕ) (update : Update) → IsLone port → All IsRow port.rows → IsOwn port key slot
+pub leave_books_at : (port : Lone) (key : Key) (slot : ℕ) (update : Update) → IsLone port → length (row_of port.rows key) ≤ 8 → IsOwn port key slot
     → IsBooked (Leave (Slot slot) key update, Some LeftIt) (book_of port) (book_of (after_leave port key slot update))
-leave_books_at port key slot update is rows mine =
+leave_books_at port key slot update is few mine =
     let known = row_known port key is in
     let row = left (row_of port.rows key) slot update in
-    let few = (All-get_or IsRow port.rows (place_of key (length port.rows)) [] known.row_within rows).few in
     let low = holds_within (row_of port.rows key) key slot mine.holds in
     let some = mine.some in
     let within : slot < length (pins_of port.pins key) = (let e = known.eight in omega (arith, few, low, e)) in
@@ -271,7 +272,7 @@ pub leave_books : (port : Lone) (after : List (List Held)) (key : Key) (update :
     → IsBooked (Leave (Slot slot) key update, Some LeftIt) (book_of port) (book_of (record port { rows = after; pins = set port.pins p (set counts slot (get_or counts slot 0 - 1)) }))
 leave_books port after key update p n slot counts is rows long at within its held others =
     subst (λ (q : Lone). IsBooked (Leave (Slot slot) key update, Some LeftIt) (book_of port) (book_of q))
-    (leave_same port after key update p n slot counts long at within its others) (leave_books_at port key slot update is rows (own port key slot held))
+    (leave_same port after key update p n slot counts long at within its others) (leave_books_at port key slot update is (row_few port key is rows) (own port key slot held))
 
 -- 6. AT FIRST.
 

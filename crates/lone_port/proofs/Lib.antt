@@ -6,3 +6,4 @@ pub mod Places
 pub mod Asked
 mod Renewed
 pub mod Stepped
+pub mod Counted

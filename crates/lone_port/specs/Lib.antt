@@ -3,3 +3,4 @@
 pub mod Lone
 pub mod World
 pub mod Alone
+pub mod Keeps

@@ -9,9 +9,11 @@
 #![tactic(auto)]
 
 mod event;
+mod laws;
 mod lone;
 mod stepping;
 
 pub use event::Event;
+pub use laws::turn_laws;
 pub use lone::LonePort;
 pub use stepping::step;
