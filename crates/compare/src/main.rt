@@ -11,19 +11,18 @@ ghost use Rattle.visit_log.specs.Sound.{IsAnswer};
 
 use cert_check::{Verdict, check};
 use cert_extract::extract;
-use cert_text::{Certificate, Claim};
+use cert_text::{Certificate, Claim, MOST_ENTRIES};
 use notes::Note;
 use plain_search::{Outcome, search};
 use problem_gen::problem_of;
 use problem_lines::Lines;
 use search_gate::OpenGate;
-use search_limits::Expansions;
+use search_limits::{Expansions, Settings};
 use search_pool::{SearchEnd, search_alone};
 use sfen_text::read_sfen;
 use shogi_rules::{Problem, accept_problem};
 use std::alloc::Global;
 use std::io::{self, Read};
-use search_limits::Settings;
 
 const PROBLEMS: u64 = 50;
 
@@ -130,7 +129,9 @@ fn accepted(alloc: Global, problem: &Problem, certificate: &Certificate) -> io::
 fn extracted(alloc: Global, problem: &Problem, note: &Note) -> io::Result<Claim>
     requires { IsAnswer (task_for problem.now.position 1) note.now }
 {
-    let certificate = extract(alloc, problem, note)?;
+    let Ok(certificate) = extract(alloc, problem, note, MOST_ENTRIES as usize) else {
+        return Err(io::Error::from(io::ErrorKind::OutOfMemory));
+    };
     accepted(alloc, problem, &certificate)
 }
 

@@ -305,7 +305,8 @@ pub fn told_limit(alloc: Global, words: &[String]) -> Result<Option<u64>, AllocE
 ///
 /// `solve` reads a problem from the source, an SFEN or, with `--kif`, the board diagram of a KIF file in UTF-8; with `--rest` the defender
 /// is then given all pieces but kings that are neither on the board nor in a hand. It writes to the sink the USI answer that the problem is a mate, with a main line, or that it is
-/// none, and the certificate; or, where a limit was used up first or a stop was signalled, that it was given up. `check` reads a certificate,
+/// none, and the certificate, which `check` reads; or, where a limit was used up first, a stop was signalled, or the certificate might have
+/// more entries than are read, that it is unknown, and why. `check` reads a certificate,
 /// perhaps behind the line of the USI answer, and writes whether it is valid for its own problem, or for the one that `--problem` gives
 /// (SFEN), or the first reason why it isn't; a certificate of another problem isn't valid for it. Positions are compared, and not texts.
 /// A `--problem` that is none refuses the words, before anything is read.
@@ -332,23 +333,24 @@ pub fn run<R: Threads + Sync, S: Source, K: Sink, G: Gate, T: Stop>(
 ) -> Ended
     requires { length stops.old ≡ MOST_WORKERS }
     // In plain words. Where `solve` ended with a mate, the bytes that the source had left stand for a problem that is a mate, the
-    // certificate is valid for it, and the moves are its main line.
+    // certificate is valid for it and can be read, and the moves are its main line.
     ensures mate { (form : ProblemForm) (input : List ℕ) (c : Mating) (moves : List Move)
         → AsksToSolve form (texts_of words.items) → S.left source.old ≡ Some input
         → result ≡ Ended.Answered (Answer.Solved (Solution.Mate c moves)) → StandsForMate form input c moves }
 
-    // Where it ended with no mate, the problem is none, and the certificate is valid for it.
+    // Where it ended with no mate, the problem is none, and the certificate is valid for it and can be read.
     ensures no_mate { (form : ProblemForm) (input : List ℕ) (c : Escaping)
         → AsksToSolve form (texts_of words.items) → S.left source.old ≡ Some input
         → result ≡ Ended.Answered (Answer.Solved (Solution.NoMate c)) → StandsForNoMate form input c }
 
-    // Where it gave up, one of the stated limits was used up: the expansions, the room for notes, or their height; or the first stop signalled.
-    // The worker that met it is told.
+    // Where neither is told, one of the stated limits was used up: the expansions, the room for notes, or their height, and the worker
+    // that met it is told; or the first stop signalled; or the note that was found has more positions than a certificate is read with.
     ensures gave_up { (settings : SettingsView) (form : ProblemForm) (watch : WatchView) (input : List ℕ) (cause : Cause) (crew : List Standing)
         → command_of (texts_of words.items) ≡ Some (to_solve settings form watch) → S.left source.old ≡ Some input
         → result ≡ Ended.Answered (Answer.Solved (Solution.Unknown cause crew)) → StandsForUnknown form settings (signals T.signal stops.old stops.new) input cause crew }
 
-    // Whatever the source tells of its bytes, as a file tells nothing: what ended with a mate names one, and what ended with no mate a problem that is none.
+    // Whatever the source tells of its bytes, as a file tells nothing: what ended with a mate names one, and what ended with no mate a
+    // problem that is none; and both can be read.
     ensures own_mate { (c : Mating) (moves : List Move) → result ≡ Ended.Answered (Answer.Solved (Solution.Mate c moves)) → NamesMate c moves }
     ensures own_no_mate { (c : Escaping) → result ≡ Ended.Answered (Answer.Solved (Solution.NoMate c)) → NamesNoMate c }
 
