@@ -123,7 +123,7 @@ fn play(
         if world.ended() {
             break;
         }
-        world.play(rt.alloc(), events);
+        let _refused = world.play(rt.alloc(), events);
     }
     tell(rt, asked, begun, world.drawn(), world.posted())
 }

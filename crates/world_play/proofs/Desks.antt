@@ -13,6 +13,7 @@ use Rattle.visit_log.specs.declared.words.Request.TheVariants.{Poll, Draw as Dra
 use Rattle.visit_log.specs.declared.words.Answer.{Answer}
 use Rattle.visit_log.specs.declared.words.Answer.TheVariants.{Poll as Polled, Draw as Drew, Claim as Claimed, Look as Looked, Enter as Entered, Leave as LeftIt, Post as PostedIt}
 use Rattle.visit_log.specs.Visit.{Event as Exchange, drew, claimed}
+use Rattle.visit_log.specs.Frame.{Task}
 use Rattle.visit_log.specs.Laws.{HasCause}
 use Rattle.unit_desk.specs.Desk.{DeskView, first_posted}
 use Rattle.lone_port.specs.Lone.{Lone, Turns}
@@ -92,32 +93,32 @@ abbrev TurnsBy : Lone → List Key → Lone → Exchange → Type 0
 TurnsBy before path after x = Turns before path x.0 x.1 after
 
 -- What an answer says of the desk is so.
-pub told_on : (before : Lone) (path : List Key) (x : Exchange) (after : Lone) (log : List Exchange) → Turns before path x.0 x.1 after
-    → ((end : WorkEnd) → HasCause end log → IsToldOf before.desk end) → (end : WorkEnd) → HasCause end (log ++ x ∷ []) → IsToldOf after.desk end
-told_on before path x after log turns told Posted (inl (note, there)) =
+pub told_on : (before : Lone) (path : List Key) (x : Exchange) (after : Lone) (task : Task) (log : List Exchange) → Turns before path x.0 x.1 after
+    → ((end : WorkEnd) → HasCause task end log → IsToldOf before.desk end) → (end : WorkEnd) → HasCause task end (log ++ x ∷ []) → IsToldOf after.desk end
+told_on before path x after task log turns told Posted (inl (note, there)) =
     elim (Contains-push_cases log x (Post note, Some PostedIt) there) as (λ _. IsSome after.desk.posted) [
       | inl old ↦ (keeps before path x.0 x.1 after turns).posted (told Posted (inl (note, old)))
       | inr e ↦ (let h : Turns before path (Post note) (Some PostedIt) after = subst (TurnsBy before path after) e turns in
           subst (λ (d : DeskView). IsSome d.posted) (sym (ap (λ (p : Lone). p.desk) h)) (first_is before.desk.posted note))
     ]
-told_on before path x after log turns told Posted (inr there) =
+told_on before path x after task log turns told Posted (inr there) =
     elim (Contains-push_cases log x (drew Done) there) as (λ _. IsSome after.desk.posted) [
       | inl old ↦ (keeps before path x.0 x.1 after turns).posted (told Posted (inr old))
       | inr e ↦ (let h : Turns before path Draws (Some (Drew Done)) after = subst (TurnsBy before path after) e turns in
           subst (λ (d : DeskView). IsSome d.posted) (sym h.0.1) h.0.0)
     ]
-told_on before path x after log turns told Spent there =
+told_on before path x after task log turns told Spent there =
     elim (Contains-push_cases log x (drew AllDrawn) there) as (λ _. after.desk.drawn ≡ after.desk.expansions) [
       | inl old ↦ (keeps before path x.0 x.1 after turns).spent (told Spent old)
       | inr e ↦ (let h : Turns before path Draws (Some (Drew AllDrawn)) after = subst (TurnsBy before path after) e turns in
           subst (λ (d : DeskView). d.drawn ≡ d.expansions) (sym h.0.2) h.0.1)
     ]
-told_on before path x after log turns told NoRoom there =
+told_on before path x after task log turns told NoRoom there =
     elim (Contains-push_cases log x (claimed Full) there) as (λ _. after.desk.claimed ≡ after.desk.room) [
       | inl old ↦ (keeps before path x.0 x.1 after turns).full (told NoRoom old)
       | inr e ↦ (let h : Turns before path Claims (Some (Claimed Full)) after = subst (TurnsBy before path after) e turns in
           subst (λ (d : DeskView). d.claimed ≡ d.room) (sym h.0.1) h.0.0)
     ]
-told_on before path x after log turns told TooHigh there = tt
-told_on before path x after log turns told NoMemory there = tt
-told_on before path x after log turns told Stopped there = tt
+told_on before path x after task log turns told TooHigh there = tt
+told_on before path x after task log turns told NoMemory there = tt
+told_on before path x after task log turns told Stopped there = tt

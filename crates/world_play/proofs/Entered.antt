@@ -117,7 +117,7 @@ turn_keeps port path (Leave (Slot slot) key update) (Some LeftIt) after k s lone
 turn_keeps port path (Post note) (Some PostedIt) after k s lone b h = same_rows port after k s (ap (λ (p : Lone). p.rows) h) b.0
 turn_keeps port path q a after k s lone b h = absurd h
 
-opened_lone : (port : Lone) (stops : Bool) → IsLone port → IsLone (opened port stops)
+pub opened_lone : (port : Lone) (stops : Bool) → IsLone port → IsLone (opened port stops)
 opened_lone port stops l = record { some = l.some; as_many = l.as_many; eight = l.eight; there = l.there; notes = l.notes }
 
 pub steps_keep : StepsKeepEntered

@@ -15,6 +15,7 @@ use Rattle.search_limits.specs.Sizes.{SettingsView}
 use Rattle.unit_desk.specs.Desk.{DeskView, fresh}
 use Rattle.visit_log.specs.declared.words.WorkEnd.{WorkEnd}
 use Rattle.visit_log.specs.declared.words.WorkEnd.TheVariants.{Posted, Spent, NoRoom, TooHigh, NoMemory, Stopped}
+use Rattle.visit_log.specs.Frame.{Task, task_for}
 use Rattle.visit_log.specs.Run.{Standing}
 use Rattle.visit_log.specs.Counts.{own_slots, own_size}
 use Rattle.visit_log.specs.Laws.{HasCause}
@@ -61,14 +62,14 @@ worker_there problem first (suc n) (suc place) w e =
 not_in_none : {X : Type 0} (x : X) → Contains [] x → ⊥
 not_in_none {X} x c = let low = c.1 in omega (arith, low)
 
-no_cause : (desk : DeskView) (end : WorkEnd) → HasCause end [] → IsToldOf desk end
-no_cause desk Posted (inl c) = absurd (not_in_none _ c.1)
-no_cause desk Posted (inr c) = absurd (not_in_none _ c)
-no_cause desk Spent c = absurd (not_in_none _ c)
-no_cause desk NoRoom c = absurd (not_in_none _ c)
-no_cause desk TooHigh c = tt
-no_cause desk NoMemory c = tt
-no_cause desk Stopped c = tt
+no_cause : (desk : DeskView) (task : Task) (end : WorkEnd) → HasCause task end [] → IsToldOf desk end
+no_cause desk task Posted (inl c) = absurd (not_in_none _ c.1)
+no_cause desk task Posted (inr c) = absurd (not_in_none _ c)
+no_cause desk task Spent c = absurd (not_in_none _ c)
+no_cause desk task NoRoom c = absurd (not_in_none _ c)
+no_cause desk task TooHigh c = tt
+no_cause desk task NoMemory c = tt
+no_cause desk task Stopped c = tt
 
 -- 3. THE TABLE: EMPTY.
 
@@ -107,7 +108,7 @@ first_fair problem s kept is some = record {
         idle = refl;
         log = [];
         leads = record { happenings = []; runs = refl; logged = refl };
-        told = no_cause (fresh problem s.expansions s.room);
+        told = no_cause (fresh problem s.expansions s.room) (task_for problem (place + 1));
       }));
 }
 

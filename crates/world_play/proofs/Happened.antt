@@ -1,6 +1,7 @@
 -- What each event comes to in a fair world.
-use Rattle.std.proofs.Common.{◌≡◌, inl, inr, ℕ, List, [], ◌∷◌, ◌++◌, length, set, get_or, arith, refl, sym, ap, ◌∙◌, subst, Bool, true, false, length-set, append-nil, append_assoc}
+use Rattle.std.proofs.Common.{◌≡◌, inl, inr, ℕ, ◌+◌, cond, List, [], ◌∷◌, ◌++◌, length, set, get_or, arith, refl, sym, ap, ◌∙◌, subst, Bool, true, false, length-set, append-nil, append_assoc}
 use Rattle.std.specs.Prelude.{Option, Some, None, slice_get, slice_index_or, IfSome, IfNone, if◌then◌else◌}
+use Rattle.std.proofs.lemmas.List.Sums.{sum_by-append}
 use Rattle.std.proofs.lemmas.Option.{slice_get_within, slice_get_read}
 use Rattle.visit_log.specs.declared.words.WorkEnd.{WorkEnd}
 use Rattle.visit_log.specs.Visit.{Event as Exchange}
@@ -8,27 +9,28 @@ use Rattle.visit_log.specs.Frame.{Task}
 use Rattle.visit_log.specs.Machine.{State, asks, starve, end_of}
 use Rattle.visit_log.specs.Run.{Standing, Leads, now_at}
 use Rattle.visit_log.specs.Sound.{IsTask}
-use Rattle.visit_log.specs.Laws.{IsLeftAlone}
+use Rattle.visit_log.specs.Laws.{IsLeftAlone, HasCause}
 use Rattle.worker_core.specs.Port.{KeepsOthers, Goes}
 use Rattle.worker_core.specs.Machine.{is_poll}
 use Rattle.lone_port.specs.Lone.{Lone, book_of, opened}
 use Rattle.lone_port.specs.World.{World, Steps, StepsAt, IsAtWork, IsIdle, Happens, Plays}
 use Rattle.lone_port.specs.declared.event.Event.{Event}
 use Rattle.lone_port.specs.declared.event.Event.TheVariants.{Step, Raise, Starve}
-use Rattle.world_play.specs.Fair.{IsFair}
-use Rattle.world_play.specs.Logs.{GoOnBy}
+use Rattle.world_play.specs.Fair.{IsFair, IsToldOf}
+use Rattle.world_play.specs.Logs.{GoOnBy, is_refused, refused_looks}
 use Rattle.world_play.proofs.Desks.{desk_same, keeps}
 use Rattle.world_play.proofs.Suited.{some_is}
 use Rattle.world_play.proofs.Stepped.{fair_on, member_on}
 use Rattle.world_play.proofs.Gone.{goes_on_by, gone_none, gone_one, gone_quietly, gone_then}
 
--- What an event comes to.
-abbrev pub Comes : World → Event → World → Type 0
-Comes world event after = (log : List (ℕ × Exchange)) × Happens world event log after × GoOnBy world.workers log after.workers
+-- What an event comes to, and how many looks were refused memory in it.
+abbrev pub Comes : World → Event → ℕ → World → Type 0
+Comes world event refused after =
+    (log : List (ℕ × Exchange)) × Happens world event log after × GoOnBy world.workers log after.workers × (refused_looks log ≡ refused)
 
 -- 1. A STEP.
 
-goes_asks : (task : Task) (s t : State) (x : Exchange) → Goes task s x t → x.0 ≡ asks s
+pub goes_asks : (task : Task) (s t : State) (x : Exchange) → Goes task s x t → x.0 ≡ asks s
 goes_asks task s t (q, None) h = h.0
 goes_asks task s t (q, Some a) h = h.0
 
@@ -42,7 +44,7 @@ pub record IsRequest (world after : World) (number place : ℕ) (worker later : 
   pub leads : (log : List Exchange) → Leads worker.task log worker.state → Leads worker.task (log ++ x ∷ []) later.state
   pub keep : KeepsOthers worker later (book_of (opened world.port false)) (book_of after.port)
 
-length_if : (b : Bool) (xs : List Bool) (i : ℕ) → length (if b then set xs i false else xs) ≡ length xs
+pub length_if : (b : Bool) (xs : List Bool) (i : ℕ) → length (if b then set xs i false else xs) ≡ length xs
 length_if true xs i = length-set xs i false
 length_if false xs i = refl
 
@@ -54,9 +56,9 @@ step_fair world after number place worker later x r =
     (keeps (opened (opened world.port false) (slice_index_or world.raised place false)) _ x.0 x.1 after.port r.steps.turns)
     (member_on (opened world.port false) after.port (slice_index_or world.raised place false) place worker later x (r.fair.members place worker r.at_work.there) r.steps r.leads)
 
-pub step_comes : (world after : World) (number place : ℕ) (worker later : Standing) (x : Exchange) → IsRequest world after number place worker later x
-    → Comes world (Step number) after
-step_comes world after number place worker later x r =
+pub step_comes : (world after : World) (number place : ℕ) (worker later : Standing) (x : Exchange) (refused : ℕ) → IsRequest world after number place worker later x
+    → refused_looks ((number, x) ∷ []) ≡ refused → Comes world (Step number) refused after
+step_comes world after number place worker later x refused r counts =
     let m = r.fair.members place worker r.at_work.there in
     let polls : is_poll (asks worker.state) ≡ is_poll x.0 = ap is_poll (sym (goes_asks worker.task worker.state later.state x r.steps.goes)) in
     let at : StepsAt world place worker x after = record {
@@ -70,6 +72,7 @@ step_comes world after number place worker later x r =
       subst (λ (ws : List Standing). GoOnBy world.workers ((number, x) ∷ []) ws) (sym r.workers)
           (gone_one world.workers place number worker later x r.at_work.there r.at_work.numbered
           (goes_on_by worker later (x ∷ []) m.idle r.steps.idle r.steps.task r.leads)),
+      counts,
     )
 
 -- 2. A RAISE.
@@ -88,11 +91,12 @@ raise_fair world after place fair e =
     })
 
 pub raise_comes : (world after : World) (number place : ℕ) (worker : Standing) → IsAtWork world number place worker
-    → after ≡ record world { raised = set world.raised place true } → Comes world (Raise number) after
+    → after ≡ record world { raised = set world.raised place true } → Comes world (Raise number) 0 after
 raise_comes world after number place worker at e = (
   [],
   inl (place, worker, at, e, refl),
   subst (λ (w : World). GoOnBy world.workers [] w.workers) (sym e) (gone_none world.workers),
+  refl,
 )
 
 -- 3. STARVING.
@@ -129,11 +133,11 @@ starve_fair world after place worker later fair there is leads alone e =
       idle = ap (λ (w : Standing). w.waiting) is;
       log = m.log;
       leads = subst (λ (t : Task). Leads t m.log later.state) (sym task) (leads_starved worker later m.idle leads m.log m.leads);
-      told = m.told;
+      told = subst (λ (t : Task). (end : WorkEnd) → HasCause t end m.log → IsToldOf world.port.desk end) (sym task) m.told;
     }))
 
 pub starve_comes : (world after : World) (number place : ℕ) (worker later : Standing) → IsFair world → IsAtWork world number place worker → later ≡ starved worker
-    → LeadsStarved worker later → after ≡ record world { workers = set world.workers place later } → Comes world (Starve number) after
+    → LeadsStarved worker later → after ≡ record world { workers = set world.workers place later } → Comes world (Starve number) 0 after
 starve_comes world after number place worker later fair at is leads e =
     let m = fair.members place worker at.there in
     let idle : later.waiting ≡ false = ap (λ (w : Standing). w.waiting) is in
@@ -144,6 +148,7 @@ starve_comes world after number place worker later fair at is leads e =
           (gone_quietly world.workers place worker later at.there
           (goes_on_by worker later [] m.idle idle task
           (λ log l. subst (λ (z : List Exchange). Leads worker.task z later.state) (sym (append-nil log)) (leads_starved worker later m.idle leads log l)))),
+      refl,
     )
 
 -- 4. A SCHEDULE.
@@ -161,20 +166,23 @@ plays_push (f ∷ es) e w v u a b h k = (
   ap (λ (z : List (ℕ × Exchange)). z ++ b) h.5 ∙ append_assoc h.0 h.1 b,
 )
 
--- What a schedule comes to.
-abbrev pub Played : World → List Event → World → Type 0
-Played world events after = (log : List (ℕ × Exchange)) × Plays world events log after × GoOnBy world.workers log after.workers
+-- What a schedule comes to, and how many looks were refused memory in it.
+abbrev pub Played : World → List Event → ℕ → World → Type 0
+Played world events refused after =
+    (log : List (ℕ × Exchange)) × Plays world events log after × GoOnBy world.workers log after.workers × (refused_looks log ≡ refused)
 
-pub played_none : (world : World) → Played world [] world
-played_none world = ([], (refl, refl), gone_none world.workers)
+pub played_none : (world : World) → Played world [] 0 world
+played_none world = ([], (refl, refl), gone_none world.workers, refl)
 
-pub played_push : (world mid after : World) (events : List Event) (event : Event) → Played world events mid → Comes mid event after
-    → Played world (events ++ event ∷ []) after
-played_push world mid after events event p c = (
-  p.0 ++ c.0,
-  plays_push events event world mid after p.0 c.0 p.1 c.1,
-  gone_then world.workers mid.workers after.workers p.0 c.0 p.2 c.2,
-)
+pub played_push : (world mid after : World) (events : List Event) (event : Event) (refused more : ℕ) → Played world events refused mid
+    → Comes mid event more after → Played world (events ++ event ∷ []) (refused + more) after
+played_push world mid after events event refused more p c =
+    let both = sum_by-append (λ (told : ℕ × Exchange). cond (is_refused told.1) 1 0) p.0 c.0 in (
+      p.0 ++ c.0,
+      plays_push events event world mid after p.0 c.0 p.1 c.1,
+      gone_then world.workers mid.workers after.workers p.0 c.0 p.2 c.2,
+      (let one = p.3 in let two = c.3 in omega (arith, both, one, two)),
+    )
 
 -- 5. WHAT THE CODE READS.
 
@@ -229,11 +237,11 @@ requested world after ready number place found first worker later stops polls re
     )
 
 -- No event of a worker that is idle changes anything.
-pub idle_step : (world : World) (number : ℕ) → IsIdle world number → Comes world (Step number) world
-idle_step world number idle = ([], inr (idle, refl, refl), gone_none world.workers)
+pub idle_step : (world : World) (number : ℕ) → IsIdle world number → Comes world (Step number) 0 world
+idle_step world number idle = ([], inr (idle, refl, refl), gone_none world.workers, refl)
 
-pub idle_raise : (world : World) (number : ℕ) → IsIdle world number → Comes world (Raise number) world
-idle_raise world number idle = ([], inr (idle, refl, refl), gone_none world.workers)
+pub idle_raise : (world : World) (number : ℕ) → IsIdle world number → Comes world (Raise number) 0 world
+idle_raise world number idle = ([], inr (idle, refl, refl), gone_none world.workers, refl)
 
-pub idle_starve : (world : World) (number : ℕ) → IsIdle world number → Comes world (Starve number) world
-idle_starve world number idle = ([], inr (idle, refl, refl), gone_none world.workers)
+pub idle_starve : (world : World) (number : ℕ) → IsIdle world number → Comes world (Starve number) 0 world
+idle_starve world number idle = ([], inr (idle, refl, refl), gone_none world.workers, refl)

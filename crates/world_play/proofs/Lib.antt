@@ -8,3 +8,5 @@ pub mod Promised
 pub mod Below
 pub mod Entered
 pub mod Crews
+pub mod Refused
+pub mod Keeping

@@ -10,11 +10,13 @@ use Rattle.visit_log.specs.Frame.{Task, task_for}
 use Rattle.visit_log.specs.Machine.{path_of}
 use Rattle.visit_log.specs.Run.{Standing, Leads}
 use Rattle.visit_log.specs.Sound.{IsTask}
+use Rattle.visit_log.specs.declared.words.WorkEnd.{WorkEnd}
 use Rattle.visit_log.specs.Counts.{own_slots, own_size}
+use Rattle.visit_log.specs.Laws.{HasCause}
 use Rattle.worker_core.specs.Port.{KeepsOthers}
 use Rattle.lone_port.specs.Lone.{Lone, book_of, opened}
 use Rattle.lone_port.specs.World.{World, Steps}
-use Rattle.world_play.specs.Fair.{IsFair, IsMember}
+use Rattle.world_play.specs.Fair.{IsFair, IsMember, IsToldOf}
 use Rattle.world_play.proofs.Desks.{KeepsDesk, keeps, told_still, told_on}
 use Rattle.world_play.proofs.Suited.{some_is}
 
@@ -119,5 +121,6 @@ member_on port next stops place worker later x m steps leads =
       idle = steps.idle;
       log = m.log ++ x ∷ [];
       leads = subst (λ (t : Task). Leads t (m.log ++ x ∷ []) later.state) (sym steps.task) (leads m.log m.leads);
-      told = told_on (opened port stops) path x next m.log steps.turns m.told;
+      told = subst (λ (t : Task). (end : WorkEnd) → HasCause t end (m.log ++ x ∷ []) → IsToldOf next.desk end) (sym steps.task)
+          (told_on (opened port stops) path x next worker.task m.log steps.turns m.told);
     }

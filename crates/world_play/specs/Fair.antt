@@ -68,7 +68,7 @@ pub record IsMember (desk : DeskView) (place : ℕ) (worker : Standing) : Type 0
   pub idle : worker.waiting ≡ false
   pub log : List Exchange
   pub leads : Leads worker.task log worker.state
-  pub told : (end : WorkEnd) → HasCause end log → IsToldOf desk end
+  pub told : (end : WorkEnd) → HasCause worker.task end log → IsToldOf desk end
 
 -- There is a worker, and of each it is known whether a stop was signalled; the count of each slot of a key is that of the visits that have entered
 -- it, over all workers, and so is the number of all; what is drawn and claimed is what the workers were given; and each is a worker of this search.

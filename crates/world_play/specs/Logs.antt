@@ -1,5 +1,6 @@
 -- How the logs of a world's workers go on.
-use Rattle.std.specs.Prelude.{◌≡◌, ◌+◌, ◌++◌, ◌==◌, ℕ, List, [], ◌∷◌, Some, length, slice_get, if◌then◌else◌}
+use Rattle.std.specs.Prelude.{◌≡◌, ◌+◌, ◌++◌, ◌==◌, ℕ, Bool, true, false, List, [], ◌∷◌, Some, None, count_by, length, slice_get, if◌then◌else◌}
+use Rattle.visit_log.specs.declared.words.Request.TheVariants.{Look}
 use Rattle.visit_log.specs.Visit.{Event as Exchange}
 use Rattle.visit_log.specs.Run.{Standing, IsReached}
 
@@ -18,3 +19,12 @@ pub record GoOnBy (workers : List Standing) (log : List (ℕ × Exchange)) (late
   pub as_many : length later ≡ length workers
   pub each : (place : ℕ) (before after : Standing) → slice_get workers place ≡ Some before → slice_get later place ≡ Some after
       → GoesOnBy before after (told_to (place + 1) log)
+
+-- Whether a look was refused memory.
+abbrev pub is_refused : Exchange → Bool
+is_refused (Look key, None) = true
+is_refused exchange = false
+
+-- How many looks were refused memory, by a world's log.
+abbrev pub refused_looks : List (ℕ × Exchange) → ℕ
+refused_looks log = count_by (λ told. is_refused told.1) log

@@ -12,8 +12,10 @@ use Rattle.visit_log.specs.Run.{Standing}
 use Rattle.visit_log.specs.Sound.{IsSound}
 use Rattle.visit_log.specs.Laws.{IsCounted}
 use Rattle.lone_port.specs.Lone.{Lone, IsLone, held_in}
-use Rattle.lone_port.specs.World.{World, Steps}
-use Rattle.world_play.specs.Fair.{all_slots, IsToldOf}
+use Rattle.lone_port.specs.Keeps.{IsKeptPort}
+use Rattle.lone_port.specs.World.{World, Steps, Happens, Plays}
+use Rattle.lone_port.specs.declared.event.Event.{Event}
+use Rattle.world_play.specs.Fair.{IsFair, all_slots, IsToldOf}
 
 -- Each slot that a visit has entered for a key holds an entry of that key.
 abbrev pub HoldsWhatIsEntered : World → Type 0
@@ -61,3 +63,20 @@ abbrev pub StepsKeepEntered : Type 0
 StepsKeepEntered = (stops : Bool) (port : Lone) (worker : Standing) (exchange : Exchange) (after : Lone) (later : Standing) → IsLone port
     → Steps stops port worker exchange after later
     → (key : Key) (slot : ℕ) → 0 < held_in port.rows port.pins key slot → HoldsAt (row_of after.rows key) slot key
+
+-- A world as a `World` keeps it: what its table and its desk count is what its workers have, all together; and these are as they are kept.
+pub record IsKeptWorld (world : World) : Type 0 where
+  pub fair : IsFair world
+  pub port : IsKeptPort world.port
+
+-- A law: a world stays so whatever happens in it.
+abbrev pub EventsKeepWorlds : Type 0
+EventsKeepWorlds = (world : World) (event : Event) (log : List (ℕ × Exchange)) (after : World) → IsKeptWorld world → Happens world event log after
+    → IsKeptWorld after
+
+-- A law: in the midst of a schedule no event gives up an entry that a visit has entered. Where the schedule has led to a world between, in which a visit
+-- is below a slot of the key, the slot holds the key's entry behind the next event.
+abbrev pub PlaysKeepEntered : Type 0
+PlaysKeepEntered = (world : World) (events : List Event) (log : List (ℕ × Exchange)) (between : World) (event : Event) (more : List (ℕ × Exchange)) (after : World)
+    → IsKeptWorld world → Plays world events log between → Happens between event more after
+    → (key : Key) (slot : ℕ) → 0 < all_slots between.workers key slot → HoldsAt (row_of after.port.rows key) slot key

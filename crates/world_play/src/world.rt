@@ -1,5 +1,5 @@
 // The world.
-ghost use Rattle.std.specs.Prelude.{◌≡◌, ◌<◌, ◌+◌, ◌↔◌, ℕ, zero, suc, true, false, List, Some, None, IfOk, IfSome, IfNone, IsTrue, All, length, slice_get, slice_set, slice_index_or, option_copied, if◌then◌else◌};
+ghost use Rattle.std.specs.Prelude.{◌≡◌, ◌≤◌, ◌<◌, ◌+◌, ◌↔◌, ◌&&◌, ℕ, zero, suc, true, false, List, Some, None, IfOk, IfSome, IfNone, IsTrue, All, length, slice_get, slice_set, slice_index_or, option_copied, if◌then◌else◌};
 ghost use Rattle.search_limits.specs.Settings.{settings_in};
 ghost use Rattle.visit_log.specs.Visit.{Event as Exchange};
 ghost use Rattle.visit_log.specs.Run.{Standing};
@@ -10,8 +10,8 @@ ghost use Rattle.lone_port.specs.Lone.{IsLone, book_of};
 ghost use Rattle.table_shard.specs.Row.{IsRow};
 ghost use Rattle.world_play.specs.Fair.{numbered, IsFair, all_below};
 ghost use Rattle.world_play.specs.Crew.{IsCrew};
-ghost use Rattle.world_play.specs.Promises.{HoldsWhatIsEntered, AreSoundWorkers, AreToldOf, AllHaveEnded, IsOver, IsLeft};
-ghost use Rattle.world_play.specs.Logs.{GoOnBy};
+ghost use Rattle.world_play.specs.Promises.{IsKeptWorld, HoldsWhatIsEntered, AreSoundWorkers, AreToldOf, AllHaveEnded, IsOver, IsLeft};
+ghost use Rattle.world_play.specs.Logs.{GoOnBy, refused_looks};
 
 use board_core::Key;
 use lone_port::{Event, LonePort, step};
@@ -73,25 +73,36 @@ impl World {
         })
     }
 
-    /// Has the events of a schedule happen, one after the other. An event of a worker that isn't there, or that has ended, changes nothing; a look
-    /// that is refused memory starves its worker.
-    pub fn play(&mut self, alloc: Global, events: &[Event])
+    /// Has the events of a schedule happen, one after the other, and says how many looks were refused memory in this call. An event of a worker that
+    /// isn't there, or that has ended, changes nothing; a look that is refused memory starves its worker.
+    pub fn play(&mut self, alloc: Global, events: &[Event]) -> usize
         // Whatever log a worker was reached by, it is reached now by that log with its own requests and answers of this call behind.
-        ensures { (log : List (ℕ × Exchange)) × Plays self.old events.now log self.new × GoOnBy self.old.workers log self.new.workers }
+        ensures { (log : List (ℕ × Exchange)) × Plays self.old events.now log self.new × GoOnBy self.old.workers log self.new.workers
+            × (refused_looks log ≡ result) }
     {
+        let mut refused = 0;
         for event in events {
-            self.happen(alloc, *event);
+            refused += self.happen(alloc, *event);
         }
+        refused
     }
 
-    // Has one event happen.
-    fn happen(&mut self, alloc: Global, event: Event)
-        ensures { (log : List (ℕ × Exchange)) × Happens self.old event log self.new × GoOnBy self.old.workers log self.new.workers }
+    // Has one event happen, and says how many looks were refused memory in it.
+    fn happen(&mut self, alloc: Global, event: Event) -> usize
+        ensures played { (log : List (ℕ × Exchange)) × Happens self.old event log self.new × GoOnBy self.old.workers log self.new.workers
+            × (refused_looks log ≡ result) }
+        ensures one { result ≤ 1 }
     {
         match event {
             Event::Step(number) => self.step(alloc, number),
-            Event::Raise(number) => self.raise(number),
-            Event::Starve(number) => self.starve(number),
+            Event::Raise(number) => {
+                self.raise(number);
+                0
+            }
+            Event::Starve(number) => {
+                self.starve(number);
+                0
+            }
         }
     }
 
@@ -114,25 +125,30 @@ impl World {
         }
     }
 
-    // Has the request of the worker of this number answered.
-    fn step(&mut self, alloc: Global, number: u32)
-        ensures { (log : List (ℕ × Exchange)) × Happens self.old (Step number) log self.new × GoOnBy self.old.workers log self.new.workers }
+    // Has the request of the worker of this number answered, and says how many looks were refused memory: 1 where this one was.
+    fn step(&mut self, alloc: Global, number: u32) -> usize
+        ensures played { (log : List (ℕ × Exchange)) × Happens self.old (Step number) log self.new × GoOnBy self.old.workers log self.new.workers
+            × (refused_looks log ≡ result) }
+        ensures one { result ≤ 1 }
     {
         let Some(place) = self.at_work(number) else {
-            return;
+            return 0;
         };
         sound_laws();
         count_laws();
         self.port.laws();
         let polls = self.workers[place].is_polling();
+        let looks = self.workers[place].is_looking();
         let stops = take_stop(&mut self.raised, place, polls);
         self.port.open(false);
         step(alloc, &mut self.port, &mut self.workers[place], stops);
+        refusals(looks, self.workers[place].is_winding())
     }
 
     // Signals a stop to the worker of this number.
     fn raise(&mut self, number: u32)
-        ensures { (log : List (ℕ × Exchange)) × Happens self.old (Raise number) log self.new × GoOnBy self.old.workers log self.new.workers }
+        ensures { (log : List (ℕ × Exchange)) × Happens self.old (Raise number) log self.new × GoOnBy self.old.workers log self.new.workers
+            × (refused_looks log ≡ 0) }
     {
         let Some(place) = self.at_work(number) else {
             return;
@@ -142,7 +158,8 @@ impl World {
 
     // Starves the worker of this number.
     fn starve(&mut self, number: u32)
-        ensures { (log : List (ℕ × Exchange)) × Happens self.old (Starve number) log self.new × GoOnBy self.old.workers log self.new.workers }
+        ensures { (log : List (ℕ × Exchange)) × Happens self.old (Starve number) log self.new × GoOnBy self.old.workers log self.new.workers
+            × (refused_looks log ≡ 0) }
     {
         let Some(place) = self.at_work(number) else {
             return;
@@ -197,6 +214,7 @@ impl World {
         ensures holds { HoldsWhatIsEntered self.now }
         ensures sound { AreSoundWorkers self.now.workers }
         ensures told { AreToldOf self.now }
+        ensures kept { IsKeptWorld self.now }
         ensures over { AllHaveEnded self.now.workers → IsOver self.now }
         ensures left { AllHaveEnded self.now.workers → IsLeft self.now }
     {
@@ -248,4 +266,11 @@ fn take_stop(raised: &mut Vec<bool>, place: usize, polls: bool) -> bool
         raised[place] = false;
     }
     stops
+}
+
+// How many looks were refused memory in a step, by whether the worker looked before it and winds up behind it: what a look shows never has it wind up.
+fn refusals(looked: bool, winds: bool) -> usize
+    ensures { result ≡ (if looked && winds then 1 else 0) }
+{
+    if looked && winds { 1 } else { 0 }
 }

@@ -1,7 +1,8 @@
 use Rattle.std.proofs.Common.{subst}
 use Rattle.lone_port.specs.World.{World}
-use Rattle.world_play.specs.Promises.{HoldsWhatIsEntered, AreSoundWorkers, AreToldOf, AllHaveEnded, IsOver, IsLeft}
+use Rattle.world_play.specs.Promises.{IsKeptWorld, HoldsWhatIsEntered, AreSoundWorkers, AreToldOf, AllHaveEnded, IsOver, IsLeft}
 use Rattle.world_play.proofs.Promised.{holds, sound_workers, told_of, over, left}
+use Rattle.world_play.proofs.Keeping.{kept_world, rows_few}
 use Rattle.world_play.proofs.world.World.laws.Goals as goal
 
 pub returns-clause-holds : goal.returns-clause-holds
@@ -28,3 +29,9 @@ pub returns-clause-left : goal.returns-clause-left
 returns-clause-left c =
     let w : World = record { port = c.self.inside.port; workers = c.self.inside.workers.items; raised = c.self.inside.raised.items } in
     subst (λ (v : World). AllHaveEnded v.workers → IsLeft v) c.self.view_is (left w c.self.invariant)
+
+pub returns-clause-kept : goal.returns-clause-kept
+returns-clause-kept c =
+    let w : World = record { port = c.self.inside.port; workers = c.self.inside.workers.items; raised = c.self.inside.raised.items } in
+    subst IsKeptWorld c.self.view_is
+    (kept_world w c.self.invariant (record { lone = c.laws.ensures.lone; few = rows_few w.port c.laws.ensures.rows }))

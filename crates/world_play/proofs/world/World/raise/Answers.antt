@@ -29,4 +29,4 @@ returns c =
     let after : World = record w { raised = set w.raised c.in-Some.place true } in
     let found = c.in-Some.ensures.some in
     let at : IsAtWork w c.args.number c.in-Some.place found.0 = subst (λ (v : World). IsAtWork v c.args.number c.in-Some.place found.0) (sym c.self.view_is) found.1 in
-    subst (λ (v : World). Comes v (Raise c.args.number) after) c.self.view_is (raise_comes w after c.args.number c.in-Some.place found.0 at refl)
+    subst (λ (v : World). Comes v (Raise c.args.number) 0 after) c.self.view_is (raise_comes w after c.args.number c.in-Some.place found.0 at refl)

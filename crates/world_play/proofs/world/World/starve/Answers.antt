@@ -36,5 +36,5 @@ returns c =
     let worker = c.index_mut-worker.result.now in
     let here = at_work_by w c.args.number c.in-Some.place found.0 worker at c.index_mut-worker.ensures.value in
     let e = c.starve.ensures in
-    subst (λ (v : World). Comes v (Starve c.args.number) after) c.self.view_is
+    subst (λ (v : World). Comes v (Starve c.args.number) 0 after) c.self.view_is
     (starve_comes w after c.args.number c.in-Some.place worker c.starve.new.self c.self.invariant here e.starved e.log refl)

@@ -5,11 +5,12 @@ use Rattle.lone_port.specs.Lone.{Lone, book_of}
 use Rattle.lone_port.specs.World.{World, IsAtWork}
 use Rattle.lone_port.specs.declared.event.Event.TheVariants.{Step}
 use Rattle.world_play.proofs.Suited.{suited}
+use Rattle.world_play.proofs.Refused.{step_refused}
 use Rattle.world_play.proofs.Happened.{Comes, at_work_by, requested, step_fair, step_comes, idle_step}
 use Rattle.world_play.proofs.world.World.step.Goals as goal
 
-pub returns-in_default : goal.returns-in_default
-returns-in_default c = idle_step c.args.self.now c.args.number c.in_default.ensures.none
+pub returns-in_default-clause-played : goal.returns-in_default-clause-played
+returns-in_default-clause-played c = idle_step c.args.self.now c.args.number c.in_default.ensures.none
 
 pub index-requires : goal.index-requires
 index-requires c =
@@ -67,8 +68,8 @@ invariant_of-self c =
     c.take_stop-stops.ensures.stops c.open.ensures refl c.take_stop-stops.ensures.told e.steps e.ended e.others in
     step_fair w after c.args.number c.in-Some.place c.index_mut.result.now c.step.new.worker r.0 r.1
 
-pub returns : goal.returns
-returns c =
+pub returns-clause-played : goal.returns-clause-played
+returns-clause-played c =
     let w : World = record { port = c.self.inside.port; workers = c.self.inside.workers.items; raised = c.self.inside.raised.items } in
     let after : World = record { port = c.step.new.port; workers = set w.workers c.in-Some.place c.step.new.worker; raised = c.take_stop-stops.new.raised.items } in
     let found = c.in-Some.ensures.some in
@@ -77,5 +78,7 @@ returns c =
     let r = requested w after c.open.new.self c.args.number c.in-Some.place found.0 c.index.result.now c.index_mut.result.now c.step.new.worker
     c.take_stop-stops.result c.is_polling-polls.result c.step.result c.self.invariant at c.index.ensures c.index_mut.ensures.value c.is_polling-polls.ensures
     c.take_stop-stops.ensures.stops c.open.ensures refl c.take_stop-stops.ensures.told e.steps e.ended e.others in
-    subst (λ (v : World). Comes v (Step c.args.number) after) c.self.view_is
-    (step_comes w after c.args.number c.in-Some.place c.index_mut.result.now c.step.new.worker r.0 r.1)
+    let counts = step_refused w after c.args.number c.in-Some.place c.index_mut.result.now c.step.new.worker r.0 c.index-2.result.now c.index-3.result.now
+    c.is_looking-looks.result c.is_winding.result c.refusals.result r.1 c.index-2.ensures c.index-3.ensures c.is_looking-looks.ensures c.is_winding.ensures c.refusals.ensures in
+    subst (λ (v : World). Comes v (Step c.args.number) c.refusals.result after) c.self.view_is
+    (step_comes w after c.args.number c.in-Some.place c.index_mut.result.now c.step.new.worker r.0 c.refusals.result r.1 counts)
