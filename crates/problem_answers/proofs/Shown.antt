@@ -1,18 +1,43 @@
 -- The verdict of a note.
-use Rattle.std.proofs.Common.{◌≡◌, inr}
+use Rattle.std.proofs.Common.{◌≡◌, ◌∷◌, [], List, inr, refl, arith}
 use Rattle.std.specs.Prelude.{Result, Ok, Err, IfOk}
+use Rattle.bit_boards.specs.declared.piece.Side.{Side}
 use Rattle.board_core.specs.Board.{Board}
+use Rattle.board_core.specs.declared.moves.Move.{Move}
+use Rattle.usi_text.specs.Lines.{mate_text, nomate_text, AllHaveText}
+use Rattle.cert_text.specs.Certificate.{Mating, Escaping}
+use Rattle.cert_text.specs.Entries.{line}
+use Rattle.cert_text.specs.Reading.{IsTextOf}
+use Rattle.cert_text.specs.declared.certificate.Certificate.TheVariants as certificates
+use Rattle.play_line.specs.Line.{IsMainLine}
+use Rattle.app_texts.specs.Texts.{solution_text}
 use Rattle.cert_text.specs.declared.certificate.Certificate.{Certificate}
 use Rattle.cert_text.specs.Kinds.{claim_of}
 use Rattle.notes.specs.Derivation.{Derivation, conclusion_of}
-use Rattle.cert_extract.specs.Extracted.{claim_by, ComesFrom}
+use Rattle.cert_extract.specs.Extracted.{claim_by, ComesFrom, HasMoreThan}
 use Rattle.app_texts.specs.declared.answer.Solution.{Solution}
 use Rattle.app_texts.specs.declared.answer.Solution.TheVariants.{Mate, NoMate, Unknown}
+use Rattle.cert_text.specs.declared.limits.TheConstants.{MOST_ENTRIES}
 use Rattle.search_limits.specs.Sizes.{SettingsView}
+use Rattle.search_limits.specs.declared.cause.Cause.TheVariants.{Entries}
+use Rattle.visit_log.specs.Frame.{task_for}
+use Rattle.visit_log.specs.Run.{Standing}
+use Rattle.visit_log.specs.Sound.{IsAnswer}
 use Rattle.search_pool.specs.End.{IsAlone}
 use Rattle.search_pool.specs.declared.end.SearchEnd.TheVariants.{Solved}
 use Rattle.problem_answers.specs.Answer.{IsShown, IsVerdictOf}
 use Rattle.problem_answers.specs.Reports.{IsFoundAlone}
+
+-- The text of a mate's answer is the certificate's, behind the line of its moves, of which there is one at least.
+pub mate_told : (c : Mating) (attacker : Side) (b : Board) (moves : List Move) → IsMainLine c attacker b moves → AllHaveText moves
+    → IsTextOf (certificates.Mate c) (solution_text (Mate c moves))
+mate_told c attacker b [] is have = absurd is
+mate_told c attacker b (move ∷ moves) is have =
+    (line (mate_text (move ∷ moves)), inr (mate_text (move ∷ moves), (move ∷ moves, omega arith, have, refl), refl), refl)
+
+-- That of an answer that there is none likewise.
+pub no_mate_told : (c : Escaping) → IsTextOf (certificates.Escape c) (solution_text (NoMate c))
+no_mate_told c = (line nomate_text, inr (nomate_text, refl, refl), refl)
 
 -- What shows with the certificate of a note what it says is the note's verdict.
 pub verdict_of : {E : Type 0} (result : Result Solution E) (p : Board) (note : Derivation) (certificate : Certificate)
@@ -21,6 +46,11 @@ verdict_of (Ok (Mate c moves)) p note certificate claim from shown = record { ce
 verdict_of (Ok (NoMate c)) p note certificate claim from shown = record { certificate = certificate; claim = claim; from = from; shown = shown }
 verdict_of (Ok (Unknown cause crew)) p note certificate claim from shown = absurd shown
 verdict_of (Err error) p note certificate claim from shown = tt
+
+-- A verdict that isn't told.
+pub untold_of : (p : Board) (note : Derivation) (crew : List Standing) → IsAnswer (task_for p 1) note → HasMoreThan MOST_ENTRIES p note → crew ≡ []
+    → IsVerdictOf p note (Unknown (Entries MOST_ENTRIES) crew)
+untold_of p note crew answers more nobody = record { cause = refl; answers = answers; more = more; nobody = nobody }
 
 -- The same of a search alone that nothing stops.
 pub found_alone_of : {E : Type 0} (result : Result Solution E) (p : Board) (s : SettingsView) (note : Derivation) → IsAlone p s (Solved note)

@@ -7,7 +7,7 @@ use Rattle.cert_text.specs.declared.certificate.Certificate.{Certificate}
 use Rattle.cert_text.specs.declared.certificate.Certificate.TheVariants as certificates
 use Rattle.cert_text.specs.Certificate.{Mating, Escaping}
 use Rattle.cert_text.specs.Kinds.{claim_of}
-use Rattle.cert_text.specs.Reading.{IsReadable}
+use Rattle.cert_text.specs.Reading.{IsReadable, IsTextOf}
 use Rattle.cert_text.specs.declared.limits.TheConstants.{MOST_ENTRIES}
 use Rattle.cert_check.specs.Valid.{ValidMate, ValidEscape}
 use Rattle.cert_check.specs.declared.verdict.Verdict.{Verdict}
@@ -17,8 +17,11 @@ use Rattle.notes.specs.Derivation.{Derivation, conclusion_of}
 use Rattle.cert_extract.specs.Extracted.{claim_by, ComesFrom, HasMoreThan}
 use Rattle.search_limits.specs.declared.cause.Cause.{Cause}
 use Rattle.search_limits.specs.declared.cause.Cause.TheVariants.{Entries}
+use Rattle.visit_log.specs.Frame.{task_for}
 use Rattle.visit_log.specs.Run.{Standing}
+use Rattle.visit_log.specs.Sound.{IsAnswer}
 use Rattle.play_line.specs.Line.{IsMainLine}
+use Rattle.app_texts.specs.Texts.{solution_text}
 use Rattle.app_texts.specs.declared.answer.Solution.{Solution}
 use Rattle.app_texts.specs.declared.answer.Solution.TheVariants.{Mate, NoMate, Unknown}
 
@@ -26,20 +29,24 @@ use Rattle.app_texts.specs.declared.answer.Solution.TheVariants.{Mate, NoMate, U
 abbrev pub IsAcceptedFor : Board → Certificate → Type 0
 IsAcceptedFor p certificate = (verdict : Verdict) → IsVerdict certificate p verdict → verdict ≡ CheckAccepted
 
--- A mate is shown: the position is one, the certificate is valid for it and accepted, its text is read, and the moves are its main line.
+-- A mate is shown: the position is one, the certificate is valid for it and accepted, and can be read, the text of the answer is one of
+-- the certificate, and the moves are its main line.
 pub record IsMateShown (p : Board) (c : Mating) (moves : List Move) : Type 0 where
   pub mate : IsMate p.side p
   pub valid : ValidMate c p
   pub accepted : IsAcceptedFor p (certificates.Mate c)
   pub readable : IsReadable (certificates.Mate c)
+  pub text : IsTextOf (certificates.Mate c) (solution_text (Mate c moves))
   pub line : IsMainLine c p.side p moves
 
--- That there is no mate is shown: the position is none, the certificate is valid for it and accepted, and its text is read.
+-- That there is no mate is shown: the position is none, the certificate is valid for it and accepted, and can be read, and the text of
+-- the answer is one of the certificate.
 pub record IsNoMateShown (p : Board) (c : Escaping) : Type 0 where
   pub no_mate : ¬ IsMate p.side p
   pub valid : ValidEscape c p
   pub accepted : IsAcceptedFor p (certificates.Escape c)
   pub readable : IsReadable (certificates.Escape c)
+  pub text : IsTextOf (certificates.Escape c) (solution_text (NoMate c))
 
 -- A solution shows, with this certificate, what it says.
 abbrev pub IsShown : Board → Certificate → Solution → Type 0
@@ -55,10 +62,11 @@ pub record IsShownBy (p : Board) (note : Derivation) (solution : Solution) : Typ
   pub from : ComesFrom note certificate
   pub shown : IsShown p certificate solution
 
--- The verdict of a note isn't told: more different positions of the attacker stand in its tree than entries are read, so a certificate
--- may be too long. No workers are named.
+-- The verdict of a note that answers the problem isn't told: a walk through its tree meets more different positions of the attacker than
+-- entries are read. No workers are named.
 pub record IsUntold (p : Board) (note : Derivation) (cause : Cause) (crew : List Standing) : Type 0 where
   pub cause : cause ≡ Entries MOST_ENTRIES
+  pub answers : IsAnswer (task_for p 1) note
   pub more : HasMoreThan MOST_ENTRIES p note
   pub nobody : crew ≡ []
 

@@ -6,6 +6,7 @@ use Rattle.clap.specs.Words.{Text as Word}
 use Rattle.mate_def.specs.Mate.{IsMate}
 use Rattle.play_line.specs.Line.{IsMainLine}
 use Rattle.cert_text.specs.declared.certificate.Certificate.{Certificate}
+use Rattle.cert_text.specs.declared.certificate.Certificate.TheVariants as certificates
 use Rattle.cert_text.specs.Certificate.{Mating, Escaping}
 use Rattle.cert_text.specs.Reading.{IsTextOf}
 use Rattle.cert_text.specs.declared.head.Claim.{Claim}
@@ -25,6 +26,7 @@ use Rattle.tsume_app.specs.declared.ended.Ended.{Ended}
 use Rattle.tsume_app.specs.declared.ended.Ended.TheVariants.{Answered, CutShort, Failed}
 use Rattle.app_texts.specs.declared.fault.Fault.TheVariants.{NotUtf8, Words, Asked, TooLong, Problem, Cert, Read, NoMemory}
 use Rattle.tsume_app.specs.Headline.{StandsForMate, StandsForNoMate, StandsForUnknown, NamesMate, NamesNoMate, IsValidText, IsAccepted, IsBrokenOff}
+use Rattle.problem_answers.specs.Answer.{IsAcceptedFor}
 use Rattle.problem_answers.specs.Reading.{StandsFor}
 use Rattle.tsume_app.specs.Stops.{Signals}
 use Rattle.tsume_app.specs.Outside.{Shown}
@@ -41,7 +43,9 @@ mate_of settings form watch stops source sink input c moves ended told =
       stands_for = subst (λ (i : List ℕ). StandsFor form i (Ok d.true_of.problem)) (took_it source.told source.told_after d.input input told d.read.took) d.true_of.stands_for;
       mate = d.true_of.true_of.verdict.shown.1.mate;
       valid = d.true_of.true_of.verdict.shown.1.valid;
+      accepted = d.true_of.true_of.verdict.shown.1.accepted;
       readable = d.true_of.true_of.verdict.shown.1.readable;
+      text = d.true_of.true_of.verdict.shown.1.text;
       line = d.true_of.true_of.verdict.shown.1.line;
     }
 
@@ -54,7 +58,9 @@ no_mate_of settings form watch stops source sink input c ended told =
       stands_for = subst (λ (i : List ℕ). StandsFor form i (Ok d.true_of.problem)) (took_it source.told source.told_after d.input input told d.read.took) d.true_of.stands_for;
       no_mate = d.true_of.true_of.verdict.shown.1.no_mate;
       valid = d.true_of.true_of.verdict.shown.1.valid;
+      accepted = d.true_of.true_of.verdict.shown.1.accepted;
       readable = d.true_of.true_of.verdict.shown.1.readable;
+      text = d.true_of.true_of.verdict.shown.1.text;
     }
 
 pub unknown_of : (settings : SettingsView) (form : ProblemForm) (watch : WatchView) (stops : Signals) (source sink : Shown) (input : List ℕ) (cause : Cause) (crew : List Standing)
@@ -86,7 +92,9 @@ own_mate_of words stops source sink ended c moves does refuses is = go (command_
       record {
         mate = subst (λ (p : Board). IsMate p.side p) own shown.mate;
         valid = subst (ValidMate c) own shown.valid;
+        accepted = subst (λ (p : Board). IsAcceptedFor p (certificates.Mate c)) own shown.accepted;
         readable = shown.readable;
+        text = shown.text;
         line = subst (λ (p : Board). IsMainLine c p.side p moves) own shown.line;
       }
 
@@ -108,7 +116,9 @@ own_no_mate_of words stops source sink ended c does refuses is = go (command_of 
       record {
         no_mate = subst (λ (p : Board). ¬ IsMate p.side p) own shown.no_mate;
         valid = subst (ValidEscape c) own shown.valid;
+        accepted = subst (λ (p : Board). IsAcceptedFor p (certificates.Escape c)) own shown.accepted;
         readable = shown.readable;
+        text = shown.text;
       }
 
 accepted_is_valid : (workers : ℕ) (problem : Option Word) (stops : Signals) (source sink : Shown) (input : List ℕ) (claim : Claim) (entries : ℕ)

@@ -27,7 +27,7 @@ workers_option = number_option (codes "workers") 1 MOST_WORKERS (codes "1")
 abbrev pub expansions_option : Text → Rule
 expansions_option default = number_option (codes "expansions") 1 MOST_EXPANSIONS default
 
--- The room is 1 to 1,000,000,000 notes, and that where nothing is said.
+-- The room is 1 to 1,000,000,000 notes, and the most where nothing is said.
 abbrev pub room_option : Rule
 room_option = number_option (codes "room") 1 MOST_ROOM (codes "1000000000")
 

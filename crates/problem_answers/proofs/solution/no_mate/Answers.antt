@@ -1,5 +1,6 @@
 use Rattle.std.proofs.Common.{refl}
 use Rattle.cert_text.specs.declared.certificate.Certificate.TheVariants as certificates
+use Rattle.problem_answers.proofs.Shown.{no_mate_told}
 use Rattle.problem_answers.proofs.solution.no_mate.Goals as goal
 
 pub returns-clause-shown : goal.returns-clause-shown
@@ -12,5 +13,6 @@ returns-clause-shown c =
         valid = c.requires.valid;
         accepted = λ verdict is. c.valid_is_accepted.ensures.accepted escape p verdict is c.requires.valid;
         readable = c.requires.readable;
+        text = no_mate_told c.args.certificate;
       },
     )
