@@ -84,7 +84,8 @@ fn room_option<'a>(alloc: Global) -> Arg<'a>
         "1000000000",
         "Solved positions that it may note down before it gives\n\
          up, 1 to 1000000000. A visit notes at most one, so this\n\
-         is no limit unless given. Each takes some 400 bytes",
+         is no limit where it isn't given. Each takes some 400\n\
+         bytes",
     )
 }
 
