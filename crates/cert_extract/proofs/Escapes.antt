@@ -1,5 +1,5 @@
 -- The walk of an escape: what is listed so far, and which notes are yet to be walked.
-use Rattle.std.proofs.Common.{◌≡◌, ◌≢◌, ◌<◌, ◌≤◌, ◌++◌, ◌⊎◌, inl, inr, ℕ, zero, suc, List, [], ◌∷◌, length, map, reverse, Contains, arith, refl, sym, ◌∙◌, ap, subst}
+use Rattle.std.proofs.Common.{◌≡◌, ◌≢◌, ◌≤◌, ◌++◌, ◌⊎◌, inl, inr, ℕ, zero, suc, List, [], ◌∷◌, length, map, reverse, Contains, arith, refl, sym, ◌∙◌, ap, subst}
 use Rattle.std.specs.Prelude.{Some, slice_get}
 use Rattle.std.proofs.lemmas.List.{map_push, length-append}
 use Rattle.std.proofs.lemmas.Option.{slice_get_within}
@@ -22,7 +22,7 @@ use Rattle.list_laws.proofs.Standing.{contained}
 use Rattle.notes.specs.Valid.{IsValid}
 use Rattle.notes.specs.Derivation.{Derivation, attacker_of, conclusion_of, position_of, tag_of}
 use Rattle.cert_extract.specs.Tree.{two_under}
-use Rattle.cert_extract.specs.Extracted.{IsEscapeFrom, IsMet, HasMoreThan}
+use Rattle.cert_extract.specs.Extracted.{IsEscapeFrom}
 use Rattle.cert_extract.proofs.Trees.{in_itself, in_reverse, of_reverse}
 use Rattle.cert_extract.proofs.Rules.{IsPending, EscapesDown, escapes_down, kept_at, problem_at}
 
@@ -204,10 +204,6 @@ pub placed_old : (old new : Places) (q : Board) (positions : List Board) (place 
 placed_old old new q positions place known adds at differs =
     adds positions positions known (inl (contained positions place q (is_old positions q place at differs), refl))
 
--- One more than so many are listed, with the one behind all others.
-pub more_listed : {X : Type 0} (xs : List X) (x : X) (most : ℕ) → most ≡ length xs → most < length (xs ++ x ∷ [])
-more_listed xs x most last = let long = length-append xs (x ∷ []) in omega (arith, long, last)
-
 -- Where fewer are listed than so many, one more still is within that.
 pub few_more : {X : Type 0} (xs ys : List X) (x : X) (place most : ℕ) → ys ≡ xs ++ x ∷ [] → place ≡ length xs → place ≢ most → length xs ≤ most
     → length ys ≤ most
@@ -215,15 +211,6 @@ few_more {X} xs ys x place most is last differs few =
     let longer = ap (λ (zs : List X). length zs) is in
     let long = length-append xs (x ∷ []) in
     omega (arith, longer, long, last, differs, few)
-
-pub met_escape : (attacker : Side) (top : Derivation) (b : Board) → conclusion_of top ≡ Escape → IsListed attacker top b → IsMet top attacker b
-met_escape attacker top b escape listed = record {
-  note = listed.from.note;
-  within = listed.from.within;
-  about = listed.from.about;
-  concludes = listed.from.concludes ∙ sym escape;
-  turn = listed.turn;
-}
 
 -- The stack of notes, as references
 
@@ -265,23 +252,6 @@ module _ {A : Type 0} (v : A → Derivation) where
   escape_past p top positions pending rest next q place is same at walk =
       escape_met p top positions (map v rest) (v next) (subst (IsEscapeWalk p top positions) (popped pending rest next is) walk)
       (subst (Contains positions) same (contained positions place q at))
-
-  -- as many are listed as are asked for at most, and the next one isn't among them
-  pub escape_too_many : (p : Board) (top : Derivation) (positions : List Board) (pending rest : List A) (next : A) (q : Board) (old new : Places)
-      (place most : ℕ) → conclusion_of top ≡ Escape → pending ≡ rest ++ next ∷ [] → q ≡ position_of (v next) → ArePlacesOf old positions
-      → Adds old q new → IsPlaceOrNext positions q place → place ≡ length positions → place ≡ most
-      → IsEscapeWalk p top positions (map v pending) → HasMoreThan most p top
-  escape_too_many p top positions pending rest next q old new place most escape is same known adds at last full walk =
-      let at_next = subst (IsEscapeWalk p top positions) (popped pending rest next is) walk in
-      let walked = escape_walked p top positions (map v rest) (v next) at_next in
-      record {
-        positions = positions ++ position_of (v next) ∷ [];
-        more = more_listed positions (position_of (v next)) most (sym full ∙ last);
-        apart =
-            (placed_new old new q (position_of (v next)) positions (positions ++ position_of (v next) ∷ []) place known adds at last (sym same)
-            refl).apart;
-        from = λ b c. met_escape p.side top b escape (walked.listed b c);
-      }
 
   pub escape_done : (p : Board) (top : Derivation) (positions : List Board) (pending : List A) → length pending ≡ 0
       → IsEscapeWalk p top positions (map v pending) → AreApart positions → AreEscapeEntries p positions

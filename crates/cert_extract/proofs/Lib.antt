@@ -5,3 +5,4 @@ pub mod Escapes
 pub mod Texts
 pub mod Mates
 pub mod Counts
+pub mod Walked

@@ -10,7 +10,7 @@ use Rattle.board_core.specs.declared.moves.Move.{Move}
 use Rattle.board_core.specs.Board.{Board}
 use Rattle.board_core.specs.Kept.{IsKept}
 use Rattle.board_core.specs.Text.{HasText}
-use Rattle.list_laws.proofs.Standing.{contained, at_place, from_map, contains_map}
+use Rattle.list_laws.proofs.Standing.{contained, contains_map}
 use Rattle.shogi_rules.specs.Rules.{after}
 use Rattle.shogi_rules.specs.Tsume.{IsCheck, IsEvasion, IsProblem}
 use Rattle.mate_def.specs.Mate.{after_both}
@@ -19,15 +19,15 @@ use Rattle.mate_facts.specs.Entries.{AreApart, positions_of, IsListedBelow}
 use Rattle.cert_order.specs.Entries.{AreMateEntries}
 use Rattle.notes.specs.declared.rule.Rule.TheVariants.{MateBy}
 use Rattle.notes.specs.declared.rule.Conclusion.TheVariants.{Mate}
-use Rattle.notes.specs.Derivation.{Derivation, position_of, rule_of, height_of, concluded, conclusion_of}
+use Rattle.notes.specs.Derivation.{Derivation, position_of, rule_of, height_of}
 use Rattle.cert_extract.specs.Tree.{two_under}
-use Rattle.cert_extract.specs.Extracted.{IsMateFrom, IsMet, HasMoreThan}
+use Rattle.cert_extract.specs.Extracted.{IsMateFrom}
 use Rattle.cert_extract.proofs.Trees.{in_reverse, of_reverse}
 use Rattle.cert_extract.proofs.Rules.{IsPending, MatesDown, mates_down, kept_at, problem_at}
 use Rattle.position_places.specs.declared.places.Places.{Places}
 use Rattle.position_places.specs.Places.{ArePlacesOf, IsPlaceOrNext}
 use Rattle.shogi_rules.specs.Laws.{LegalBoardMoves}
-use Rattle.cert_extract.proofs.Escapes.{IsAhead, none_in, Adds, is_old, placed_new, placed_old, more_listed, first_pending, popped}
+use Rattle.cert_extract.proofs.Escapes.{IsAhead, none_in, Adds, is_old, placed_new, placed_old, first_pending, popped}
 use Rattle.cert_extract.proofs.Texts.{check_has_text}
 
 -- 1. Lists in which one item is put in another's place
@@ -176,7 +176,7 @@ module _ (p : Board) (top : Derivation) (entries : List MateEntry) (rest : List 
         subst (λ (b : Board). IsCheck p.side b entry.by) (sym is.about)
         (subst (IsCheck p.side (position_of note)) (by_of down.check entry.by (sym down.by ∙ is.by)) down.is_check)
 
-    its_listed : IsListedMate p.side top entry
+    pub its_listed : IsListedMate p.side top entry
     its_listed = record {
       from = record { note = note; within = here_pending.within; about = sym is.about; by = is.by; high = is.high };
       kept = subst IsKept (sym is.about) (kept_at note here_pending.valid);
@@ -318,16 +318,6 @@ mate_ended p top entries walk apart = record {
   apart = apart;
 }
 
-pub met_mate : (attacker : Side) (top : Derivation) (entry : MateEntry) → conclusion_of top ≡ Mate → IsListedMate attacker top entry
-    → IsMet top attacker entry.at
-met_mate attacker top entry mate listed = record {
-  note = listed.from.note;
-  within = listed.from.within;
-  about = listed.from.about;
-  concludes = ap concluded listed.from.by ∙ sym mate;
-  turn = listed.turn;
-}
-
 -- 5. The stack of notes, as references
 
 module _ {A : Type 0} (v : A → Derivation) where
@@ -339,7 +329,7 @@ module _ {A : Type 0} (v : A → Derivation) where
 
   module _ (p : Board) (top : Derivation) (entries : List MateEntry) (pending rest : List A) (next : A) (is : pending ≡ rest ++ next ∷ [])
       (walk : IsMateWalk p top entries (map v pending)) where
-    at_next : IsMateWalk p top entries (map v rest ++ v next ∷ [])
+    pub at_next : IsMateWalk p top entries (map v rest ++ v next ∷ [])
     at_next = subst (IsMateWalk p top entries) (popped v pending rest next is) walk
 
     pub mate_past : (place : ℕ) (old entry : MateEntry) → IsEntryOf (v next) entry → slice_get entries place ≡ Some old → old.at ≡ entry.at
@@ -366,32 +356,6 @@ module _ {A : Type 0} (v : A → Derivation) where
         (mate_walked p top entries (map v rest) (v next) at_next entry its goes (set entries place entry) (set_below entries place old entry at (sym same) low)
         (set_here entries place old entry at) (λ other c. set_cases entries place entry other c)
         (λ b c. subst (λ (bs : List Board). Contains bs b) (sym (positions_set entries place old entry at same)) c)))
-
-  -- as many are listed as are asked for at most, and the next one isn't among them
-  pub mate_too_many : (p : Board) (top : Derivation) (entries : List MateEntry) (pending rest : List A) (next : A) (entry : MateEntry)
-      (old new : Places) (place most : ℕ) → conclusion_of top ≡ Mate → pending ≡ rest ++ next ∷ [] → IsEntryOf (v next) entry → LegalBoardMoves
-      → ArePlacesOf old (positions_of entries) → Adds old entry.at new → IsPlaceOrNext (positions_of entries) entry.at place → place ≡ length entries
-      → place ≡ most → IsMateWalk p top entries (map v pending) → HasMoreThan most p top
-  mate_too_many p top entries pending rest next entry old new place most mate is its goes known adds at last full walk =
-      let many = length-map entries (λ (e : MateEntry). e.at) in
-      let behind : place ≡ length (positions_of entries) = last ∙ sym many in
-      let walked = at_next p top entries pending rest next is walk in
-      record {
-        positions = positions_of entries ++ entry.at ∷ [];
-        more = more_listed (positions_of entries) entry.at most (sym full ∙ behind);
-        apart =
-            (placed_new old new entry.at entry.at (positions_of entries) (positions_of entries ++ entry.at ∷ []) place known adds at behind refl
-            refl).apart;
-        from = λ b c. elim (Contains-push_cases (positions_of entries) entry.at b c) [
-          | inl before ↦
-              let found = from_map (λ (e : MateEntry). e.at) entries before.0 b (at_place (positions_of entries) b before) in
-              subst (IsMet top p.side) found.2
-              (met_mate p.side top found.0 mate (walk.listed found.0 (contained entries before.0 found.0 found.1)))
-          | inr same ↦
-              subst (IsMet top p.side) same
-              (met_mate p.side top entry mate (its_listed p top entries (map v rest) (v next) walked entry its goes))
-        ];
-      }
 
   pub mate_done : (p : Board) (top : Derivation) (entries : List MateEntry) (pending : List A) → length pending ≡ 0
       → IsMateWalk p top entries (map v pending) → AreApart (positions_of entries) → AreMateEntries p entries

@@ -1,5 +1,5 @@
 -- What is extracted from a note's tree.
-use Rattle.std.specs.Prelude.{◌≡◌, ◌<◌, ◌*◌, ℕ, List, Contains, length}
+use Rattle.std.specs.Prelude.{◌≡◌, ◌<◌, ◌*◌, ℕ, List, Contains, length, map}
 use Rattle.bit_boards.specs.declared.piece.Side.{Side}
 use Rattle.board_core.specs.Board.{Board}
 use Rattle.mate_facts.specs.declared.entry.MateEntry.{MateEntry}
@@ -8,6 +8,7 @@ use Rattle.cert_text.specs.declared.head.Claim.{Claim}
 use Rattle.cert_text.specs.declared.head.Claim.TheVariants as claims
 use Rattle.cert_text.specs.declared.certificate.Certificate.{Certificate}
 use Rattle.cert_text.specs.declared.certificate.Certificate.TheVariants as certificates
+use Rattle.cert_order.specs.Entries.{HaveSame}
 use Rattle.notes.specs.declared.rule.Rule.TheVariants.{MateBy}
 use Rattle.notes.specs.declared.rule.Conclusion.{Conclusion}
 use Rattle.notes.specs.declared.rule.Conclusion.TheVariants.{Mate, Escape}
@@ -15,6 +16,7 @@ use Rattle.notes.specs.Derivation.{Derivation, rule_of, position_of, height_of, 
 use Rattle.cert_extract.specs.declared.ends.ExtractEnd.{ExtractEnd}
 use Rattle.cert_extract.specs.declared.ends.ExtractEnd.TheVariants.{TooMany, NoMemory}
 use Rattle.cert_extract.specs.Tree.{IsIn}
+use Rattle.cert_extract.specs.Walk.{IsWalk}
 
 -- What a certificate of a conclusion claims.
 abbrev pub claim_by : Conclusion → Claim
@@ -50,14 +52,17 @@ pub record IsMet (tree : Derivation) (attacker : Side) (b : Board) : Type 0 wher
   pub concludes : conclusion_of note ≡ conclusion_of tree
   pub turn : b.side ≡ attacker
 
--- More different positions of the attacker than so many are met in the tree: a list of them, each once.
+-- A walk of the tree meets more different positions of the attacker than so many: those of the notes that it walks, each once.
 pub record HasMoreThan (most : ℕ) (problem : Board) (tree : Derivation) : Type 0 where
+  pub walked : List Derivation
+  pub walk : IsWalk tree walked
   pub positions : List Board
-  pub more : most < length positions
+  pub same : HaveSame positions (map position_of walked)
   pub apart : AreApart positions
+  pub more : most < length positions
   pub from : (b : Board) → Contains positions b → IsMet tree problem.side b
 
--- Why no certificate of so many entries at most is extracted: more of the attacker's positions are met in the tree, or memory was
+-- Why no certificate of so many entries at most is extracted: a walk of the tree meets more of the attacker's positions, or memory was
 -- wanted.
 abbrev pub IsEndFor : ℕ → Board → Derivation → ExtractEnd → Type 0
 IsEndFor most problem tree TooMany = HasMoreThan most problem tree

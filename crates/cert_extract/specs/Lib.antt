@@ -1,3 +1,4 @@
 -- This project's.
 pub mod Tree
+pub mod Walk
 pub mod Extracted

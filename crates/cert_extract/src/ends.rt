@@ -7,7 +7,7 @@ use std::alloc::{AllocError, AllocFailed};
 /// Why no certificate is extracted.
 #[derive(Clone, Copy, PartialEq, Eq, Debug)]
 pub enum ExtractEnd {
-    /// It would list more entries than asked for at most.
+    /// The walk of the note's tree meets more positions to list than asked for at most.
     TooMany,
     /// Memory was wanted and not there.
     NoMemory,

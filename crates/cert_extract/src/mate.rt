@@ -10,9 +10,9 @@ ghost use Rattle.cert_extract.specs.Extracted.{IsMateFrom, IsEndFor};
 
 use crate::ends::ExtractEnd;
 use crate::steps::push_next;
-use position_places::Places;
 use mate_facts::{MateEntry, Rank};
 use notes::{Note, Rule};
+use position_places::Places;
 use shogi_rules::{Problem, legal_laws};
 use std::alloc::Global;
 

@@ -1,9 +1,10 @@
-use Rattle.std.proofs.Common.{arith, sym, ap, ◌∙◌, subst, List, length}
+use Rattle.std.proofs.Common.{arith, sym, ap, ◌∙◌, subst, List, length, Contains}
 use Rattle.board_core.specs.Board.{Board}
 use Rattle.position_places.specs.Places.{ArePlacesOf}
 use Rattle.notes.specs.declared.rule.Conclusion.TheVariants.{Escape}
 use Rattle.cert_extract.proofs.Pushed.{lighter_walked, lighter_met}
-use Rattle.cert_extract.proofs.Escapes.{pending_first, is_old, placed_new, placed_old, escape_at_first, escape_on, escape_past, escape_too_many, escape_done, few_more}
+use Rattle.cert_extract.proofs.Escapes.{pending_first, is_new, is_old, placed_new, placed_old, escape_at_first, escape_on, escape_past, escape_done, few_more}
+use Rattle.cert_extract.proofs.Walked.{escapes_at_first, escapes_past, escapes_on, escape_too_many}
 use Rattle.cert_extract.proofs.escape.positions.Goals as goal
 
 pub loop-next-init : goal.loop-next-init
@@ -13,6 +14,8 @@ loop-next-init c = record {
       c.new-positions.ensures.items c.new-pending.ensures.items c.in_ok-push.ensures.items
       (pending_first Escape c.args.problem.now.position c.args.note.now c.laws.ensures.valid c.requires.escape c.requires.about c.requires.same_attacker)
       c.requires.about c.requires.closed;
+  walked = escapes_at_first (λ n. n.now) c.new-positions.result.items c.push.new.self.items c.new-pending.result.items _ c.new-positions.ensures.items
+      c.new-pending.ensures.items c.in_ok-push.ensures.items;
   few = let none = ap (λ (bs : List Board). length bs) c.new-positions.ensures.items in omega (arith, none);
 }
 
@@ -30,6 +33,12 @@ loop-next-preserved-in-Continue-branch-4 c = record {
   walk = escape_on (λ n. n.now) c.args.problem.now.position c.args.note.now c.loop-next.positions.items c.push-then-place-len.new.self.items
       c.loop-next.pending.items c.pop.new.self.items c.push_next.new.pending.items c.in-Some.next c.position-then-place-len.result.now
       c.in-Some.ensures.items c.in_ok-push_next.ensures c.position-then-place-len.ensures c.in_ok-push-2.ensures.items c.loop-next.invariant.walk;
+  walked = escapes_on (λ n. n.now) c.args.note.now c.loop-next.positions.items c.loop-next.pending.items c.pop.new.self.items c.in-Some.next
+      c.in-Some.ensures.items c.loop-next.invariant.walked c.push-then-place-len.new.self.items c.push_next.new.pending.items
+      c.position-then-place-len.result.now c.in_ok-push_next.ensures c.position-then-place-len.ensures c.in_ok-push-2.ensures.items
+      (subst (λ (b : Board). ¬ Contains c.loop-next.positions.items b) c.position.ensures
+      (is_new c.loop-next.positions.items c.position.result.now c.in_ok-place.place
+      (c.in_ok-place.ensures.place c.loop-next.positions.items c.loop-next.invariant.places) (omega arith)));
   few = few_more c.loop-next.positions.items c.push-then-place-len.new.self.items c.position-then-place-len.result.now c.in_ok-place.place c.args.most
       c.in_ok-push-2.ensures.items (omega arith) (omega arith) c.loop-next.invariant.few;
 }
@@ -46,14 +55,16 @@ loop-next-preserved c = record {
       (is_old c.loop-next.positions.items c.position.result.now c.in_ok-place.place
       (c.in_ok-place.ensures.place c.loop-next.positions.items c.loop-next.invariant.places) (omega arith))
       c.loop-next.invariant.walk;
+  walked = escapes_past (λ n. n.now) c.args.note.now c.loop-next.positions.items c.loop-next.pending.items c.pop.new.self.items c.in-Some.next
+      c.in-Some.ensures.items c.loop-next.invariant.walked;
   few = c.loop-next.invariant.few;
 }
 
 pub returns-then-place-most-clause-too_many : goal.returns-then-place-most-clause-too_many
 returns-then-place-most-clause-too_many c =
-    escape_too_many (λ n. n.now) c.args.problem.now.position c.args.note.now c.loop-next.positions.items c.loop-next.pending.items c.pop.new.self.items
-    c.in-Some.next c.position.result.now c.loop-next.places c.add.new.self c.in_ok-place.place c.args.most c.requires.escape c.in-Some.ensures.items
-    c.position.ensures c.loop-next.invariant.places c.in_ok-place.ensures.added
+    escape_too_many (λ n. n.now) c.args.note.now c.loop-next.positions.items c.loop-next.pending.items c.pop.new.self.items c.in-Some.next
+    c.in-Some.ensures.items c.loop-next.invariant.walked c.args.problem.now.position c.position.result.now c.loop-next.places c.add.new.self
+    c.in_ok-place.place c.args.most c.requires.escape c.position.ensures c.loop-next.invariant.places c.in_ok-place.ensures.added
     (c.in_ok-place.ensures.place c.loop-next.positions.items c.loop-next.invariant.places) (omega arith) (omega arith) c.loop-next.invariant.walk
 
 pub returns-clause-entries : goal.returns-clause-entries

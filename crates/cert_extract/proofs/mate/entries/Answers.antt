@@ -6,7 +6,8 @@ use Rattle.mate_facts.specs.Entries.{positions_of}
 use Rattle.position_places.specs.Places.{ArePlacesOf}
 use Rattle.cert_extract.proofs.Pushed.{lighter_walked, lighter_met}
 use Rattle.cert_extract.proofs.Escapes.{pending_first, few_more}
-use Rattle.cert_extract.proofs.Mates.{within_entries, old_entry, positions_set, entries_placed_new, entries_placed_old, mate_at_first, mate_past, mate_on, mate_lower, mate_too_many, mate_done}
+use Rattle.cert_extract.proofs.Mates.{within_entries, old_entry, positions_set, entries_placed_new, entries_placed_old, mate_at_first, mate_past, mate_on, mate_lower, mate_done}
+use Rattle.cert_extract.proofs.Walked.{mates_at_first, mates_past, mates_on, mates_lower, mate_too_many}
 use Rattle.cert_extract.proofs.mate.entries.Goals as goal
 
 pub loop-next-init : goal.loop-next-init
@@ -16,6 +17,8 @@ loop-next-init c = record {
       c.new-entries.ensures.items c.new-pending.ensures.items c.in_ok-push.ensures.items
       (pending_first Mate c.args.problem.now.position c.args.note.now c.laws.ensures.valid c.requires.mate c.requires.about c.requires.same_attacker)
       c.requires.about;
+  walked = mates_at_first (λ n. n.now) c.new-entries.result.items c.push.new.self.items c.new-pending.result.items _ c.new-entries.ensures.items
+      c.new-pending.ensures.items c.in_ok-push.ensures.items;
   few = let none = ap (λ (es : List MateEntry). length es) c.new-entries.ensures.items in omega (arith, none);
 }
 
@@ -33,6 +36,11 @@ loop-next-preserved-in-Continue-branch-4 c = record {
       c.in-Some.next c.in-Some.ensures.items c.loop-next.invariant.walk c.push_next.new.pending.items c.entry_of-entry.result c.in_ok-push_next.ensures
       (record { about = c.entry_of-entry.ensures.about; by = c.entry_of-entry.ensures.by; high = c.entry_of-entry.ensures.high })
       c.legal_laws.ensures.board c.push-then-place-len.new.self.items c.in_ok-push-2.ensures.items;
+  walked = mates_on (λ n. n.now) c.args.note.now c.loop-next.entries.items c.loop-next.pending.items c.pop.new.self.items c.in-Some.next
+      c.in-Some.ensures.items c.loop-next.invariant.walked c.entry_of-entry.result
+      (record { about = c.entry_of-entry.ensures.about; by = c.entry_of-entry.ensures.by; high = c.entry_of-entry.ensures.high })
+      c.push-then-place-len.new.self.items c.push_next.new.pending.items c.in_ok-place.place c.in_ok-push_next.ensures
+      (c.in_ok-place.ensures.place (positions_of c.loop-next.entries.items) c.loop-next.invariant.places) (omega arith) c.in_ok-push-2.ensures.items;
   few = few_more c.loop-next.entries.items c.push-then-place-len.new.self.items c.entry_of-entry.result c.in_ok-place.place c.args.most
       c.in_ok-push-2.ensures.items (omega arith) (omega arith) c.loop-next.invariant.few;
 }
@@ -69,6 +77,11 @@ loop-next-preserved-in-Continue-branch-5 c =
           c.index.result.now c.in_ok-place.place c.in_ok-push_next-2.ensures
           (record { about = c.entry_of-entry.ensures.about; by = c.entry_of-entry.ensures.by; high = c.entry_of-entry.ensures.high })
           c.legal_laws.ensures.board old.0 old.1 (omega arith) (set c.loop-next.entries.items c.in_ok-place.place c.entry_of-entry.result) refl;
+      walked = mates_lower (λ n. n.now) c.args.note.now c.loop-next.entries.items c.loop-next.pending.items c.pop.new.self.items c.in-Some.next
+          c.in-Some.ensures.items c.loop-next.invariant.walked c.entry_of-entry.result
+          (record { about = c.entry_of-entry.ensures.about; by = c.entry_of-entry.ensures.by; high = c.entry_of-entry.ensures.high })
+          (set c.loop-next.entries.items c.in_ok-place.place c.entry_of-entry.result) c.push_next-then-entry-index.new.pending.items
+          c.index.result.now c.in_ok-place.place c.in_ok-push_next-2.ensures c.loop-next.invariant.places.apart old.0 old.1 (omega arith) refl;
       few =
           let long = length-set c.loop-next.entries.items c.in_ok-place.place c.entry_of-entry.result in
           let few = c.loop-next.invariant.few in
@@ -90,15 +103,18 @@ loop-next-preserved c =
           c.in-Some.next c.in-Some.ensures.items c.loop-next.invariant.walk c.in_ok-place.place c.index.result.now c.entry_of-entry.result
           (record { about = c.entry_of-entry.ensures.about; by = c.entry_of-entry.ensures.by; high = c.entry_of-entry.ensures.high })
           old.0 old.1 (omega arith);
+      walked = mates_past (λ n. n.now) c.args.note.now c.loop-next.entries.items c.loop-next.pending.items c.pop.new.self.items c.in-Some.next
+          c.in-Some.ensures.items c.loop-next.invariant.walked;
       few = c.loop-next.invariant.few;
     }
 
 pub returns-then-place-most-clause-too_many : goal.returns-then-place-most-clause-too_many
 returns-then-place-most-clause-too_many c =
-    mate_too_many (λ n. n.now) c.args.problem.now.position c.args.note.now c.loop-next.entries.items c.loop-next.pending.items c.pop.new.self.items
-    c.in-Some.next c.entry_of-entry.result c.loop-next.places c.add.new.self c.in_ok-place.place c.args.most c.requires.mate c.in-Some.ensures.items
+    mate_too_many (λ n. n.now) c.args.note.now c.loop-next.entries.items c.loop-next.pending.items c.pop.new.self.items c.in-Some.next
+    c.in-Some.ensures.items c.loop-next.invariant.walked c.entry_of-entry.result
     (record { about = c.entry_of-entry.ensures.about; by = c.entry_of-entry.ensures.by; high = c.entry_of-entry.ensures.high })
-    c.legal_laws.ensures.board c.loop-next.invariant.places c.in_ok-place.ensures.added
+    c.args.problem.now.position c.loop-next.places c.add.new.self c.in_ok-place.place c.args.most c.requires.mate c.legal_laws.ensures.board
+    c.loop-next.invariant.places c.in_ok-place.ensures.added
     (c.in_ok-place.ensures.place (positions_of c.loop-next.entries.items) c.loop-next.invariant.places) (omega arith) (omega arith)
     c.loop-next.invariant.walk
 
