@@ -10,7 +10,7 @@ use std::io::{self, BufWriter, Print, Write};
 use std::thread::Threads;
 use tsume_app::run_and_tell;
 use tsume_io::{MemSink, MemSource};
-use tsume_words::MOST_WORKERS;
+use search_limits::MOST_WORKERS;
 
 const ROOM: usize = 65_536;
 

@@ -22,7 +22,7 @@ use std::io::{self, Eprint, Print};
 use std::thread::Threads;
 use std::time::Clock;
 use tsume_io::{Noted, Opened, Sink, Source, StdClock, StdSink, StdSource, write_all};
-use tsume_words::MOST_WORKERS;
+use search_limits::MOST_WORKERS;
 
 /// How much of an ending the user was told.
 #[derive(Clone, Copy, PartialEq, Eq, Debug)]

@@ -9,7 +9,7 @@ use std::test::Fail;
 use std::thread::Threads;
 use tsume_app::{Ended, run};
 use tsume_io::{MemSink, MemSource};
-use tsume_words::MOST_WORKERS;
+use search_limits::MOST_WORKERS;
 
 // What a run did: its status, whether it has an answer, what the user is told beside it, how many bytes of its
 // input it kept where it failed, and what the sink kept.

@@ -9,7 +9,7 @@ use search_gate::{Clock, DeadlineStop, Gate, OpenGate};
 use std::alloc::{AllocError, Global};
 use std::sync::atomic::{AtomicU64, Ordering};
 use std::test::Fail;
-use tsume_words::MOST_WORKERS;
+use search_limits::MOST_WORKERS;
 
 // A gate that counts how often it is passed, and how often not as the first worker with the next number.
 #[derive(Drop)]
