@@ -14,15 +14,10 @@ use Rattle.app_texts.specs.Texts.{solution_text}
 use Rattle.cert_text.specs.declared.certificate.Certificate.{Certificate}
 use Rattle.cert_text.specs.Kinds.{claim_of}
 use Rattle.notes.specs.Derivation.{Derivation, conclusion_of}
-use Rattle.cert_extract.specs.Extracted.{claim_by, ComesFrom, HasMoreThan}
+use Rattle.cert_extract.specs.Extracted.{claim_by, ComesFrom}
 use Rattle.app_texts.specs.declared.answer.Solution.{Solution}
 use Rattle.app_texts.specs.declared.answer.Solution.TheVariants.{Mate, NoMate, Unknown}
-use Rattle.cert_text.specs.declared.limits.TheConstants.{MOST_ENTRIES}
 use Rattle.search_limits.specs.Sizes.{SettingsView}
-use Rattle.search_limits.specs.declared.cause.Cause.TheVariants.{Entries}
-use Rattle.visit_log.specs.Frame.{task_for}
-use Rattle.visit_log.specs.Run.{Standing}
-use Rattle.visit_log.specs.Sound.{IsAnswer}
 use Rattle.search_pool.specs.End.{IsAlone}
 use Rattle.search_pool.specs.declared.end.SearchEnd.TheVariants.{Solved}
 use Rattle.problem_answers.specs.Answer.{IsShown, IsVerdictOf}
@@ -40,17 +35,17 @@ pub no_mate_told : (c : Escaping) → IsTextOf (certificates.Escape c) (solution
 no_mate_told c = (line nomate_text, inr (nomate_text, refl, refl), refl)
 
 -- What shows with the certificate of a note what it says is the note's verdict.
+pub shown_by : (solution : Solution) (p : Board) (note : Derivation) (certificate : Certificate) → claim_of certificate ≡ claim_by (conclusion_of note)
+    → ComesFrom note certificate → IsShown p certificate solution → IsVerdictOf p note solution
+shown_by (Mate c moves) p note certificate claim from shown = record { certificate = certificate; claim = claim; from = from; shown = shown }
+shown_by (NoMate c) p note certificate claim from shown = record { certificate = certificate; claim = claim; from = from; shown = shown }
+shown_by (Unknown cause crew) p note certificate claim from shown = absurd shown
+
+-- The same where memory may have been wanted.
 pub verdict_of : {E : Type 0} (result : Result Solution E) (p : Board) (note : Derivation) (certificate : Certificate)
     → claim_of certificate ≡ claim_by (conclusion_of note) → ComesFrom note certificate → IfOk result (IsShown p certificate) → IfOk result (IsVerdictOf p note)
-verdict_of (Ok (Mate c moves)) p note certificate claim from shown = record { certificate = certificate; claim = claim; from = from; shown = shown }
-verdict_of (Ok (NoMate c)) p note certificate claim from shown = record { certificate = certificate; claim = claim; from = from; shown = shown }
-verdict_of (Ok (Unknown cause crew)) p note certificate claim from shown = absurd shown
+verdict_of (Ok solution) p note certificate claim from shown = shown_by solution p note certificate claim from shown
 verdict_of (Err error) p note certificate claim from shown = tt
-
--- A verdict that isn't told.
-pub untold_of : (p : Board) (note : Derivation) (crew : List Standing) → IsAnswer (task_for p 1) note → HasMoreThan MOST_ENTRIES p note → crew ≡ []
-    → IsVerdictOf p note (Unknown (Entries MOST_ENTRIES) crew)
-untold_of p note crew answers more nobody = record { cause = refl; answers = answers; more = more; nobody = nobody }
 
 -- The same of a search alone that nothing stops.
 pub found_alone_of : {E : Type 0} (result : Result Solution E) (p : Board) (s : SettingsView) (note : Derivation) → IsAlone p s (Solved note)

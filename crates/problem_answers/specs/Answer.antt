@@ -64,8 +64,8 @@ pub record IsShownBy (p : Board) (note : Derivation) (solution : Solution) : Typ
 
 -- The verdict of a note that answers the problem isn't told: a walk through its tree meets more different positions of the attacker than
 -- entries are read. No workers are named.
-pub record IsUntold (p : Board) (note : Derivation) (cause : Cause) (crew : List Standing) : Type 0 where
-  pub cause : cause ≡ Entries MOST_ENTRIES
+pub record IsUntold (p : Board) (note : Derivation) (its_cause : Cause) (crew : List Standing) : Type 0 where
+  pub cause : its_cause ≡ Entries MOST_ENTRIES
   pub answers : IsAnswer (task_for p 1) note
   pub more : HasMoreThan MOST_ENTRIES p note
   pub nobody : crew ≡ []

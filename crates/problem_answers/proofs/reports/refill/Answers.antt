@@ -1,4 +1,4 @@
-use Rattle.std.proofs.Common.{◌≡◌, ◌+◌, ◌++◌, List, [], map, ap, ◌∙◌, rules}
+use Rattle.std.proofs.Common.{◌≡◌, ◌++◌, List, [], map, ap, ◌∙◌, rules}
 use Rattle.problem_lines.specs.Lines.{seen}
 use Rattle.problem_answers.specs.declared.reports.Reported.{Reported}
 use Rattle.problem_answers.proofs.Places.{refilled}

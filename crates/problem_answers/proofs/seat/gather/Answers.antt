@@ -1,4 +1,4 @@
-use Rattle.std.proofs.Common.{All, length, get_or, sym, subst, ◌∙◌, arith}
+use Rattle.std.proofs.Common.{All, sym, subst, ◌∙◌, arith}
 use Rattle.std.proofs.lemmas.List.{length-set, get_or-set_other}
 use Rattle.problem_answers.specs.declared.seat.Seat.{Seat}
 use Rattle.problem_answers.specs.Inside.{IsReportAt}

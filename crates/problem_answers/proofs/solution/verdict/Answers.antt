@@ -4,11 +4,19 @@ use Rattle.cert_text.specs.declared.certificate.Certificate.TheVariants as certi
 use Rattle.cert_text.specs.Kinds.{claim_of}
 use Rattle.notes.specs.Derivation.{conclusion_of}
 use Rattle.cert_extract.specs.Extracted.{claim_by, ComesFrom}
-use Rattle.problem_answers.proofs.Shown.{verdict_of}
+use Rattle.problem_answers.proofs.Shown.{shown_by, verdict_of}
 use Rattle.problem_answers.proofs.solution.verdict.Goals as goal
 
-pub returns-in-Mate-clause-verdict : goal.returns-in-Mate-clause-verdict
-returns-in-Mate-clause-verdict c =
-    verdict_of c.mate.result c.args.problem.now.position c.args.note.now (certificates.Mate c.in-Mate.certificate)
-    (subst (λ (z : Certificate). claim_of z ≡ claim_by (conclusion_of c.args.note.now)) c.in-Mate.is c.in_ok-certificate.ensures.kind)
-    (subst (λ (z : Certificate). ComesFrom c.args.note.now z) c.in-Mate.is c.in_ok-certificate.ensures.from) c.mate.ensures.shown
+pub returns-in-Ok-Mate-clause-verdict : goal.returns-in-Ok-Mate-clause-verdict
+returns-in-Ok-Mate-clause-verdict c =
+    let arm = c.in-Ok-Mate in
+    verdict_of c.mate.result c.args.problem.now.position c.args.note.now (certificates.Mate arm.certificate)
+    (subst (λ (z : Certificate). claim_of z ≡ claim_by (conclusion_of c.args.note.now)) arm.field-0-is arm.ensures.kind)
+    (subst (λ (z : Certificate). ComesFrom c.args.note.now z) arm.field-0-is arm.ensures.from) c.mate.ensures.shown
+
+pub returns-in-Ok-Escape-clause-verdict : goal.returns-in-Ok-Escape-clause-verdict
+returns-in-Ok-Escape-clause-verdict c =
+    let arm = c.in-Ok-Escape in
+    shown_by c.no_mate.result c.args.problem.now.position c.args.note.now (certificates.Escape arm.certificate)
+    (subst (λ (z : Certificate). claim_of z ≡ claim_by (conclusion_of c.args.note.now)) arm.field-0-is arm.ensures.kind)
+    (subst (λ (z : Certificate). ComesFrom c.args.note.now z) arm.field-0-is arm.ensures.from) c.no_mate.ensures.shown
