@@ -4,6 +4,8 @@ use crate::same::same;
 use board_core::key;
 use lone_port::Event;
 use notes::{Conclusion, Note};
+use std::alloc::Global;
+use std::process::Abort;
 use std::test::Fail;
 use visit_log::WorkEnd;
 use worker_core::Worker;
@@ -18,8 +20,8 @@ fn posted(world: &World) -> Option<Conclusion> {
 }
 
 // Has a schedule happen, in which no look is refused memory.
-fn play(rt: &HostRuntime, world: &mut World, events: &[Event]) {
-    let refused = world.play(rt.alloc(), events);
+fn play(rt: &impl Abort, alloc: Global, world: &mut World, events: &[Event]) {
+    let refused = world.play(alloc, events);
     same(rt, "refused", refused, 0);
 }
 
@@ -28,11 +30,11 @@ fn the_second_worker_is_told_what_the_first_posted(rt: HostRuntime) -> Result<()
     let alloc = rt.alloc();
     let alone = problem(&rt, ALONE);
     let mut world = World::make(alloc, &alone, &settings(&rt, 2, 1, 10_000))?;
-    play(&rt, &mut world, &[Event::Step(0), Event::Starve(3), Event::Raise(3)]);
+    play(&rt, alloc, &mut world, &[Event::Step(0), Event::Starve(3), Event::Raise(3)]);
     for (number, visits) in [(1, 1), (2, 0)] {
         same(&rt, number, world.ended(), false);
         same(&rt, number, end_of(&world, number), None);
-        play(&rt, &mut world, &[Event::Step(number); 20]);
+        play(&rt, alloc, &mut world, &[Event::Step(number); 20]);
         same(&rt, number, end_of(&world, number), Some(WorkEnd::Posted));
         let found = world.worker(number).map(Worker::visits);
         same(&rt, number, found, Some(visits));
@@ -56,12 +58,12 @@ fn round_of_64() -> [Event; 64] {
 }
 
 // Has the workers go on in rounds until all have ended, or for a good while.
-fn play_on(rt: &HostRuntime, world: &mut World, round: &[Event]) {
+fn play_on(rt: &impl Abort, alloc: Global, world: &mut World, round: &[Event]) {
     for _ in 0..2000 {
         if world.ended() {
             break;
         }
-        play(rt, world, round);
+        play(rt, alloc, world, round);
     }
 }
 
@@ -73,13 +75,13 @@ fn of_64_workers_one_is_starved_and_one_is_stopped(rt: HostRuntime) -> Result<()
     let root = key(&rooks.position);
     for turns in [0, 3, 30] {
         let mut world = World::make(alloc, &rooks, &settings(&rt, 64, 10_000, 10_000))?;
-        play(&rt, &mut world, &[Event::Raise(2)]);
+        play(&rt, alloc, &mut world, &[Event::Raise(2)]);
         for _ in 0..turns {
-            play(&rt, &mut world, &round);
+            play(&rt, alloc, &mut world, &round);
         }
         same(&rt, turns, world.below(&root) > 0, turns > 0);
-        play(&rt, &mut world, &[Event::Starve(1)]);
-        play_on(&rt, &mut world, &round);
+        play(&rt, alloc, &mut world, &[Event::Starve(1)]);
+        play_on(&rt, alloc, &mut world, &round);
         same(&rt, turns, world.ended(), true);
         same(&rt, turns, end_of(&world, 1), Some(WorkEnd::NoMemory));
         same(&rt, turns, end_of(&world, 2), Some(WorkEnd::Stopped));
@@ -99,12 +101,12 @@ fn a_mate_is_posted_whenever_one_of_64_workers_is_starved(rt: HostRuntime) -> Re
     for turns in 1..=200_u32 {
         let mut world = World::make(alloc, &rooks, &settings(&rt, 64, 10_000, 10_000))?;
         for _ in 0..turns {
-            play(&rt, &mut world, &round);
+            play(&rt, alloc, &mut world, &round);
         }
         let before = end_of(&world, 1);
         same(&rt, turns, before.is_none() || turns > 100, true);
-        play(&rt, &mut world, &[Event::Starve(1)]);
-        play_on(&rt, &mut world, &round);
+        play(&rt, alloc, &mut world, &[Event::Starve(1)]);
+        play_on(&rt, alloc, &mut world, &round);
         same(&rt, turns, world.ended(), true);
         let end = before.unwrap_or(WorkEnd::NoMemory);
         same(&rt, turns, end_of(&world, 1), Some(end));
