@@ -13,16 +13,16 @@ use Rattle.visit_log.specs.Visit.{Event as Exchange}
 use Rattle.visit_log.specs.Frame.{Task, task_for}
 use Rattle.visit_log.specs.Machine.{State, asks, path_of}
 use Rattle.visit_log.specs.Run.{Happening, Told, Dark, Starved, Happens as Befalls, Runs, event, events, Standing, Leads, now_at}
-use Rattle.visit_log.specs.Sound.{IsTask, IsSound, IsSoundRequest}
+use Rattle.visit_log.specs.Sound.{IsSound, IsSoundRequest}
 use Rattle.visit_log.specs.Counts.{own_slots, own_size, enters, leaves, enters_some, leaves_some}
 use Rattle.visit_log.specs.Laws.{WorkersAreSound, AsksSound, SlotsMove, SizesMove, LeavesOwn, StarvingMovesNothing, UnitsMove}
 use Rattle.worker_core.specs.Port.{KeepsOthers, Goes, units_by, rooms_by}
-use Rattle.lone_port.specs.Lone.{Lone, book_of, opened, held_in}
+use Rattle.lone_port.specs.Lone.{Lone, book_of, opened}
 use Rattle.lone_port.specs.Keeps.{IsKeptPort, MayAsk, IsCountedBy, TurnsAreCounted}
 use Rattle.lone_port.specs.World.{World, Steps, StepsAt, IsAtWork, Happens, Plays}
 use Rattle.lone_port.specs.declared.event.Event.{Event}
 use Rattle.lone_port.specs.declared.event.Event.TheVariants.{Step, Raise, Starve}
-use Rattle.world_play.specs.Fair.{IsFair, IsMember, all_slots}
+use Rattle.world_play.specs.Fair.{IsFair, all_slots}
 use Rattle.world_play.specs.Promises.{IsKeptWorld, EventsKeepWorlds, PlaysKeepEntered}
 use Rattle.world_play.proofs.Desks.{keeps}
 use Rattle.world_play.proofs.Suited.{one_within}

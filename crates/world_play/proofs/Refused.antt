@@ -1,5 +1,5 @@
 -- How many looks were refused memory.
-use Rattle.std.proofs.Common.{◌≡◌, ◌≤◌, ◌+◌, ℕ, Bool, true, false, cond, List, [], ◌∷◌, sum_by, set, get_or, arith, refl, sym, ap, ap₂, ◌∙◌}
+use Rattle.std.proofs.Common.{◌≡◌, ℕ, Bool, true, false, cond, List, [], ◌∷◌, set, get_or, arith, refl, sym, ap, ap₂, ◌∙◌}
 use Rattle.std.specs.Prelude.{Some, None, slice_get, slice_index_or, ◌&&◌, if◌then◌else◌}
 use Rattle.std.proofs.lemmas.List.{get_or-set_same}
 use Rattle.std.proofs.lemmas.Option.{slice_get_within}
@@ -7,7 +7,7 @@ use Rattle.std.proofs.lemmas.List.Sums.{sum_by-cons}
 use Rattle.board_core.specs.declared.keys.Key.{Key}
 use Rattle.notes.specs.declared.words.Seen.{Seen}
 use Rattle.visit_log.specs.declared.parts.Stage.{Stage}
-use Rattle.visit_log.specs.declared.parts.Stage.TheVariants.{Polling, Drawing, Entering, Looking, Claiming, Leaving, Posting, Winding}
+use Rattle.visit_log.specs.declared.parts.Stage.TheVariants.{Looking, Winding}
 use Rattle.visit_log.specs.declared.words.Request.{Request}
 use Rattle.visit_log.specs.declared.words.Request.TheVariants.{Look}
 use Rattle.visit_log.specs.declared.words.Answer.{Answer}

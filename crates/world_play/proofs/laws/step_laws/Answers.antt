@@ -1,5 +1,5 @@
 use Rattle.world_play.proofs.Entered.{steps_keep}
-use Rattle.world_play.proofs.Keeping.{Laws, event_keeps, plays_hold}
+use Rattle.world_play.proofs.Keeping.{event_keeps, plays_hold}
 use Rattle.world_play.proofs.laws.step_laws.Goals as goal
 
 pub returns-clause-steps : goal.returns-clause-steps
