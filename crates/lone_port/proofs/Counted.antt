@@ -1,13 +1,11 @@
 -- Each request keeps what is kept, and changes what is counted by what it enters, leaves and gives.
-use Rattle.std.proofs.Common.{sum, ◌≡◌, ◌<◌, ◌≤◌, ◌+◌, ℕ, Bool, List, [], ◌∷◌, ◌++◌, length, get_or, set, sum_by, refl, sym, subst, ap, ◌∙◌, arith, inl, inr}
+use Rattle.std.proofs.Common.{sum, ◌≡◌, ◌≤◌, ◌+◌, ℕ, Bool, List, [], length, sum_by, refl, sym, subst, ap, ◌∙◌, arith, inl, inr}
 use Rattle.std.specs.Prelude.{Option, Some, None, All}
 use Rattle.std.proofs.lemmas.List.{length-set, length_push, set-get_or}
 use Rattle.std.proofs.lemmas.List.Elements.{All-get_or, All-set}
-use Rattle.bit_boards.specs.declared.piece.Side.{Side}
 use Rattle.board_core.specs.Board.{Board}
 use Rattle.board_core.specs.declared.keys.Key.{Key}
 use Rattle.pn_numbers.specs.declared.numbers.Numbers.{Numbers}
-use Rattle.notes.specs.declared.words.Kept.{Kept}
 use Rattle.notes.specs.declared.words.Kept.TheVariants.{Slot, Unkept}
 use Rattle.notes.specs.declared.words.Draw.TheVariants.{Go, Done, Spent as AllDrawn}
 use Rattle.notes.specs.declared.words.Claim.TheVariants.{Room, NoRoom as Full}
@@ -24,7 +22,7 @@ use Rattle.visit_log.specs.declared.words.Answer.TheVariants.{Poll as Polled, Dr
 use Rattle.visit_log.specs.Visit.{Event as Exchange}
 use Rattle.visit_log.specs.Counts.{enters, leaves, enters_some, leaves_some}
 use Rattle.worker_core.specs.Port.{units_by, rooms_by}
-use Rattle.lone_port.specs.Lone.{Lone, IsLone, AreFor, Turns, held_in, pins_of, pinned}
+use Rattle.lone_port.specs.Lone.{Lone, AreFor, Turns, held_in, pins_of, pinned}
 use Rattle.lone_port.specs.Keeps.{IsKeptPort, MayAsk, IsCountedBy, TurnsAreCounted}
 use Rattle.lone_port.proofs.Places.{place_within}
 use Rattle.lone_port.proofs.Slots.{length-left}

@@ -1,5 +1,5 @@
 -- What each request keeps of a table and a desk, and what it changes in what they count.
-use Rattle.std.specs.Prelude.{◌≡◌, ◌≤◌, ◌+◌, ℕ, List, Option, All, length, sum, sum_by}
+use Rattle.std.specs.Prelude.{◌≡◌, ◌≤◌, ◌+◌, ℕ, List, All, length, sum, sum_by}
 use Rattle.board_core.specs.declared.keys.Key.{Key}
 use Rattle.visit_log.specs.Frame.{task_for}
 use Rattle.visit_log.specs.Visit.{Event as Exchange}

@@ -146,14 +146,14 @@ impl Worker {
         self.core.is_polling()
     }
 
-    /// Whether it looks next: its next request is a Look. Takes no memory.
+    /// Whether it is about to look at a child. Takes no memory.
     pub fn is_looking(&self) -> bool
         ensures { result ≡ looks_at self.now.state.stage }
     {
         self.core.is_looking()
     }
 
-    /// Whether it winds up: it asks only to leave what it has entered, or has ended. Takes no memory.
+    /// Whether it winds up, or has ended. Takes no memory.
     pub fn is_winding(&self) -> bool
         ensures { result ≡ winds_at self.now.state.stage }
     {
