@@ -17,8 +17,8 @@ use cert_check::Why;
 use cert_text::{
     Claim, EscapeCertificate, MateCertificate, append_escape_cert, append_mate_cert, append_number,
 };
-use std::alloc::{AllocError, Global};
 use search_limits::Cause;
+use std::alloc::{AllocError, Global};
 use usi_text::{append_mate_line, append_nomate_line, append_timeout_line, write_move};
 
 fn append_move(out: &mut Vec<u8>, word: &[u8], named: Move) -> Result<(), AllocError>

@@ -4,13 +4,13 @@ ghost use Rattle.search_limits.specs.declared.settings.TheConstants.{MOST_WORKER
 
 use crate::line::Line;
 use search_gate::{MemStop, OpenGate};
+use search_limits::MOST_WORKERS;
 use std::alloc::{AllocError, Global};
 use std::fs::{self, Files};
 use std::io::{self, BufWriter, Print, Write};
 use std::thread::Threads;
 use tsume_app::run_and_tell;
 use tsume_io::{MemSink, MemSource};
-use search_limits::MOST_WORKERS;
 
 const ROOM: usize = 65_536;
 

@@ -25,7 +25,12 @@ fn positions_are_found_by_themselves_and_by_their_boards(rt: HostRuntime) -> Res
         }
     }
     for (place, text) in LISTED.iter().enumerate() {
-        same(&rt, *text, places.find(&problem(&rt, text).position), Some(place));
+        same(
+            &rt,
+            *text,
+            places.find(&problem(&rt, text).position),
+            Some(place),
+        );
     }
     let other = "4k4/9/4P4/9/9/9/9/9/4K4 w g";
     same(&rt, other, places.find(&problem(&rt, other).position), None);

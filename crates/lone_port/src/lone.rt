@@ -9,11 +9,11 @@ use board_core::Key;
 use notes::{Claim, Draw, Kept, Note, Seen, Update};
 use path_tags::Path;
 use pn_numbers::Numbers;
+use search_limits::Settings;
 use shogi_rules::Problem;
 use std::alloc::{AllocError, Global};
 use std::marker::Model;
 use table_shard::Shard;
-use search_limits::Settings;
 use unit_desk::Desk;
 use worker_core::Port;
 

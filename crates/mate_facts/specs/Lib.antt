@@ -1,3 +1,3 @@
--- The tsume rule.
+-- What entries of a mate say, and what is true of all of them.
 pub mod Entries
 pub mod Laws

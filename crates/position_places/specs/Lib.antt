@@ -1,3 +1,3 @@
--- This project's.
+-- Where positions stand in a list.
 pub mod Places
 pub mod Boards

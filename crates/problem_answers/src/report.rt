@@ -11,10 +11,10 @@ ghost use Rattle.problem_answers.specs.Reports.{IsFoundAlone, IsTrueReport, line
 use crate::{read_problem, verdict};
 use app_texts::{LineFault, ProblemFault, Report, Solution};
 use problem_lines::Line;
+use search_limits::Settings;
 use search_pool::{SearchEnd, Table};
 use shogi_rules::Problem;
 use std::alloc::{AllocError, Global};
-use search_limits::Settings;
 use tsume_words::{CollectionForm, Format, ProblemForm};
 
 // What a search alone finds of a problem.

@@ -9,11 +9,11 @@ ghost use Rattle.problem_answers.specs.Inside.{IsReportOn};
 use crate::seat::{Seat, decide_apart, in_order};
 use app_texts::Report;
 use problem_lines::{Line, Lines};
+use search_limits::Settings;
 use std::alloc::{AllocError, Global};
 use std::collections::VecDeque;
 use std::marker::Model;
 use std::thread::{self, Threads};
-use search_limits::Settings;
 use tsume_words::{CollectionForm, MOST_THREADS};
 
 // How many lines of a stretch there are for each thread.

@@ -12,12 +12,12 @@ use crate::Reported;
 use crate::report::report_on;
 use app_texts::Report;
 use problem_lines::Line;
+use search_limits::Settings;
 use search_pool::Table;
 use std::alloc::{AllocError, Global};
 use std::collections::VecDeque;
 use std::sync::atomic::{AtomicU64, Ordering};
 use std::thread::{self, Threads};
-use search_limits::Settings;
 use tsume_words::CollectionForm;
 
 // The report on the line at a place.

@@ -10,11 +10,11 @@ use app_texts::{
     Tallies, answer_text, append_report,
 };
 use cert_text::{Certificate, Claim, read_cert};
+use search_limits::Cause;
 use search_pool::{Crew, Tally};
 use sfen_text::TextFault;
 use std::alloc::{AllocError, Global};
 use std::test::Fail;
-use search_limits::Cause;
 use usi_text::read_move;
 
 // The certificate of two rooks' mate, and one of no mate.

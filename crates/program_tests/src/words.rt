@@ -1,12 +1,10 @@
 // What is asked for by lines of words, and what the texts of refusals and of help say.
 use crate::lines::words_of;
 use crate::same::same;
+use search_limits::Settings;
 use std::alloc::{AllocError, Global};
 use std::test::Fail;
-use search_limits::Settings;
-use tsume_words::{
-    Asked, CollectionForm, Command, Format, SurveyRange, WordsEnd, read_words,
-};
+use tsume_words::{Asked, CollectionForm, Command, Format, SurveyRange, WordsEnd, read_words};
 
 // A line, and what it asks for: the numbers in the order of the settings, whether `--rest` stands, `kif` where
 // `--kif` does, `until` the deadline, and `telling` where `--progress` stands; or the workers; and the file. Of
@@ -15,7 +13,10 @@ use tsume_words::{
 static ASKED: [(&str, &str); 59] = [
     ("solve", "solve 1 1000000 1000000000 65536 64 false"),
     ("solve --rest", "solve 1 1000000 1000000000 65536 64 true"),
-    ("solve --kif", "solve 1 1000000 1000000000 65536 64 false kif"),
+    (
+        "solve --kif",
+        "solve 1 1000000 1000000000 65536 64 false kif",
+    ),
     (
         "solve --rest --kif a.kif",
         "solve 1 1000000 1000000000 65536 64 true kif of a.kif",
@@ -36,7 +37,10 @@ static ASKED: [(&str, &str); 59] = [
         "solve --workers 05",
         "solve 5 1000000 1000000000 65536 64 false",
     ),
-    ("solve --expansions 1", "solve 1 1 1000000000 65536 64 false"),
+    (
+        "solve --expansions 1",
+        "solve 1 1 1000000000 65536 64 false",
+    ),
     (
         "solve --expansions 1000000000",
         "solve 1 1000000000 1000000000 65536 64 false",
@@ -51,7 +55,10 @@ static ASKED: [(&str, &str); 59] = [
         "solve --rows 16777216",
         "solve 1 1000000 1000000000 16777216 64 false",
     ),
-    ("solve --shards 1", "solve 1 1000000 1000000000 65536 1 false"),
+    (
+        "solve --shards 1",
+        "solve 1 1000000 1000000000 65536 1 false",
+    ),
     (
         "solve --shards 256",
         "solve 1 1000000 1000000000 65536 256 false",
@@ -90,7 +97,10 @@ static ASKED: [(&str, &str); 59] = [
     ("survey --expansions 1", "survey 0 100 1"),
     ("survey --expansions 1000000000", "survey 0 100 1000000000"),
     ("survey --count 7 --seed 05 --expansions +9", "survey 5 7 9"),
-    ("collection", "collection 1 100000 1000000000 65536 64 false"),
+    (
+        "collection",
+        "collection 1 100000 1000000000 65536 64 false",
+    ),
     (
         "collection --rest",
         "collection 1 100000 1000000000 65536 64 true",
@@ -143,7 +153,10 @@ static ASKED: [(&str, &str); 59] = [
         "collection a.sfen",
         "collection 1 100000 1000000000 65536 64 false of a.sfen",
     ),
-    ("collection -", "collection 1 100000 1000000000 65536 64 false"),
+    (
+        "collection -",
+        "collection 1 100000 1000000000 65536 64 false",
+    ),
     (
         "collection --rest - --threads 2",
         "collection 1 100000 1000000000 65536 64 true by 2",

@@ -79,8 +79,7 @@ fn is_within(number: u64, low: u64, high: u64) -> bool
 /// A law: a number has one bit exactly where it is a power of two. Does nothing; whoever has to tell the one by the other calls it.
 pub fn power_laws()
     ensures { PowersHaveOneBit }
-{
-}
+{}
 
 // Whether a number is a power of two.
 fn is_power_of_two(number: u64) -> bool

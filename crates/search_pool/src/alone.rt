@@ -14,9 +14,9 @@ use crate::{Crew, SearchEnd};
 use lone_port::{LonePort, step};
 use notes::HEIGHT_LIMIT;
 use search_gate::{Gate, OpenGate, QuietStop, Stop};
+use search_limits::{Cause, Settings};
 use shogi_rules::Problem;
 use std::alloc::{AllocError, Global};
-use search_limits::{Cause, Settings};
 use visit_log::{WorkEnd, visit_laws};
 use worker_core::Worker;
 

@@ -1,7 +1,7 @@
 // How a search ended.
 use notes::Note;
-use std::marker::Model;
 use search_limits::Cause;
+use std::marker::Model;
 use worker_core::Worker;
 
 /// The workers of a search, as they ended, in the order of their numbers. Contracts see the list.

@@ -9,9 +9,9 @@ use crate::SearchEnd;
 use crate::alone::search_over;
 use lone_port::LonePort;
 use search_gate::{OpenGate, QuietStop};
+use search_limits::Settings;
 use shogi_rules::Problem;
 use std::alloc::{AllocError, Global};
-use search_limits::Settings;
 
 /// A table that searches use one after the other, so that its memory is taken once. It is emptied for each, so none knows what another found.
 #[derive(Drop)]

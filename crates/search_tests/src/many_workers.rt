@@ -30,7 +30,12 @@ fn the_second_worker_is_told_what_the_first_posted(rt: HostRuntime) -> Result<()
     let alloc = rt.alloc();
     let alone = problem(&rt, ALONE);
     let mut world = World::make(alloc, &alone, &settings(&rt, 2, 1, 10_000))?;
-    play(&rt, alloc, &mut world, &[Event::Step(0), Event::Starve(3), Event::Raise(3)]);
+    play(
+        &rt,
+        alloc,
+        &mut world,
+        &[Event::Step(0), Event::Starve(3), Event::Raise(3)],
+    );
     for (number, visits) in [(1, 1), (2, 0)] {
         same(&rt, number, world.ended(), false);
         same(&rt, number, end_of(&world, number), None);

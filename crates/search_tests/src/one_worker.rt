@@ -8,10 +8,10 @@ use chased::chased;
 use lone_port::LonePort;
 use notes::{Conclusion, Note};
 use scripted::Scripted;
+use search_limits::Settings;
 use shogi_rules::Problem;
 use std::alloc::Global;
 use std::test::Fail;
-use search_limits::Settings;
 use visit_log::WorkEnd;
 use worker_core::{Worker, work, work_until};
 

@@ -1,8 +1,8 @@
 // Problems by their texts, and the settings of their searches.
+use search_limits::Settings;
 use sfen_text::read_sfen;
 use shogi_rules::{Problem, accept_problem};
 use std::process::Abort;
-use search_limits::Settings;
 
 // Two rooks: a mate in three, since a rook is dropped far off on the king's row, and the other one follows it to
 // the last.

@@ -3,9 +3,9 @@ use crate::problems::{ALONE, GOLD, ROOKS, problem, settings};
 use crate::same::same;
 use notes::Conclusion;
 use search_gate::{MemStop, OpenGate};
+use search_limits::Cause;
 use search_pool::{SearchEnd, search_alone, search_alone_until};
 use std::test::Fail;
-use search_limits::Cause;
 
 // What a search ended with: what its note concludes, or the cause.
 fn told(end: &SearchEnd) -> (Option<Conclusion>, Option<Cause>) {

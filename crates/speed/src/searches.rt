@@ -5,13 +5,13 @@ use crate::words::Asked;
 use lone_port::{Event, LonePort};
 use notes::{Conclusion, Note};
 use search_gate::{DeadlineStop, Gate, Stop};
+use search_limits::Settings;
 use search_pool::{SearchEnd, search_alone_until};
 use shogi_rules::Problem;
 use std::io;
 use std::sync::atomic::{AtomicU64, Ordering};
 use std::time::Instant;
 use tsume_io::StdClock;
-use search_limits::Settings;
 use world_play::World;
 
 // The most units that a problem may take in a world.

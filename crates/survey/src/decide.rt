@@ -9,10 +9,10 @@ ghost use Rattle.survey.specs.Tally.{tally_by, IsTrueOf, ComesTo, survey_setting
 
 use mate_def::escape_is_no_mate;
 use notes::{Conclusion, Note};
+use search_limits::{MOST_ROOM, Settings};
 use search_pool::{SearchEnd, Tally, search_alone};
 use shogi_rules::Problem;
 use std::alloc::{AllocError, Global};
-use search_limits::{MOST_ROOM, Settings};
 
 fn settings(expansions: u64) -> Settings
     requires from { 1 ≤ expansions }

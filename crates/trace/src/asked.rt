@@ -1,10 +1,10 @@
 // What the standard input asks for: a problem, the settings of its search, and what happens in the world of its
 // workers.
 use lone_port::Event;
+use search_limits::Settings;
 use sfen_text::read_sfen;
 use shogi_rules::{Problem, accept_problem};
 use std::alloc::{AllocError, Global};
-use search_limits::Settings;
 
 /// A problem, and how it is searched.
 #[derive(Drop)]

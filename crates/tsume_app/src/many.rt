@@ -16,11 +16,11 @@ use crate::input::{Input, MOST_COLLECTION_BYTES};
 use crate::program::{read_input, write_answer};
 use app_texts::{Answer, Counts, Fault, Summary, Tallies, append_report};
 use problem_answers::{Reported, Reports};
+use search_limits::Settings;
 use std::alloc::{AllocError, Global};
 use std::thread::Threads;
 use survey::survey;
 use tsume_io::{Sink, Source, write_all};
-use search_limits::Settings;
 use tsume_words::{CollectionForm, SurveyRange};
 
 fn summary_of<R: Threads + Sync>(

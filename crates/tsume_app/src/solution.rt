@@ -13,10 +13,10 @@ use crate::stops::search_armed;
 use app_texts::{Answer, Fault, Solution};
 use problem_answers::{read_problem, verdict};
 use search_gate::{Gate, Stop};
+use search_limits::Settings;
 use search_pool::SearchEnd;
 use shogi_rules::Problem;
 use std::alloc::{AllocError, Global};
-use search_limits::Settings;
 use tsume_words::{ProblemForm, Watch};
 
 fn solution_of<G: Gate, T: Stop>(

@@ -6,10 +6,10 @@ ghost use Rattle.search_limits.specs.Settings.{settings_in};
 ghost use Rattle.tsume_app.specs.Stops.{AreUsed, first_of, signals};
 
 use search_gate::{Gate, Stop};
+use search_limits::Settings;
 use search_pool::{SearchEnd, search_alone_until};
 use shogi_rules::Problem;
 use std::alloc::{AllocError, Global};
-use search_limits::Settings;
 
 // Arms each stop.
 fn arm_each<T: Stop>(stops: &mut [T], after_ms: Option<u64>)

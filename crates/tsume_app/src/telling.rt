@@ -14,6 +14,7 @@ use crate::program::{named_file, run, told_limit};
 use crate::progress::{Clearing, Progress};
 use app_texts::Fault;
 use search_gate::{DeadlineStop, Gate, Stop};
+use search_limits::MOST_WORKERS;
 use std::alloc::{AllocError, Global};
 use std::env::{self, Env};
 use std::fmt;
@@ -22,7 +23,6 @@ use std::io::{self, Eprint, Print};
 use std::thread::Threads;
 use std::time::Clock;
 use tsume_io::{Noted, Opened, Sink, Source, StdClock, StdSink, StdSource, write_all};
-use search_limits::MOST_WORKERS;
 
 /// How much of an ending the user was told.
 #[derive(Clone, Copy, PartialEq, Eq, Debug)]

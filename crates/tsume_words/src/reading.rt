@@ -19,8 +19,7 @@ ghost use Rattle.search_limits.specs.declared.expansions.TheConstants.{MOST_EXPA
 
 use crate::line::command_line;
 use crate::{
-    Asked, CollectionForm, Command, Format, ProblemForm, SurveyRange, Watch,
-    WordFault, WordsEnd,
+    Asked, CollectionForm, Command, Format, ProblemForm, SurveyRange, Watch, WordFault, WordsEnd,
 };
 use clap::ArgMatches;
 use clap::error::ErrorKind;

@@ -4,7 +4,6 @@ ghost use Rattle.notes.specs.declared.words.Draw.TheVariants.{Done, Spent};
 ghost use Rattle.notes.specs.declared.words.Claim.TheVariants.{NoRoom};
 ghost use Rattle.unit_desk.specs.Desk.{IsAnswerTo, IsDesk, HasPosted, Draws, Claims, fresh, first_posted};
 
-
 use board_core::Position;
 use notes::{Claim, Draw, Note};
 use search_limits::Settings;

@@ -16,10 +16,10 @@ ghost use Rattle.world_play.specs.Logs.{GoOnBy, refused_looks};
 use board_core::Key;
 use lone_port::{Event, LonePort, step};
 use notes::Note;
+use search_limits::Settings;
 use shogi_rules::Problem;
 use std::alloc::{AllocError, Global};
 use std::marker::Model;
-use search_limits::Settings;
 use visit_log::{count_laws, sound_laws, visit_laws};
 use worker_core::Worker;
 

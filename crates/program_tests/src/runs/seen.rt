@@ -4,12 +4,12 @@ ghost use Rattle.search_limits.specs.declared.settings.TheConstants.{MOST_WORKER
 
 use crate::lines::words_of;
 use search_gate::{Gate, MemStop, OpenGate, Stop};
+use search_limits::MOST_WORKERS;
 use std::alloc::{AllocError, Global};
 use std::test::Fail;
 use std::thread::Threads;
 use tsume_app::{Ended, run};
 use tsume_io::{MemSink, MemSource};
-use search_limits::MOST_WORKERS;
 
 // What a run did: its status, whether it has an answer, what the user is told beside it, how many bytes of its
 // input it kept where it failed, and what the sink kept.

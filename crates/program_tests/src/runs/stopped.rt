@@ -6,10 +6,10 @@ use super::examples::{NO_CHECK_TEXT, TWO_ROOKS, TWO_ROOKS_TEXT};
 use super::seen::{seen_by, stops_at};
 use crate::same::same;
 use search_gate::{Clock, DeadlineStop, Gate, OpenGate};
+use search_limits::MOST_WORKERS;
 use std::alloc::{AllocError, Global};
 use std::sync::atomic::{AtomicU64, Ordering};
 use std::test::Fail;
-use search_limits::MOST_WORKERS;
 
 // A gate that counts how often it is passed, and how often not as the first worker with the next number.
 #[derive(Drop)]

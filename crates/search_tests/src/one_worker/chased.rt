@@ -9,9 +9,9 @@ use board_core::key;
 use lone_port::LonePort;
 use notes::{Note, Update};
 use pn_numbers::Numbers;
+use search_limits::Settings;
 use shogi_rules::Problem;
 use std::alloc::{AllocError, Global};
-use search_limits::Settings;
 use visit_log::WorkEnd;
 use worker_core::{Port, Worker, work};
 

@@ -9,9 +9,9 @@ use lone_port::LonePort;
 use notes::{Claim, Draw, Kept, Note, Seen, Update};
 use path_tags::Path;
 use pn_numbers::Numbers;
+use search_limits::Settings;
 use shogi_rules::Problem;
 use std::alloc::{AllocError, Global};
-use search_limits::Settings;
 use worker_core::Port;
 
 #[derive(Drop)]
