@@ -104,13 +104,13 @@ pub fn shields(position: &Position, to: Square, by: Side) -> Mask
 
 /// The squares on which a piece stops each of the attackers of a square: it takes him, or it stands between. All 81 where there is
 /// no attacker. Takes no memory.
-pub fn stops(attackers: Mask, to: Square) -> Mask
+pub fn blocks(attackers: Mask, to: Square) -> Mask
     ensures { (square : ℕ) → Holds result square ↔ ((square < 81) × StopsAll attackers to.number square) }
 {
-    let mut stops = Mask::full();
+    let mut blocks = Mask::full();
     let mut left = attackers;
     while let Some(from) = left.pop_first() {
-        stops = stops.and(between(from, to).with(from));
+        blocks = blocks.and(between(from, to).with(from));
     }
-    stops
+    blocks
 }

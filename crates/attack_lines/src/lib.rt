@@ -7,6 +7,6 @@ mod attacking;
 mod reach;
 mod sight;
 
-pub use attacking::{attackers, attackers_without, count_attackers, shields, stops};
+pub use attacking::{attackers, attackers_without, blocks, count_attackers, shields};
 pub use reach::reached;
 pub use sight::Sight;

@@ -15,7 +15,7 @@ use Rattle.usi_text.specs.MoveText.{move_text, MoveTextsApart as MovesApart}
 use Rattle.sfen_text.specs.Spelling.{sfen_of, board_text, side_letter, hands_text}
 use Rattle.sfen_text.specs.Laws.{PositionTextsApart, TextsAreLines}
 use Rattle.cert_text.specs.Entries.{line, mate_entry_text}
-use Rattle.cert_text.specs.Certificate.{Listing, Mating, Escaping, IsRising, Form, MayBeListed, mate_form, escape_form}
+use Rattle.cert_text.specs.Certificate.{CertificateView, Mating, Escaping, IsRising, Form, MayBeListed, mate_form, escape_form}
 use Rattle.cert_text.specs.Text.{entries_text, end_line}
 use Rattle.cert_text.specs.declared.fault.CertFault.{CertFault}
 use Rattle.cert_text.specs.declared.fault.CertFault.TheVariants as faults
@@ -303,7 +303,7 @@ moved a b m n p q x y fault ea em ep ex h =
     (subst (λ (k : ℕ). HasFaultBehind b k p x fault) em
     (subst (λ (c : Claim). HasFaultBehind c m p x fault) ea h)))
 
-listings_same : {Entry : Type 0} (c d : Listing Entry) → d.problem ≡ c.problem → d.entries ≡ c.entries → d ≡ c
+listings_same : {Entry : Type 0} (c d : CertificateView Entry) → d.problem ≡ c.problem → d.entries ≡ c.entries → d ≡ c
 listings_same c d p e = λ i. record { problem = p i; entries = e i }
 
 later_of : (bytes : List ℕ) (fault : CertFault) → HasFirstFault bytes fault → (fault ≡ faults.BadHead) ⊎ HasLaterFault bytes fault
@@ -318,11 +318,11 @@ no_head_later bytes one two h e k = (subst (HasFirstFault bytes) e h) k.claim k.
 
 module _ (laws : Laws) where
   -- The head of a certificate's text.
-  listing_head : {Entry : Type 0} (claim : Claim) (form : Form Entry) (c : Listing Entry) (bytes : List ℕ) → IsReadableOf form c → IsListingText claim form c bytes
+  listing_head : {Entry : Type 0} (claim : Claim) (form : Form Entry) (c : CertificateView Entry) (bytes : List ℕ) → IsReadableOf form c → IsListingText claim form c bytes
       → IsHead claim (length c.entries) (sfen_of c.problem) (entries_text form c.entries ++ end_line) bytes
   listing_head claim form c bytes r t = record { is_count = r.count; is_line = sfen_lacks laws.lines c.problem r.kept; front = t.0; is_front = t.1; text = t.2 ∙ ap (λ (u : List ℕ). t.0 ++ u) (listing_text_of claim form c) }
 
-  listing_no_fault : {Entry : Type 0} (claim : Claim) (form : Form Entry) → AreTold form → (c : Listing Entry) (bytes : List ℕ) (fault : CertFault)
+  listing_no_fault : {Entry : Type 0} (claim : Claim) (form : Form Entry) → AreTold form → (c : CertificateView Entry) (bytes : List ℕ) (fault : CertFault)
       → ((rest : List ℕ) → HasFaultBehind claim (length c.entries) c.problem rest fault → HasLineFault form (length c.entries) rest fault)
       → IsReadableOf form c → IsListingText claim form c bytes → HasLaterFault bytes fault → ⊥
   listing_no_fault claim form told c bytes fault behind r t k =
@@ -331,7 +331,7 @@ module _ (laws : Laws) where
       no_fault form told c.entries (length c.entries) rest fault (record { good = r.good; text = refl }) refl
       (behind rest (moved k.claim claim k.count (length c.entries) k.problem c.problem k.rest rest fault one.0 one.1 (laws.apart k.problem c.problem k.begins.kept r.kept one.2) one.3 k.later))
 
-  one_listing : {Entry : Type 0} (claim : Claim) (form : Board → Form Entry) → ((problem : Board) → AreTold (form problem)) → (c d : Listing Entry) (bytes : List ℕ)
+  one_listing : {Entry : Type 0} (claim : Claim) (form : Board → Form Entry) → ((problem : Board) → AreTold (form problem)) → (c d : CertificateView Entry) (bytes : List ℕ)
       → IsReadableOf (form c.problem) c → IsListingText claim (form c.problem) c bytes → IsReadableOf (form d.problem) d → IsListingText claim (form d.problem) d bytes → d ≡ c
   one_listing claim form told c d bytes r t k u =
       let one = one_head claim claim (length d.entries) (length c.entries) (sfen_of d.problem) (sfen_of c.problem) (entries_text (form d.problem) d.entries ++ end_line) (entries_text (form c.problem) c.entries ++ end_line) bytes

@@ -13,7 +13,7 @@ use Rattle.shogi_rules.specs.Tsume.{IsProblem}
 use Rattle.sfen_text.specs.Spelling.{sfen_of}
 use Rattle.sfen_text.specs.Laws.{TextsHaveBytes}
 use Rattle.cert_text.specs.Entries.{line}
-use Rattle.cert_text.specs.Certificate.{Listing, IsBefore, IsRising, Form, MayBeListed}
+use Rattle.cert_text.specs.Certificate.{CertificateView, IsBefore, IsRising, Form, MayBeListed}
 use Rattle.cert_text.specs.Text.{claim_text, entries_text, end_line, listing_text}
 use Rattle.cert_text.specs.declared.certificate.Certificate.{Certificate}
 use Rattle.cert_text.specs.declared.fault.CertFault.{CertFault}
@@ -166,14 +166,14 @@ regroup : (a p b t e : List ℕ) → (((a ++ 10 ∷ []) ++ ((p ++ b) ++ 10 ∷ [
 regroup a p b t e = simp append_assoc
 
 -- The text of a head, of entries and of the end is the certificate's.
-pub listing_text_of : {A : Type 0} (claim : Claim) (form : Form A) (c : Listing A) → listing_text claim form c ≡ headed_text claim (length c.entries) (sfen_of c.problem) (entries_text form c.entries ++ end_line)
+pub listing_text_of : {A : Type 0} (claim : Claim) (form : Form A) (c : CertificateView A) → listing_text claim form c ≡ headed_text claim (length c.entries) (sfen_of c.problem) (entries_text form c.entries ++ end_line)
 listing_text_of claim form c = regroup (claim_text claim (length c.entries)) (codes "problem ") (sfen_of c.problem) (entries_text form c.entries) end_line
 
 -- The text is the certificate's, perhaps behind the one front line.
-abbrev pub IsListingText : {A : Type 0} → Claim → Form A → Listing A → List ℕ → Type 0
+abbrev pub IsListingText : {A : Type 0} → Claim → Form A → CertificateView A → List ℕ → Type 0
 IsListingText claim form c bytes = (front : List ℕ) × IsFrontOrNone claim front × (bytes ≡ front ++ listing_text claim form c)
 
-pub listing_read : {A : Type 0} (claim : Claim) (form : Form A) (bytes sfen rest : List ℕ) (count : ℕ) (c : Listing A) → IsHead claim count sfen rest bytes → sfen ≡ sfen_of c.problem → IsKept c.problem → IsProblem c.problem
+pub listing_read : {A : Type 0} (claim : Claim) (form : Form A) (bytes sfen rest : List ℕ) (count : ℕ) (c : CertificateView A) → IsHead claim count sfen rest bytes → sfen ≡ sfen_of c.problem → IsKept c.problem → IsProblem c.problem
     → Ends form c.entries rest → length c.entries ≡ count → IsReadableOf form c × IsListingText claim form c bytes
 listing_read claim form bytes sfen rest count c head s kept is_problem ends n =
     let same : headed_text claim count sfen rest ≡ headed_text claim (length c.entries) (sfen_of c.problem) (entries_text form c.entries ++ end_line) =

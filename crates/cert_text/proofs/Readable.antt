@@ -4,7 +4,7 @@ use Rattle.std.specs.Prelude.{Contains}
 use Rattle.std.specs.List.{AllByRecursion}
 use Rattle.std.proofs.lemmas.List.Elements.{Contains-append_left, Contains-append_right, Contains-push}
 use Rattle.board_core.specs.Kept.{IsKept}
-use Rattle.cert_text.specs.Certificate.{Listing, Form, MayBeListed, IsListing}
+use Rattle.cert_text.specs.Certificate.{CertificateView, Form, MayBeListed, IsListing}
 use Rattle.cert_text.specs.Reading.{IsReadCount, IsReadableOf}
 
 -- Listed entries whose positions are kept fit.
@@ -16,7 +16,7 @@ all_fit form whole (x ∷ xs) inside listed kept = (
   all_fit form whole xs (λ y at. inside y (Contains-append_right (x ∷ []) xs y at)) listed kept.1,
 )
 
-pub readable : {A : Type 0} (form : Form A) (c : Listing A) → IsListing form c → IsKept c.problem → AllByRecursion (λ x. IsKept (form.at x)) c.entries → IsReadCount (length c.entries) → IsReadableOf form c
+pub readable : {A : Type 0} (form : Form A) (c : CertificateView A) → IsListing form c → IsKept c.problem → AllByRecursion (λ x. IsKept (form.at x)) c.entries → IsReadCount (length c.entries) → IsReadableOf form c
 readable form c listing kept all count = record {
   kept = kept;
   is_problem = listing.is_problem;

@@ -12,17 +12,17 @@ use Rattle.sfen_text.specs.Spelling.{sfen_of}
 use Rattle.cert_text.specs.Entries.{mate_entry_text, escape_entry_text}
 
 -- A certificate: the problem that it is about, and its entries.
-pub record Listing (Entry : Type 0) : Type 0 where
+pub record CertificateView (Entry : Type 0) : Type 0 where
   pub problem : Board
   pub entries : List Entry
 
 -- A mate's certificate: its entries are positions, each with a rank and a move.
 abbrev pub Mating : Type 0
-Mating = Listing MateEntry
+Mating = CertificateView MateEntry
 
 -- An escape's certificate: its entries are positions.
 abbrev pub Escaping : Type 0
-Escaping = Listing Board
+Escaping = CertificateView Board
 
 -- The one position comes before the other by the bytes of their SFEN texts.
 abbrev pub IsBefore : Board → Board → Type 0
@@ -65,7 +65,7 @@ pub record MayBeListed {Entry : Type 0} (form : Form Entry) (entry : Entry) : Ty
 
 -- What a certificate keeps: its problem is one, its entries rise by the bytes of their positions' SFEN texts, and each may be
 -- listed.
-pub record IsListing {Entry : Type 0} (form : Form Entry) (c : Listing Entry) : Type 0 where
+pub record IsListing {Entry : Type 0} (form : Form Entry) (c : CertificateView Entry) : Type 0 where
   pub is_problem : IsProblem c.problem
   pub rising : IsRising (map form.at c.entries)
   pub listed : (entry : Entry) → Contains c.entries entry → form.Lists entry

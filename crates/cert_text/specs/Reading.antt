@@ -11,7 +11,7 @@ use Rattle.sfen_text.specs.Spelling.{sfen_of}
 use Rattle.cert_text.specs.declared.limits.TheConstants.{MOST_ENTRIES}
 use Rattle.cert_text.specs.Entries.{line}
 use Rattle.cert_text.specs.Kinds.{claim_of}
-use Rattle.cert_text.specs.Certificate.{Listing, IsRising, Form, mate_form, escape_form, MayBeListed}
+use Rattle.cert_text.specs.Certificate.{CertificateView, IsRising, Form, mate_form, escape_form, MayBeListed}
 use Rattle.cert_text.specs.Text.{claim_text, entries_text, end_line, certificate_text}
 use Rattle.cert_text.specs.declared.certificate.Certificate.{Certificate}
 use Rattle.cert_text.specs.declared.certificate.Certificate.TheVariants as certificates
@@ -136,7 +136,7 @@ HasFirstFault bytes NoEnd = HasLaterFault bytes NoEnd
 
 -- A certificate with such entries can be read: its problem is one, it has so many entries as are read, and they may stand in a
 -- text and rise.
-pub record IsReadableOf {Entry : Type 0} (form : Form Entry) (c : Listing Entry) : Type 0 where
+pub record IsReadableOf {Entry : Type 0} (form : Form Entry) (c : CertificateView Entry) : Type 0 where
   pub kept : IsKept c.problem
   pub is_problem : IsProblem c.problem
   pub count : IsReadCount (length c.entries)

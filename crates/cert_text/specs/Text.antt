@@ -4,7 +4,7 @@ use Rattle.std.specs.List.{flat_map}
 use Rattle.std.specs.Fmt.{decimal}
 use Rattle.board_core.specs.Board.{Board}
 use Rattle.cert_text.specs.Entries.{line, problem_line}
-use Rattle.cert_text.specs.Certificate.{Listing, Form, mate_form, escape_form}
+use Rattle.cert_text.specs.Certificate.{CertificateView, Form, mate_form, escape_form}
 use Rattle.cert_text.specs.declared.certificate.Certificate.{Certificate}
 use Rattle.cert_text.specs.declared.certificate.Certificate.TheVariants as certificates
 use Rattle.cert_text.specs.declared.head.Claim.{Claim}
@@ -32,7 +32,7 @@ abbrev pub end_line : List ℕ
 end_line = line (codes "end")
 
 -- The text of a certificate with such entries: the head, a line for each entry, and the line `end`.
-abbrev pub listing_text : {Entry : Type 0} → Claim → Form Entry → Listing Entry → List ℕ
+abbrev pub listing_text : {Entry : Type 0} → Claim → Form Entry → CertificateView Entry → List ℕ
 listing_text claim form c = head_text claim (length c.entries) c.problem ++ entries_text form c.entries ++ end_line
 
 -- The text of a certificate.

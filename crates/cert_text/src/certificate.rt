@@ -19,9 +19,9 @@ pub struct CertificateOf<E: Entry> {
 }
 
 impl<E: Entry> Model for CertificateOf<E> {
-    ghost use Rattle.cert_text.specs.Certificate.{Listing, IsListing};
+    ghost use Rattle.cert_text.specs.Certificate.{CertificateView, IsListing};
 
-    ghost Value = { Listing E };
+    ghost Value = { CertificateView E };
 
     ghost view = { λ c. record { problem = c.problem.position; entries = c.entries.items } };
 

@@ -13,7 +13,7 @@ ghost use Rattle.check_moves.specs.Aim.{IsAimOf};
 ghost use Rattle.attack_laws.specs.Unveiled.{IsUnveiled};
 
 use crate::aim::Aim;
-use attack_lines::{Sight, attackers_without, shields, stops};
+use attack_lines::{Sight, attackers_without, blocks, shields};
 use bit_boards::{Mask, mask_laws};
 use board_core::{Kind, Piece, Position, Square};
 use legal_moves::{Guard, Landings};
@@ -62,7 +62,7 @@ impl Aim {
         }
         let king = self.sight.square();
         let behind = attackers_without(position, from, king, position.side());
-        Mask::full().minus(stops(behind, king))
+        Mask::full().minus(blocks(behind, king))
     }
 
     // The checks by the piece that stands on a square.

@@ -42,14 +42,14 @@ drop_safe b wanted to None stopping shielding g long plain low empty has check =
     none_dropped b wanted to check.0 (dropped b wanted to long low empty) plain g.none check.2.king
 drop_safe b wanted to (Some king) stopping shielding g long plain low empty has check =
     drop_safe_of b to (plain_piece wanted b.side) (after_drop b wanted to).cells king.number (dropped b wanted to long low empty) plain refl
-    (only_of b king stopping shielding g) ((g.stops to).0 has).1 check
+    (only_of b king stopping shielding g) ((g.blocks to).0 has).1 check
 
 -- and only there
 pub drop_stops : (b : Board) (wanted : Kind) (to : ℕ) (king : Option Square) (stopping shielding : Mask) → AreGuarding b king stopping shielding
     → length b.cells ≡ 81 → wanted ≢ King → to < 81 → piece_at b.cells to ≡ None → ¬ IsInCheck (after_drop b wanted to).cells b.side → Holds stopping to
 drop_stops b wanted to None stopping shielding g long plain low empty safe = g.all to low
 drop_stops b wanted to (Some king) stopping shielding g long plain low empty safe =
-    (g.stops to).1 (
+    (g.blocks to).1 (
       low,
       drop_stopping_of b to (plain_piece wanted b.side) (after_drop b wanted to).cells king.number (dropped b wanted to long low empty) plain
           (only_of b king stopping shielding g) safe,

@@ -85,7 +85,7 @@ pub king_safe : MasksOnBoard → StepsAreNear → SlidesShareLine → (b : Board
     → ((t : ℕ) → Holds result t ↔ (Holds wanted t × IsOpenTo b from.number t))
     → (to : ℕ) (promote : Bool) → Holds result to ↔ (Holds wanted to × (¬ IsInCheck (after_board b from.number to promote).cells b.side))
 king_safe on_board near lined b guard piece from wanted result long g l kind are to promote =
-    let k = king_from b guard.king guard.stops guard.shields piece from g l.there l.own kind in (
+    let k = king_from b guard.king guard.blocks guard.shields piece from g l.there l.own kind in (
       (λ has.
           let both = (are to).0 has in
           (both.0, king_safe_of b from.number to promote piece (leaves on_board b piece from wanted to long l both.0) kind k both.1)),
@@ -100,7 +100,7 @@ keeps_safe b None stopping shielding piece from to promote g l plain =
     ((λ _. kingless_moved b from.number to promote piece l plain g.none), (λ _. tt))
 keeps_safe b (Some king) stopping shielding piece from to promote g l plain =
     let k = only_king b king stopping shielding g in
-    ((λ stops. safe_of b from.number to promote piece king.number l plain k stops), (λ safe. stopping_of b from.number to promote piece king.number l plain k safe))
+    ((λ blocks. safe_of b from.number to promote piece king.number l plain k blocks), (λ safe. stopping_of b from.number to promote piece king.number l plain k safe))
 
 pub others_safe : MasksOnBoard → (b : Board) (guard : Guard) (piece : Piece) (from : Square) (wanted result : Mask)
     → length b.cells ≡ 81 → IsGuardOf b guard → LeavesFor b from.number piece wanted → piece.kind ≢ King
@@ -109,9 +109,9 @@ pub others_safe : MasksOnBoard → (b : Board) (guard : Guard) (piece : Piece) (
 others_safe on_board b guard piece from wanted result long g l plain are to promote = (
   (λ has.
       let both = (are to).0 has in
-      (both.0, (keeps_safe b guard.king guard.stops guard.shields piece from to promote g (leaves on_board b piece from wanted to long l both.0) plain).0 both.1)),
+      (both.0, (keeps_safe b guard.king guard.blocks guard.shields piece from to promote g (leaves on_board b piece from wanted to long l both.0) plain).0 both.1)),
   (λ both.
-      (are to).1 (both.0, (keeps_safe b guard.king guard.stops guard.shields piece from to promote g (leaves on_board b piece from wanted to long l both.0) plain).1 both.1)),
+      (are to).1 (both.0, (keeps_safe b guard.king guard.blocks guard.shields piece from to promote g (leaves on_board b piece from wanted to long l both.0) plain).1 both.1)),
 )
 
 -- the squares where the side's pieces stand are its own

@@ -22,13 +22,13 @@ neither f g (inl a) = f a
 neither f g (inr b) = g b
 
 pub stops_as_before : (b : Board) (left to king : ℕ) → ¬ IsShield b.cells (other b.side) left king → StopsAttackers b to king → StopsOnceLeft b left to king
-stops_as_before b left to king none stops s low attack = elim (cases_eq to s) [
+stops_as_before b left to king none blocks s low attack = elim (cases_eq to s) [
   | inl e ↦ inl e
   | inr n ↦ elim (between_decided s to king) [
     | inl between ↦ inr between
-    | inr aside ↦ absurd (none (record { from = s; on_board = low; lifted = attack; blocked = λ now. neither n aside (stops s low now) }))
+    | inr aside ↦ absurd (none (record { from = s; on_board = low; lifted = attack; blocked = λ now. neither n aside (blocks s low now) }))
   ]
 ]
 
 pub stopped_before : (b : Board) (left to king : ℕ) → StopsOnceLeft b left to king → StopsAttackers b to king
-stopped_before b left to king stops s low attack = stops s low (lifted_too b.cells (other b.side) left s king attack)
+stopped_before b left to king blocks s low attack = blocks s low (lifted_too b.cells (other b.side) left s king attack)

@@ -35,7 +35,7 @@ StopsOnceLeft b left to king = (from : ℕ) → from < 81 → AttacksWithout b.c
 pub record IsGuarded (b : Board) (king : Square) (stopping shielding : Mask) : Type 0 where
   pub here : is_king_of b.side (piece_at b.cells king.number) ≡ true
   pub only : (square : ℕ) → is_king_of b.side (piece_at b.cells square) ≡ true → square ≡ king.number
-  pub stops : (to : ℕ) → Holds stopping to ↔ ((to < 81) × StopsAttackers b to king.number)
+  pub blocks : (to : ℕ) → Holds stopping to ↔ ((to < 81) × StopsAttackers b to king.number)
   pub shields : (square : ℕ) → Holds shielding square ↔ IsShield b.cells (other b.side) square king.number
 
 -- The side to move has no king, so the set has every square of the board.
@@ -50,4 +50,4 @@ AreGuarding b (Some king) stopping shielding = IsGuarded b king stopping shieldi
 
 -- The guard is that of the side to move.
 abbrev pub IsGuardOf : Board → Guard → Type 0
-IsGuardOf b guard = AreGuarding b guard.king guard.stops guard.shields
+IsGuardOf b guard = AreGuarding b guard.king guard.blocks guard.shields

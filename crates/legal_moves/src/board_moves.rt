@@ -10,7 +10,7 @@ ghost use Rattle.legal_moves.specs.Steps.{KeepsKing, IsOpenTo, LeavesFor, MayGo,
 use crate::guard::Guard;
 use crate::landings::Landings;
 use crate::rows::{dead, promotable};
-use attack_lines::{attackers_without, reached, stops};
+use attack_lines::{attackers_without, blocks, reached};
 use bit_boards::{Mask, mask_laws};
 use board_core::{Kind, Piece, Position, Square};
 use shogi_rules::legal_laws;
@@ -56,13 +56,13 @@ fn stops_once_left(position: &Position, from: Square, king: Square) -> Mask
     ensures { (to : ℕ) → Holds result to ↔ ((to < 81) × StopsOnceLeft position.now from.number to king.number) }
 {
     let by = position.side().other();
-    stops(attackers_without(position, from, king, by), king)
+    blocks(attackers_without(position, from, king, by), king)
 }
 
 impl Guard {
     // Of these squares those to which the piece, not the king, may go from this one without leaving the king there attacked.
     fn keeps_king(&self, position: &Position, king: Square, from: Square, wanted: Mask) -> Mask
-        requires guard { IsGuarded position.now king self.now.stops self.now.shields }
+        requires guard { IsGuarded position.now king self.now.blocks self.now.shields }
         ensures { (to : ℕ) → Holds result to ↔ (Holds wanted to × StopsOnceLeft position.now from.number to king.number) }
     {
         // Sets hold nothing but squares of the board.
@@ -70,7 +70,7 @@ impl Guard {
         if self.shields.contains(from) {
             return wanted.and(stops_once_left(position, from, king));
         }
-        wanted.and(self.stops)
+        wanted.and(self.blocks)
     }
 
     // Of these squares those to which the piece, not the king, may go from this one without leaving its king attacked.
@@ -82,7 +82,7 @@ impl Guard {
         mask_laws();
         match self.king {
             Some(king) => self.keeps_king(position, king, from, wanted),
-            None => wanted.and(self.stops),
+            None => wanted.and(self.blocks),
         }
     }
 

@@ -102,7 +102,7 @@ impl Guard {
         wanted
             .minus(position.all_occupied())
             .minus(dead(Piece::plain(kind, position.side())))
-            .and(self.stops)
+            .and(self.blocks)
     }
 
     /// Of these squares those on which a piece of the kind may legally be dropped; no square where the side to move has none in hand.

@@ -9,7 +9,7 @@ pub struct Guard {
     // Where the king stands; none where the side has no king.
     pub(crate) king: Option<Square>,
     // The squares on which another piece stops all that attack him: all where nothing does.
-    pub(crate) stops: Mask,
+    pub(crate) blocks: Mask,
     // The squares on which a piece, of either side, alone keeps an enemy piece from attacking him.
     pub(crate) shields: Mask,
 }

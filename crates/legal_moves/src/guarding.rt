@@ -4,7 +4,7 @@ ghost use Rattle.board_core.specs.Board.{piece_at, is_king_of};
 ghost use Rattle.legal_moves.specs.Legal.{IsGuardOf};
 
 use crate::guard::Guard;
-use attack_lines::{attackers, shields, stops};
+use attack_lines::{attackers, blocks, shields};
 use bit_boards::{Mask, mask_laws};
 use board_core::{Position, Square};
 
@@ -18,7 +18,7 @@ fn guard_of(position: &Position, king: Square) -> Guard
     let by = position.side().other();
     Guard {
         king: Some(king),
-        stops: stops(attackers(position, king, by), king),
+        blocks: blocks(attackers(position, king, by), king),
         shields: shields(position, king, by),
     }
 }
@@ -32,7 +32,7 @@ impl Guard {
             Some(king) => guard_of(position, king),
             None => Guard {
                 king: None,
-                stops: Mask::full(),
+                blocks: Mask::full(),
                 shields: Mask::empty(),
             },
         }

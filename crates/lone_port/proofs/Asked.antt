@@ -8,20 +8,20 @@ use Rattle.pn_numbers.specs.declared.numbers.Numbers.{Numbers}
 use Rattle.notes.specs.declared.words.Kept.TheVariants.{Slot}
 use Rattle.notes.specs.declared.words.Seen.{Seen}
 use Rattle.notes.specs.declared.words.Update.{Update}
-use Rattle.table_shard.specs.Entry.{Held}
+use Rattle.table_shard.specs.Entry.{EntryView}
 use Rattle.table_shard.specs.Row.{HoldsAt, IsRow, Looks, Enters, left}
 use Rattle.table_shard.specs.Shard.{row_of, with_row, EntersIn}
 use Rattle.table_shard.specs.Spot.{place_of, spot_of}
 use Rattle.table_shard.specs.declared.hash.Spot.{Spot}
 use Rattle.visit_log.specs.declared.words.Request.TheVariants.{Look, Enter, Leave}
-use Rattle.visit_log.specs.declared.words.Answer.TheVariants.{Enter as Entered, Leave as LeftIt}
+use Rattle.visit_log.specs.declared.words.Reply.TheVariants.{Enter as Entered, Leave as LeftIt}
 use Rattle.visit_log.specs.Round.{MayShow}
 use Rattle.visit_log.specs.Sound.{IsSoundUpdate}
 use Rattle.visit_log.specs.Counts.{slot_once}
 use Rattle.worker_core.specs.Port.{IsBooked, Suits, shown}
 use Rattle.board_core.specs.Board.{Board}
 use Rattle.std.proofs.lemmas.List.Folds.{sum_by-replicate}
-use Rattle.lone_port.specs.Lone.{Lone, IsLone, AreFor, Turns, book_of, held_in, pins_of, with_pins, pinned, unpinned, alone_at_first, worker_at_first}
+use Rattle.lone_port.specs.Lone.{LonePortView, IsLone, AreFor, Turns, book_of, held_in, pins_of, with_pins, pinned, unpinned, alone_at_first, worker_at_first}
 use Rattle.lone_port.proofs.Slots.{held_entered, held_left, held_there, once_apart, once_itself, holds_left, holds_within, get_left_other, length-left}
 use Rattle.lone_port.proofs.Rows.{IsEntered, entered, left_for, looks_may}
 use Rattle.lone_port.proofs.Places.{place_within, held_moves, size_moves, there_moves, there_at}
@@ -41,13 +41,13 @@ found pins key p n counts long at within is =
 -- 2. LOOKING.
 
 -- A look, or that there is no memory for it, is a step.
-pub look_turns : {E : Type 0} (port : Lone) (key : Key) (path : List Key) (r : Result Seen E) → IfOk r (Looks (row_of port.rows key) (pins_of port.pins key) key path)
+pub look_turns : {E : Type 0} (port : LonePortView) (key : Key) (path : List Key) (r : Result Seen E) → IfOk r (Looks (row_of port.rows key) (pins_of port.pins key) key path)
     → Turns port path (Look key) (shown r) port
 look_turns port key path (Ok seen) h = (h, refl)
 look_turns port key path (Err e) h = refl
 
 -- What a look shows may be shown.
-pub look_may : {E : Type 0} (port : Lone) (key : Key) (path : List Key) (r : Result Seen E) → IsLone port → All IsRow port.rows
+pub look_may : {E : Type 0} (port : LonePortView) (key : Key) (path : List Key) (r : Result Seen E) → IsLone port → All IsRow port.rows
     → IfOk r (Looks (row_of port.rows key) (pins_of port.pins key) key path) → IfOk r (MayShow port.desk.position.side key path)
 look_may port key path (Ok seen) is rows h =
     looks_may port.desk.position.side (row_of port.rows key) (pins_of port.pins key) key path seen
@@ -59,7 +59,7 @@ look_may port key path (Err e) is rows h = tt
 -- 3. WHAT IS KNOWN OF A KEY'S ROW.
 
 -- What is known of a key's row, and of its counts.
-record IsRowOf (port : Lone) (key : Key) : Type 0 where
+record IsRowOf (port : LonePortView) (key : Key) : Type 0 where
   pub at : place_of key (length port.pins) ≡ place_of key (length port.rows)
   pub row_within : place_of key (length port.rows) < length port.rows
   pub pins_within : place_of key (length port.pins) < length port.pins
@@ -67,7 +67,7 @@ record IsRowOf (port : Lone) (key : Key) : Type 0 where
   pub there : (s : ℕ) → 0 < get_or (pins_of port.pins key) s 0 → s < length (row_of port.rows key)
   pub notes : All (AreFor port.desk.position.side) (row_of port.rows key)
 
-row_known : (port : Lone) (key : Key) → IsLone port → IsRowOf port key
+row_known : (port : LonePortView) (key : Key) → IsLone port → IsRowOf port key
 row_known port key is =
     let here = ap (place_of key) is.as_many in
     let low = place_within key (length port.rows) is.some in
@@ -82,7 +82,7 @@ row_known port key is =
     }
 
 -- What is kept stays kept when a key's row and its counts change.
-changed_keeps : (port : Lone) (key : Key) (row : List Held) (counts : List ℕ) → IsLone port → length counts ≡ 8 → ((s : ℕ) → 0 < get_or counts s 0 → s < length row)
+changed_keeps : (port : LonePortView) (key : Key) (row : List EntryView) (counts : List ℕ) → IsLone port → length counts ≡ 8 → ((s : ℕ) → 0 < get_or counts s 0 → s < length row)
     → All (AreFor port.desk.position.side) row → IsLone (record port { rows = with_row port.rows key row; pins = with_pins port.pins key counts })
 changed_keeps port key row counts is eight there notes =
     let known = row_known port key is in
@@ -99,20 +99,20 @@ changed_keeps port key row counts is eight there notes =
 -- 4. ENTERING.
 
 -- The table after a key was entered in a slot.
-abbrev pub after_enter : Lone → Key → ℕ → List Held → Lone
+abbrev pub after_enter : LonePortView → Key → ℕ → List EntryView → LonePortView
 after_enter port key slot row = record port { rows = with_row port.rows key row; pins = pinned port.pins key (Slot slot) }
 
 -- A row of the table has at most eight entries.
-row_few : (port : Lone) (key : Key) → IsLone port → All IsRow port.rows → length (row_of port.rows key) ≤ 8
+row_few : (port : LonePortView) (key : Key) → IsLone port → All IsRow port.rows → length (row_of port.rows key) ≤ 8
 row_few port key is rows = (All-get_or IsRow port.rows (place_of key (length port.rows)) [] (row_known port key is).row_within rows).few
 
-row_entered : (port : Lone) (key : Key) (numbers : Numbers) (slot : ℕ) (row : List Held) → IsLone port → length (row_of port.rows key) ≤ 8
+row_entered : (port : LonePortView) (key : Key) (numbers : Numbers) (slot : ℕ) (row : List EntryView) → IsLone port → length (row_of port.rows key) ≤ 8
     → Enters (row_of port.rows key) (pins_of port.pins key) key numbers (Slot slot) row
     → IsEntered port.desk.position.side (row_of port.rows key) (pins_of port.pins key) key slot row
 row_entered port key numbers slot row is few enters =
     entered port.desk.position.side (row_of port.rows key) (pins_of port.pins key) key numbers slot row few (row_known port key is).there enters
 
-pub enter_keeps_at : (port : Lone) (key : Key) (numbers : Numbers) (slot : ℕ) (row : List Held) → IsLone port → length (row_of port.rows key) ≤ 8
+pub enter_keeps_at : (port : LonePortView) (key : Key) (numbers : Numbers) (slot : ℕ) (row : List EntryView) → IsLone port → length (row_of port.rows key) ≤ 8
     → Enters (row_of port.rows key) (pins_of port.pins key) key numbers (Slot slot) row → IsLone (after_enter port key slot row)
 enter_keeps_at port key numbers slot row is few enters =
     let known = row_known port key is in
@@ -122,7 +122,7 @@ enter_keeps_at port key numbers slot row is few enters =
     (there_at row (row_of port.rows key) (pins_of port.pins key) slot (get_or (pins_of port.pins key) slot 0 + 1) (holds_within row key slot went.holds) went.grows known.there)
     (went.notes known.notes)
 
-pub enter_books_at : (port : Lone) (key : Key) (numbers : Numbers) (slot : ℕ) (row : List Held) → IsLone port → length (row_of port.rows key) ≤ 8
+pub enter_books_at : (port : LonePortView) (key : Key) (numbers : Numbers) (slot : ℕ) (row : List EntryView) → IsLone port → length (row_of port.rows key) ≤ 8
     → Enters (row_of port.rows key) (pins_of port.pins key) key numbers (Slot slot) row
     → IsBooked (Enter key numbers, Some (Entered (Slot slot))) (book_of port) (book_of (after_enter port key slot row))
 enter_books_at port key numbers slot row is few enters =
@@ -144,15 +144,15 @@ enter_books_at port key numbers slot row is few enters =
     }
 
 -- The table after a key was entered, as the program has it, is the one that the definitions say.
-enter_same : (port : Lone) (after : List (List Held)) (key : Key) (p n slot : ℕ) (counts : List ℕ) (row : List Held) → n ≡ length port.pins → p ≡ place_of key n → p < n
+enter_same : (port : LonePortView) (after : List (List EntryView)) (key : Key) (p n slot : ℕ) (counts : List ℕ) (row : List EntryView) → n ≡ length port.pins → p ≡ place_of key n → p < n
     → counts ≡ get_or port.pins p counts → after ≡ with_row port.rows key row
     → after_enter port key slot row ≡ record port { rows = after; pins = set port.pins p (set counts slot (get_or counts slot 0 + 1)) }
 enter_same port after key p n slot counts row long at within is others =
-    ap₂ (λ (rs : List (List Held)) (ps : List (List ℕ)). record port { rows = rs; pins = ps }) (sym others)
+    ap₂ (λ (rs : List (List EntryView)) (ps : List (List ℕ)). record port { rows = rs; pins = ps }) (sym others)
     (ap₂ (λ (q : ℕ) (c : List ℕ). set port.pins q (set c slot (get_or c slot 0 + 1))) (sym (at ∙ ap (place_of key) long)) (sym (found port.pins key p n counts long at within is)))
 
 -- Entering a key keeps what is kept.
-pub enter_keeps : (port : Lone) (after : List (List Held)) (key : Key) (numbers : Numbers) (p n slot : ℕ) (counts seen : List ℕ) → IsLone port → All IsRow port.rows
+pub enter_keeps : (port : LonePortView) (after : List (List EntryView)) (key : Key) (numbers : Numbers) (p n slot : ℕ) (counts seen : List ℕ) → IsLone port → All IsRow port.rows
     → n ≡ length port.pins → p ≡ place_of key n → p < n → counts ≡ get_or port.pins p counts → seen ≡ get_or port.pins p seen
     → EntersIn port.rows seen key numbers (Slot slot) after
     → IsLone (record port { rows = after; pins = set port.pins p (set counts slot (get_or counts slot 0 + 1)) })
@@ -162,12 +162,12 @@ enter_keeps port after key numbers p n slot counts seen is rows long at within i
     (subst (λ (c : List ℕ). Enters (row_of port.rows key) c key numbers (Slot slot) enters.row) (found port.pins key p n seen long at within too) enters.enters))
 
 -- Entering a key is booked.
-pub enter_books : (port : Lone) (after : List (List Held)) (key : Key) (numbers : Numbers) (p n slot : ℕ) (counts seen : List ℕ) → IsLone port → All IsRow port.rows
+pub enter_books : (port : LonePortView) (after : List (List EntryView)) (key : Key) (numbers : Numbers) (p n slot : ℕ) (counts seen : List ℕ) → IsLone port → All IsRow port.rows
     → n ≡ length port.pins → p ≡ place_of key n → p < n → counts ≡ get_or port.pins p counts → seen ≡ get_or port.pins p seen
     → EntersIn port.rows seen key numbers (Slot slot) after
     → IsBooked (Enter key numbers, Some (Entered (Slot slot))) (book_of port) (book_of (record port { rows = after; pins = set port.pins p (set counts slot (get_or counts slot 0 + 1)) }))
 enter_books port after key numbers p n slot counts seen is rows long at within its too enters =
-    subst (λ (q : Lone). IsBooked (Enter key numbers, Some (Entered (Slot slot))) (book_of port) (book_of q))
+    subst (λ (q : LonePortView). IsBooked (Enter key numbers, Some (Entered (Slot slot))) (book_of port) (book_of q))
     (enter_same port after key p n slot counts enters.row long at within its enters.others)
     (enter_books_at port key numbers slot enters.row is (row_few port key is rows)
     (subst (λ (c : List ℕ). Enters (row_of port.rows key) c key numbers (Slot slot) enters.row) (found port.pins key p n seen long at within too) enters.enters))
@@ -175,11 +175,11 @@ enter_books port after key numbers p n slot counts seen is rows long at within i
 -- 5. LEAVING.
 
 -- What a worker that has entered a slot of a key knows of it.
-pub record IsOwn (port : Lone) (key : Key) (slot : ℕ) : Type 0 where
+pub record IsOwn (port : LonePortView) (key : Key) (slot : ℕ) : Type 0 where
   pub holds : HoldsAt (row_of port.rows key) slot key
   pub some : 0 < get_or (pins_of port.pins key) slot 0
 
-pub own : (port : Lone) (key : Key) (slot : ℕ) → ((other : Key) (s : ℕ) → slot_once (Slot slot) key other s ≤ held_in port.rows port.pins other s) → IsOwn port key slot
+pub own : (port : LonePortView) (key : Key) (slot : ℕ) → ((other : Key) (s : ℕ) → slot_once (Slot slot) key other s ≤ held_in port.rows port.pins other s) → IsOwn port key slot
 own port key slot held =
     let one = once_itself key slot in
     let more = held key slot in
@@ -187,12 +187,12 @@ own port key slot held =
     record { holds = both.0; some = both.1 }
 
 -- A slot that is left has the key's entry.
-pub leave_holds : (port : Lone) (key : Key) (slot : ℕ) → ((other : Key) (s : ℕ) → slot_once (Slot slot) key other s ≤ held_in port.rows port.pins other s)
+pub leave_holds : (port : LonePortView) (key : Key) (slot : ℕ) → ((other : Key) (s : ℕ) → slot_once (Slot slot) key other s ≤ held_in port.rows port.pins other s)
     → HoldsAt (row_of port.rows key) slot key
 leave_holds port key slot held = (own port key slot held).holds
 
 -- It is one of the eight.
-pub leave_within : (port : Lone) (key : Key) (slot : ℕ) → IsLone port → All IsRow port.rows
+pub leave_within : (port : LonePortView) (key : Key) (slot : ℕ) → IsLone port → All IsRow port.rows
     → ((other : Key) (s : ℕ) → slot_once (Slot slot) key other s ≤ held_in port.rows port.pins other s) → slot < 8
 leave_within port key slot is rows held =
     let known = row_known port key is in
@@ -201,16 +201,16 @@ leave_within port key slot is rows held =
     omega (arith, few, low)
 
 -- And a visit is below it.
-pub leave_some : (port : Lone) (key : Key) (p n slot : ℕ) (counts : List ℕ) → n ≡ length port.pins → p ≡ place_of key n → p < n → counts ≡ get_or port.pins p counts
+pub leave_some : (port : LonePortView) (key : Key) (p n slot : ℕ) (counts : List ℕ) → n ≡ length port.pins → p ≡ place_of key n → p < n → counts ≡ get_or port.pins p counts
     → ((other : Key) (s : ℕ) → slot_once (Slot slot) key other s ≤ held_in port.rows port.pins other s) → 1 ≤ get_or counts slot 0
 leave_some port key p n slot counts long at within is held =
     subst (λ (c : List ℕ). 1 ≤ get_or c slot 0) (sym (found port.pins key p n counts long at within is)) (let s = (own port key slot held).some in omega (arith, s))
 
 -- The table after a slot of a key was left.
-abbrev pub after_leave : Lone → Key → ℕ → Update → Lone
+abbrev pub after_leave : LonePortView → Key → ℕ → Update → LonePortView
 after_leave port key slot update = record port { rows = with_row port.rows key (left (row_of port.rows key) slot update); pins = unpinned port.pins key (Slot slot) }
 
-pub leave_keeps_at : (port : Lone) (key : Key) (slot : ℕ) (update : Update) → IsLone port → IsOwn port key slot → IsSoundUpdate port.desk.position.side key update
+pub leave_keeps_at : (port : LonePortView) (key : Key) (slot : ℕ) (update : Update) → IsLone port → IsOwn port key slot → IsSoundUpdate port.desk.position.side key update
     → IsLone (after_leave port key slot update)
 leave_keeps_at port key slot update is mine sound =
     let known = row_known port key is in
@@ -222,7 +222,7 @@ leave_keeps_at port key slot update is mine sound =
     (there_at row (row_of port.rows key) (pins_of port.pins key) slot (get_or (pins_of port.pins key) slot 0 - 1) low (omega (arith, long)) known.there)
     (left_for port.desk.position.side key update (row_of port.rows key) slot sound known.notes)
 
-pub leave_books_at : (port : Lone) (key : Key) (slot : ℕ) (update : Update) → IsLone port → length (row_of port.rows key) ≤ 8 → IsOwn port key slot
+pub leave_books_at : (port : LonePortView) (key : Key) (slot : ℕ) (update : Update) → IsLone port → length (row_of port.rows key) ≤ 8 → IsOwn port key slot
     → IsBooked (Leave (Slot slot) key update, Some LeftIt) (book_of port) (book_of (after_leave port key slot update))
 leave_books_at port key slot update is few mine =
     let known = row_known port key is in
@@ -248,15 +248,15 @@ leave_books_at port key slot update is few mine =
       rooms = omega arith;
     }
 
-leave_same : (port : Lone) (after : List (List Held)) (key : Key) (update : Update) (p n slot : ℕ) (counts : List ℕ) → n ≡ length port.pins → p ≡ place_of key n → p < n
+leave_same : (port : LonePortView) (after : List (List EntryView)) (key : Key) (update : Update) (p n slot : ℕ) (counts : List ℕ) → n ≡ length port.pins → p ≡ place_of key n → p < n
     → counts ≡ get_or port.pins p counts → after ≡ with_row port.rows key (left (row_of port.rows key) slot update)
     → after_leave port key slot update ≡ record port { rows = after; pins = set port.pins p (set counts slot (get_or counts slot 0 - 1)) }
 leave_same port after key update p n slot counts long at within is others =
-    ap₂ (λ (rs : List (List Held)) (ps : List (List ℕ)). record port { rows = rs; pins = ps }) (sym others)
+    ap₂ (λ (rs : List (List EntryView)) (ps : List (List ℕ)). record port { rows = rs; pins = ps }) (sym others)
     (ap₂ (λ (q : ℕ) (c : List ℕ). set port.pins q (set c slot (get_or c slot 0 - 1))) (sym (at ∙ ap (place_of key) long)) (sym (found port.pins key p n counts long at within is)))
 
 -- Leaving a slot keeps what is kept.
-pub leave_keeps : (port : Lone) (after : List (List Held)) (key : Key) (update : Update) (p n slot : ℕ) (counts : List ℕ) → IsLone port
+pub leave_keeps : (port : LonePortView) (after : List (List EntryView)) (key : Key) (update : Update) (p n slot : ℕ) (counts : List ℕ) → IsLone port
     → n ≡ length port.pins → p ≡ place_of key n → p < n → counts ≡ get_or port.pins p counts
     → ((other : Key) (s : ℕ) → slot_once (Slot slot) key other s ≤ held_in port.rows port.pins other s) → IsSoundUpdate port.desk.position.side key update
     → after ≡ with_row port.rows key (left (row_of port.rows key) slot update)
@@ -265,21 +265,21 @@ leave_keeps port after key update p n slot counts is long at within its held sou
     subst IsLone (leave_same port after key update p n slot counts long at within its others) (leave_keeps_at port key slot update is (own port key slot held) sound)
 
 -- Leaving a slot is booked.
-pub leave_books : (port : Lone) (after : List (List Held)) (key : Key) (update : Update) (p n slot : ℕ) (counts : List ℕ) → IsLone port → All IsRow port.rows
+pub leave_books : (port : LonePortView) (after : List (List EntryView)) (key : Key) (update : Update) (p n slot : ℕ) (counts : List ℕ) → IsLone port → All IsRow port.rows
     → n ≡ length port.pins → p ≡ place_of key n → p < n → counts ≡ get_or port.pins p counts
     → ((other : Key) (s : ℕ) → slot_once (Slot slot) key other s ≤ held_in port.rows port.pins other s)
     → after ≡ with_row port.rows key (left (row_of port.rows key) slot update)
     → IsBooked (Leave (Slot slot) key update, Some LeftIt) (book_of port) (book_of (record port { rows = after; pins = set port.pins p (set counts slot (get_or counts slot 0 - 1)) }))
 leave_books port after key update p n slot counts is rows long at within its held others =
-    subst (λ (q : Lone). IsBooked (Leave (Slot slot) key update, Some LeftIt) (book_of port) (book_of q))
+    subst (λ (q : LonePortView). IsBooked (Leave (Slot slot) key update, Some LeftIt) (book_of port) (book_of q))
     (leave_same port after key update p n slot counts long at within its others) (leave_books_at port key slot update is (row_few port key is rows) (own port key slot held))
 
 -- 6. AT FIRST.
 
 -- A worker in the search of a problem may begin to work over the table and the desk of it.
-pub alone_suits : (port : Lone) (problem : Board) (expansions room rows number : ℕ) → port ≡ alone_at_first problem expansions room rows
+pub alone_suits : (port : LonePortView) (problem : Board) (expansions room rows number : ℕ) → port ≡ alone_at_first problem expansions room rows
     → Suits (worker_at_first problem number) (book_of port)
-alone_suits port problem expansions room rows number is = subst (λ (q : Lone). Suits (worker_at_first problem number) (book_of q)) (sym is) (record {
+alone_suits port problem expansions room rows number is = subst (λ (q : LonePortView). Suits (worker_at_first problem number) (book_of q)) (sym is) (record {
   problem = refl;
   going = inl refl;
   held = λ key slot. omega arith;

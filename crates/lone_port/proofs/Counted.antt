@@ -8,21 +8,21 @@ use Rattle.board_core.specs.declared.keys.Key.{Key}
 use Rattle.pn_numbers.specs.declared.numbers.Numbers.{Numbers}
 use Rattle.notes.specs.declared.words.Kept.TheVariants.{Slot, Unkept}
 use Rattle.notes.specs.declared.words.Draw.TheVariants.{Go, Done, Spent as AllDrawn}
-use Rattle.notes.specs.declared.words.Claim.TheVariants.{Room, NoRoom as Full}
+use Rattle.notes.specs.declared.words.RoomAnswer.TheVariants.{Room, NoRoom as Full}
 use Rattle.notes.specs.declared.words.Update.{Update}
 use Rattle.unit_desk.specs.Desk.{DeskView}
-use Rattle.table_shard.specs.Entry.{Held}
+use Rattle.table_shard.specs.Entry.{EntryView}
 use Rattle.table_shard.specs.Row.{Enters, fresh, left}
 use Rattle.table_shard.specs.Shard.{row_of, with_row}
 use Rattle.table_shard.specs.Spot.{place_of}
 use Rattle.visit_log.specs.declared.words.Request.{Request}
 use Rattle.visit_log.specs.declared.words.Request.TheVariants.{Poll, Draw as Draws, Claim as Claims, Look, Enter, Leave, Post}
-use Rattle.visit_log.specs.declared.words.Answer.{Answer}
-use Rattle.visit_log.specs.declared.words.Answer.TheVariants.{Poll as Polled, Draw as Drew, Claim as Claimed, Look as Looked, Enter as Entered, Leave as LeftIt, Post as PostedIt}
-use Rattle.visit_log.specs.Visit.{Event as Exchange}
+use Rattle.visit_log.specs.declared.words.Reply.{Reply}
+use Rattle.visit_log.specs.declared.words.Reply.TheVariants.{Poll as Polled, Draw as Drew, Claim as Claimed, Look as Looked, Enter as Entered, Leave as LeftIt, Post as PostedIt}
+use Rattle.visit_log.specs.Visit.{Exchange}
 use Rattle.visit_log.specs.Counts.{enters, leaves, enters_some, leaves_some}
 use Rattle.worker_core.specs.Port.{units_by, rooms_by}
-use Rattle.lone_port.specs.Lone.{Lone, AreFor, Turns, held_in, pins_of, pinned}
+use Rattle.lone_port.specs.Lone.{LonePortView, AreFor, Turns, held_in, pins_of, pinned}
 use Rattle.lone_port.specs.Keeps.{IsKeptPort, MayAsk, IsCountedBy, TurnsAreCounted}
 use Rattle.lone_port.proofs.Places.{place_within}
 use Rattle.lone_port.proofs.Slots.{length-left}
@@ -31,18 +31,18 @@ use Rattle.lone_port.proofs.Asked.{after_enter, enter_keeps_at, enter_books_at, 
 -- 1. ROWS.
 
 -- No row of a table has more than eight entries.
-abbrev AreFew : List (List Held) → Type 0
-AreFew rows = All (λ (row : List Held). length row ≤ 8) rows
+abbrev AreFew : List (List EntryView) → Type 0
+AreFew rows = All (λ (row : List EntryView). length row ≤ 8) rows
 
-few_at : (port : Lone) (key : Key) → IsKeptPort port → length (row_of port.rows key) ≤ 8
+few_at : (port : LonePortView) (key : Key) → IsKeptPort port → length (row_of port.rows key) ≤ 8
 few_at port key is =
-    All-get_or (λ (row : List Held). length row ≤ 8) port.rows (place_of key (length port.rows)) [] (place_within key (length port.rows) is.lone.some) is.few
+    All-get_or (λ (row : List EntryView). length row ≤ 8) port.rows (place_of key (length port.rows)) [] (place_within key (length port.rows) is.lone.some) is.few
 
-few_with : (port : Lone) (key : Key) (row : List Held) → IsKeptPort port → length row ≤ 8 → AreFew (with_row port.rows key row)
-few_with port key row is few = All-set (λ (r : List Held). length r ≤ 8) port.rows (place_of key (length port.rows)) row few is.few
+few_with : (port : LonePortView) (key : Key) (row : List EntryView) → IsKeptPort port → length row ≤ 8 → AreFew (with_row port.rows key row)
+few_with port key row is few = All-set (λ (r : List EntryView). length r ≤ 8) port.rows (place_of key (length port.rows)) row few is.few
 
 -- Nor has one that is entered.
-enters_few : (row : List Held) (pins : List ℕ) (key : Key) (numbers : Numbers) (slot : ℕ) (after : List Held) → length row ≤ 8
+enters_few : (row : List EntryView) (pins : List ℕ) (key : Key) (numbers : Numbers) (slot : ℕ) (after : List EntryView) → length row ≤ 8
     → Enters row pins key numbers (Slot slot) after → length after ≤ 8
 enters_few row pins key numbers slot after few (inl same) = let e = ap length same.1 in omega (arith, few, e)
 enters_few row pins key numbers slot after few (inr (lacks, inl free)) =
@@ -57,9 +57,9 @@ enters_few row pins key numbers slot after few (inr (lacks, inr full)) =
 -- 2. REQUESTS.
 
 -- One that changes nothing, and counts nothing.
-same_counted : (event : Exchange) (before after : Lone) → IsKeptPort before → after ≡ before → ((key : Key) (slot : ℕ) → leaves event key slot ≡ enters event key slot)
+same_counted : (event : Exchange) (before after : LonePortView) → IsKeptPort before → after ≡ before → ((key : Key) (slot : ℕ) → leaves event key slot ≡ enters event key slot)
     → leaves_some event ≡ enters_some event → units_by event ≡ 0 → rooms_by event ≡ 0 → IsCountedBy event before after
-same_counted event before after is e slots some units rooms = subst (λ (p : Lone). IsCountedBy event before p) (sym e) (record {
+same_counted event before after is e slots some units rooms = subst (λ (p : LonePortView). IsCountedBy event before p) (sym e) (record {
   kept = is;
   held = λ key slot. ap (λ (n : ℕ). held_in before.rows before.pins key slot + n) (slots key slot);
   size = ap (λ (n : ℕ). sum_by sum before.pins + n) some;
@@ -68,10 +68,10 @@ same_counted event before after is e slots some units rooms = subst (λ (p : Lon
 })
 
 -- One that changes the desk alone.
-desk_counted : (event : Exchange) (before after : Lone) (desk : DeskView) (going : Bool) → IsKeptPort before → after ≡ record before { desk = desk; going = going }
+desk_counted : (event : Exchange) (before after : LonePortView) (desk : DeskView) (going : Bool) → IsKeptPort before → after ≡ record before { desk = desk; going = going }
     → desk.position ≡ before.desk.position → ((key : Key) (slot : ℕ) → leaves event key slot ≡ enters event key slot) → leaves_some event ≡ enters_some event
     → desk.drawn ≡ before.desk.drawn + units_by event → desk.claimed ≡ before.desk.claimed + rooms_by event → IsCountedBy event before after
-desk_counted event before after desk going is e same slots some units rooms = subst (λ (p : Lone). IsCountedBy event before p) (sym e) (record {
+desk_counted event before after desk going is e same slots some units rooms = subst (λ (p : LonePortView). IsCountedBy event before p) (sym e) (record {
   kept = record {
     lone = record {
       some = is.lone.some;
@@ -89,13 +89,13 @@ desk_counted event before after desk going is e same slots some units rooms = su
 })
 
 -- Entering a key in a slot.
-enter_counted : (before after : Lone) (key : Key) (numbers : Numbers) (slot : ℕ) (row : List Held) → IsKeptPort before
+enter_counted : (before after : LonePortView) (key : Key) (numbers : Numbers) (slot : ℕ) (row : List EntryView) → IsKeptPort before
     → Enters (row_of before.rows key) (pins_of before.pins key) key numbers (Slot slot) row → after ≡ after_enter before key slot row
     → IsCountedBy (Enter key numbers, Some (Entered (Slot slot))) before after
 enter_counted before after key numbers slot row is enters e =
     let few = few_at before key is in
     let booked = enter_books_at before key numbers slot row is.lone few enters in
-    subst (λ (p : Lone). IsCountedBy (Enter key numbers, Some (Entered (Slot slot))) before p) (sym e) (record {
+    subst (λ (p : LonePortView). IsCountedBy (Enter key numbers, Some (Entered (Slot slot))) before p) (sym e) (record {
       kept = record {
         lone = enter_keeps_at before key numbers slot row is.lone few enters;
         few = few_with before key row is (enters_few (row_of before.rows key) (pins_of before.pins key) key numbers slot row few enters);
@@ -107,14 +107,14 @@ enter_counted before after key numbers slot row is enters e =
     })
 
 -- Leaving a slot of a key.
-leave_counted : (before after : Lone) (key : Key) (slot : ℕ) (update : Update) → IsKeptPort before → MayAsk before (Leave (Slot slot) key update, Some LeftIt)
+leave_counted : (before after : LonePortView) (key : Key) (slot : ℕ) (update : Update) → IsKeptPort before → MayAsk before (Leave (Slot slot) key update, Some LeftIt)
     → after ≡ after_leave before key slot update → IsCountedBy (Leave (Slot slot) key update, Some LeftIt) before after
 leave_counted before after key slot update is may e =
     let few = few_at before key is in
     let mine = own before key slot may.held in
     let booked = leave_books_at before key slot update is.lone few mine in
     let long = length-left (row_of before.rows key) slot update in
-    subst (λ (p : Lone). IsCountedBy (Leave (Slot slot) key update, Some LeftIt) before p) (sym e) (record {
+    subst (λ (p : LonePortView). IsCountedBy (Leave (Slot slot) key update, Some LeftIt) before p) (sym e) (record {
       kept = record {
         lone = leave_keeps_at before key slot update is.lone mine may.sound;
         few = few_with before key (left (row_of before.rows key) slot update) is (omega (arith, few, long));
@@ -126,7 +126,7 @@ leave_counted before after key slot update is may e =
     })
 
 -- Each request that may be asked, with its answer.
-counted : (before : Lone) (path : List Key) (q : Request) (a : Option Answer) (after : Lone) → IsKeptPort before → MayAsk before (q, a)
+counted : (before : LonePortView) (path : List Key) (q : Request) (a : Option Reply) (after : LonePortView) → IsKeptPort before → MayAsk before (q, a)
     → Turns before path q a after → IsCountedBy (q, a) before after
 counted before path Poll (Some (Polled stop)) after is may h = same_counted (Poll, Some (Polled stop)) before after is h.1 (λ key slot. refl) refl refl refl
 counted before path Draws (Some (Drew (Go unit))) after is may h =
@@ -160,12 +160,12 @@ counted before path (Look key) None after is may h = same_counted (Look key, Non
 counted before path (Look key) (Some (Looked seen)) after is may h = same_counted (Look key, Some (Looked seen)) before after is h.1 (λ k slot. refl) refl refl refl
 counted before path (Enter key numbers) (Some (Entered Unkept)) after is may h =
     let same : after.rows ≡ before.rows =
-    h.0.others ∙ (ap (λ (r : List Held). with_row before.rows key r) h.0.enters.3 ∙ set-get_or before.rows (place_of key (length before.rows)) []) in
-    same_counted (Enter key numbers, Some (Entered Unkept)) before after is (h.1 ∙ ap (λ (rs : List (List Held)). record before { rows = rs }) same)
+    h.0.others ∙ (ap (λ (r : List EntryView). with_row before.rows key r) h.0.enters.3 ∙ set-get_or before.rows (place_of key (length before.rows)) []) in
+    same_counted (Enter key numbers, Some (Entered Unkept)) before after is (h.1 ∙ ap (λ (rs : List (List EntryView)). record before { rows = rs }) same)
     (λ k slot. refl) refl refl refl
 counted before path (Enter key numbers) (Some (Entered (Slot slot))) after is may h =
     enter_counted before after key numbers slot h.0.row is h.0.enters
-    (h.1 ∙ ap (λ (rs : List (List Held)). record before { rows = rs; pins = pinned before.pins key (Slot slot) }) h.0.others)
+    (h.1 ∙ ap (λ (rs : List (List EntryView)). record before { rows = rs; pins = pinned before.pins key (Slot slot) }) h.0.others)
 counted before path (Leave Unkept key update) (Some LeftIt) after is may h =
     same_counted (Leave Unkept key update, Some LeftIt) before after is h (λ k slot. refl) refl refl refl
 counted before path (Leave (Slot slot) key update) (Some LeftIt) after is may h = leave_counted before after key slot update is may h

@@ -3,7 +3,7 @@ use Rattle.std.proofs.Common.{◌≡◌, ◌<◌, ℕ, zero, suc, List, [], leng
 use Rattle.std.proofs.lemmas.List.{ext_get_or, length-replicate, get_or-replicate}
 use Rattle.std.proofs.lemmas.List.Elements.{All-get_or}
 use Rattle.table_shard.specs.Emptied.{AreUncounted}
-use Rattle.lone_port.specs.Lone.{Lone, IsLone}
+use Rattle.lone_port.specs.Lone.{LonePortView, IsLone}
 
 none_at : (counts : List ℕ) → length counts ≡ 8 → ((slot : ℕ) → 0 < get_or counts slot 0 → slot < 0) → counts ≡ replicate 8 0
 none_at counts eight none = ext_get_or 0 counts (replicate 8 0) (eight ∙ sym (length-replicate {A = ℕ} 8 0)) (λ slot there.
@@ -15,7 +15,7 @@ none_at counts eight none = ext_get_or 0 counts (replicate 8 0) (eight ∙ sym (
     least (suc n) h = absurd (h (omega arith))
 
 -- A row without entries has no visits below its slots.
-pub uncounted_of : (port : Lone) → IsLone port → AreUncounted port.rows port.pins
+pub uncounted_of : (port : LonePortView) → IsLone port → AreUncounted port.rows port.pins
 uncounted_of port is = record {
   as_many = is.as_many;
   free = λ place there empty. none_at (get_or port.pins place [])

@@ -14,7 +14,7 @@ use Rattle.notes.specs.declared.words.Seen.{Seen}
 use Rattle.notes.specs.declared.words.Seen.TheVariants.{New, Open, Solved}
 use Rattle.notes.specs.declared.words.Update.{Update}
 use Rattle.notes.specs.declared.words.Update.TheVariants.{Numbers as SetNumbers, Note as AddNote, Nothing as ChangeNothing}
-use Rattle.table_shard.specs.Entry.{Held, IsEntry, IsFirstWithin, IsFactAbout, Shows, is_closed, has_closed, noted, updated}
+use Rattle.table_shard.specs.Entry.{EntryView, IsEntry, IsFirstWithin, IsFactAbout, Shows, is_closed, has_closed, noted, updated}
 use Rattle.table_shard.specs.Row.{HoldsAt, IsRow, Looks, Enters, IsGivenUp, fresh, left}
 use Rattle.visit_log.specs.Round.{MayShow}
 use Rattle.visit_log.specs.Sound.{IsSoundUpdate}
@@ -28,7 +28,7 @@ zero_or_some zero = inl refl
 zero_or_some (suc n) = inr (omega arith)
 
 -- What entering a key in a slot does: the slot has the key's entry, the others stay, and where it had none before no visit is below it.
-pub record IsEntered (attacker : Side) (row : List Held) (counts : List ℕ) (key : Key) (slot : ℕ) (after : List Held) : Type 0 where
+pub record IsEntered (attacker : Side) (row : List EntryView) (counts : List ℕ) (key : Key) (slot : ℕ) (after : List EntryView) : Type 0 where
   pub holds : HoldsAt after slot key
   pub others : (s : ℕ) → s ≢ slot → slice_get after s ≡ slice_get row s
   pub before : HoldsAt row slot key ⊎ (get_or counts slot 0 ≡ 0)
@@ -40,28 +40,28 @@ fresh_for : (attacker : Side) (key : Key) (numbers : Numbers) → AreFor attacke
 fresh_for attacker key numbers = All-nil (λ (note : Derivation). attacker_of note ≡ attacker)
 
 -- The row of a key that is entered in a slot.
-pub entered : (attacker : Side) (row : List Held) (counts : List ℕ) (key : Key) (numbers : Numbers) (slot : ℕ) (after : List Held) → length row ≤ 8
+pub entered : (attacker : Side) (row : List EntryView) (counts : List ℕ) (key : Key) (numbers : Numbers) (slot : ℕ) (after : List EntryView) → length row ≤ 8
     → ((s : ℕ) → 0 < get_or counts s 0 → s < length row) → Enters row counts key numbers (Slot slot) after → IsEntered attacker row counts key slot after
 entered attacker row counts key numbers slot after few there (inl h) = record {
-  holds = subst (λ (r : List Held). HoldsAt r slot key) (sym h.1) h.0;
-  others = λ s not. ap (λ (r : List Held). slice_get r s) h.1;
+  holds = subst (λ (r : List EntryView). HoldsAt r slot key) (sym h.1) h.0;
+  others = λ s not. ap (λ (r : List EntryView). slice_get r s) h.1;
   before = inl h.0;
   within = let w = holds_within row key slot h.0 in omega (arith, w, few);
   grows = let e = ap length h.1 in omega (arith, e);
   notes = λ notes. subst (All (AreFor attacker)) (sym h.1) notes;
 }
 entered attacker row counts key numbers slot after few there (inr (none, inl (room, at, is))) = record {
-  holds = subst (λ (r : List Held). HoldsAt r slot key) (sym is)
+  holds = subst (λ (r : List EntryView). HoldsAt r slot key) (sym is)
       (subst (λ (s : ℕ). HoldsAt (row ++ fresh key numbers ∷ []) s key) (sym at) (holds_pushed row (fresh key numbers)));
-  others = λ s not. ap (λ (r : List Held). slice_get r s) is ∙ get_push_other row s (fresh key numbers) (λ q. not (q ∙ sym at));
+  others = λ s not. ap (λ (r : List EntryView). slice_get r s) is ∙ get_push_other row s (fresh key numbers) (λ q. not (q ∙ sym at));
   before = elim (zero_or_some (get_or counts slot 0)) [ inl z ↦ inr z | inr some ↦ let w = there slot some in absurd (omega (arith, w, at)) ];
   within = omega (arith, at, room);
   grows = let e = ap length is in let n = length_push row (fresh key numbers) in omega (arith, e, n);
   notes = λ notes. subst (All (AreFor attacker)) (sym is) (All-push (AreFor attacker) row (fresh key numbers) notes (fresh_for attacker key numbers));
 }
 entered attacker row counts key numbers slot after few there (inr (none, inr (full, given, is))) = record {
-  holds = subst (λ (r : List Held). HoldsAt r slot key) (sym is) (holds_set row slot (fresh key numbers) (idle given).0);
-  others = λ s not. ap (λ (r : List Held). slice_get r s) is ∙ get_set_other row slot s (fresh key numbers) not;
+  holds = subst (λ (r : List EntryView). HoldsAt r slot key) (sym is) (holds_set row slot (fresh key numbers) (idle given).0);
+  others = λ s not. ap (λ (r : List EntryView). slice_get r s) is ∙ get_set_other row slot s (fresh key numbers) not;
   before = inr (idle given).1;
   within = let w = (idle given).0 in omega (arith, w, full);
   grows = let e = ap length is in let n = length-set row slot (fresh key numbers) in omega (arith, e, n);
@@ -84,13 +84,13 @@ noted_for attacker notes note is all = by_test (is_closed note) (has_closed note
     by_test false false = All-push (λ (n : Derivation). attacker_of n ≡ attacker) (drop (length notes - 3) notes) note
         (All-drop (λ (n : Derivation). attacker_of n ≡ attacker) (length notes - 3) notes all) is
 
-updated_for : (attacker : Side) (key : Key) (update : Update) (e : Held) → IsSoundUpdate attacker key update → AreFor attacker e → AreFor attacker (updated e update)
+updated_for : (attacker : Side) (key : Key) (update : Update) (e : EntryView) → IsSoundUpdate attacker key update → AreFor attacker e → AreFor attacker (updated e update)
 updated_for attacker key (SetNumbers numbers) e sound all = all
 updated_for attacker key (AddNote note) e sound all = noted_for attacker e.notes note sound.1 all
 updated_for attacker key ChangeNothing e sound all = all
 
 -- All notes of a row that is left are for the attacker.
-pub left_for : (attacker : Side) (key : Key) (update : Update) (row : List Held) (slot : ℕ) → IsSoundUpdate attacker key update → All (AreFor attacker) row
+pub left_for : (attacker : Side) (key : Key) (update : Update) (row : List EntryView) (slot : ℕ) → IsSoundUpdate attacker key update → All (AreFor attacker) row
     → All (AreFor attacker) (left row slot update)
 left_for attacker key update [] slot sound all = all
 left_for attacker key update (x ∷ xs) zero sound all =
@@ -111,21 +111,21 @@ first_one P path (x ∷ xs) note all (inl (within, is)) =
     some_inj e = cc
 first_one P path (x ∷ xs) note all (inr (not, rest)) = first_one P path xs note (All-tail P x xs all) rest
 
-at_slot : (row : List Held) (slot : ℕ) (P Q : Held → Type 0) → All P row → IsSomeAnd (slice_get row slot) Q → (e : Held) × P e × Q e
+at_slot : (row : List EntryView) (slot : ℕ) (P Q : EntryView → Type 0) → All P row → IsSomeAnd (slice_get row slot) Q → (e : EntryView) × P e × Q e
 at_slot [] slot P Q all h = absurd h
 at_slot (x ∷ xs) zero P Q all h = (x, All-head P x xs all, h)
 at_slot (x ∷ xs) (suc slot) P Q all h = at_slot xs slot P Q (All-tail P x xs all) h
 
 -- What a row shows may be shown.
-pub looks_may : (attacker : Side) (row : List Held) (counts : List ℕ) (key : Key) (path : List Key) (seen : Seen) → IsRow row → All (AreFor attacker) row
+pub looks_may : (attacker : Side) (row : List EntryView) (counts : List ℕ) (key : Key) (path : List Key) (seen : Seen) → IsRow row → All (AreFor attacker) row
     → Looks row counts key path seen → MayShow attacker key path seen
 looks_may attacker row counts key path New is all h = tt
 looks_may attacker row counts key path (Open numbers below) is all (slot, h) =
-    let found = at_slot row slot IsEntry (λ (e : Held). (e.key ≡ key) × Shows e path (get_or counts slot 0) (Open numbers below)) is.entries h in
+    let found = at_slot row slot IsEntry (λ (e : EntryView). (e.key ≡ key) × Shows e path (get_or counts slot 0) (Open numbers below)) is.entries h in
     subst IsOpen (sym found.2.1.1) found.1.numbers
 looks_may attacker row counts key path (Solved note) is all (slot, h) =
-    let found = at_slot row slot IsEntry (λ (e : Held). (e.key ≡ key) × Shows e path (get_or counts slot 0) (Solved note)) is.entries h in
-    let too = at_slot row slot (AreFor attacker) (λ (e : Held). (e.key ≡ key) × Shows e path (get_or counts slot 0) (Solved note)) all h in
+    let found = at_slot row slot IsEntry (λ (e : EntryView). (e.key ≡ key) × Shows e path (get_or counts slot 0) (Solved note)) is.entries h in
+    let too = at_slot row slot (AreFor attacker) (λ (e : EntryView). (e.key ≡ key) × Shows e path (get_or counts slot 0) (Solved note)) all h in
     let fact = first_one (IsFactAbout found.0.key) path found.0.notes note found.1.facts found.2.1 in
     let mine = first_one (λ (n : Derivation). attacker_of n ≡ attacker) path too.0.notes note too.1 too.2.1 in
     record {

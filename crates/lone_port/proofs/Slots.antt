@@ -10,14 +10,14 @@ use Rattle.path_tags.specs.Tag.{key_cmp}
 use Rattle.notes.specs.declared.words.Kept.TheVariants.{Slot}
 use Rattle.notes.specs.declared.words.Update.{Update}
 use Rattle.notes.specs.declared.words.Update.TheVariants.{Numbers as SetNumbers, Note as AddNote, Nothing as ChangeNothing}
-use Rattle.table_shard.specs.Entry.{Held, updated}
+use Rattle.table_shard.specs.Entry.{EntryView, updated}
 use Rattle.table_shard.specs.Row.{HoldsAt, left}
 use Rattle.visit_log.specs.Counts.{slot_once}
 use Rattle.lone_port.specs.Lone.{held_at}
 use Rattle.lone_port.proofs.Keys.{same_from_test, test_itself}
 
 -- Another slot of a row stays where one is set.
-pub get_set_other : (row : List Held) (i s : ℕ) (e : Held) → s ≢ i → slice_get (set row i e) s ≡ slice_get row s
+pub get_set_other : (row : List EntryView) (i s : ℕ) (e : EntryView) → s ≢ i → slice_get (set row i e) s ≡ slice_get row s
 get_set_other [] i s e not = refl
 get_set_other (x ∷ xs) zero zero e not = absurd (not refl)
 get_set_other (x ∷ xs) zero (suc s) e not = refl
@@ -25,14 +25,14 @@ get_set_other (x ∷ xs) (suc i) zero e not = refl
 get_set_other (x ∷ xs) (suc i) (suc s) e not = get_set_other xs i s e (λ q. not (ap suc q))
 
 -- Another slot of a row stays where an entry is put behind it.
-pub get_push_other : (row : List Held) (s : ℕ) (e : Held) → s ≢ length row → slice_get (row ++ e ∷ []) s ≡ slice_get row s
+pub get_push_other : (row : List EntryView) (s : ℕ) (e : EntryView) → s ≢ length row → slice_get (row ++ e ∷ []) s ≡ slice_get row s
 get_push_other [] zero e not = absurd (not refl)
 get_push_other [] (suc s) e not = refl
 get_push_other (x ∷ xs) zero e not = refl
 get_push_other (x ∷ xs) (suc s) e not = get_push_other xs s e (λ q. not (ap suc q))
 
 -- Another slot of a row stays where one is left.
-pub get_left_other : (row : List Held) (i s : ℕ) (update : Update) → s ≢ i → slice_get (left row i update) s ≡ slice_get row s
+pub get_left_other : (row : List EntryView) (i s : ℕ) (update : Update) → s ≢ i → slice_get (left row i update) s ≡ slice_get row s
 get_left_other [] i s update not = refl
 get_left_other (x ∷ xs) zero zero update not = absurd (not refl)
 get_left_other (x ∷ xs) zero (suc s) update not = refl
@@ -40,35 +40,35 @@ get_left_other (x ∷ xs) (suc i) zero update not = refl
 get_left_other (x ∷ xs) (suc i) (suc s) update not = get_left_other xs i s update (λ q. not (ap suc q))
 
 -- An entry that is put behind a row is the last of it.
-pub holds_pushed : (row : List Held) (e : Held) → HoldsAt (row ++ e ∷ []) (length row) e.key
+pub holds_pushed : (row : List EntryView) (e : EntryView) → HoldsAt (row ++ e ∷ []) (length row) e.key
 holds_pushed [] e = refl
 holds_pushed (x ∷ xs) e = holds_pushed xs e
 
 -- An entry that is put into a slot is there.
-pub holds_set : (row : List Held) (i : ℕ) (e : Held) → i < length row → HoldsAt (set row i e) i e.key
+pub holds_set : (row : List EntryView) (i : ℕ) (e : EntryView) → i < length row → HoldsAt (set row i e) i e.key
 holds_set [] i e there = absurd (omega (arith, there))
 holds_set (x ∷ xs) zero e there = refl
 holds_set (x ∷ xs) (suc i) e there = holds_set xs i e (omega (arith, there))
 
-updated-key : (e : Held) (update : Update) → (updated e update).key ≡ e.key
+updated-key : (e : EntryView) (update : Update) → (updated e update).key ≡ e.key
 updated-key e (SetNumbers numbers) = refl
 updated-key e (AddNote note) = refl
 updated-key e ChangeNothing = refl
 
 -- A slot's entry is of the same position once it is left.
-pub holds_left : (row : List Held) (i : ℕ) (update : Update) (key : Key) → HoldsAt row i key → HoldsAt (left row i update) i key
+pub holds_left : (row : List EntryView) (i : ℕ) (update : Update) (key : Key) → HoldsAt row i key → HoldsAt (left row i update) i key
 holds_left [] i update key h = absurd h
 holds_left (x ∷ xs) zero update key h = updated-key x update ∙ h
 holds_left (x ∷ xs) (suc i) update key h = holds_left xs i update key h
 
 -- A slot with an entry lies within the row.
-pub holds_within : (row : List Held) (key : Key) (slot : ℕ) → HoldsAt row slot key → slot < length row
+pub holds_within : (row : List EntryView) (key : Key) (slot : ℕ) → HoldsAt row slot key → slot < length row
 holds_within [] key slot h = absurd h
 holds_within (x ∷ xs) key zero h = omega arith
 holds_within (x ∷ xs) key (suc slot) h = let r = holds_within xs key slot h in omega (arith, r)
 
 -- A row that is left is as long as before.
-pub length-left : (row : List Held) (slot : ℕ) (update : Update) → length (left row slot update) ≡ length row
+pub length-left : (row : List EntryView) (slot : ℕ) (update : Update) → length (left row slot update) ≡ length row
 length-left [] slot update = refl
 length-left (x ∷ xs) zero update = refl
 length-left (x ∷ xs) (suc slot) update = ap suc (length-left xs slot update)
@@ -78,12 +78,12 @@ abbrev pub let_through : Key → Key → ℕ → ℕ
 let_through key k count = if is_eq (key_cmp key k) then count else 0
 
 -- A slot with an entry of one key counts for the keys that are the same.
-pub held_of : (o : Option Held) (key k : Key) (count : ℕ) → IsSomeAnd o (λ e. e.key ≡ key) → held_at o k count ≡ let_through key k count
+pub held_of : (o : Option EntryView) (key k : Key) (count : ℕ) → IsSomeAnd o (λ e. e.key ≡ key) → held_at o k count ≡ let_through key k count
 held_of None key k count h = absurd h
 held_of (Some e) key k count h = ap (λ (q : Key). let_through q k count) h
 
 -- A slot that counts nothing counts nothing for a key.
-pub held_nothing : (o : Option Held) (k : Key) → held_at o k 0 ≡ 0
+pub held_nothing : (o : Option EntryView) (k : Key) → held_at o k 0 ≡ 0
 held_nothing None k = refl
 held_nothing (Some e) k = by_test (is_eq (key_cmp e.key k))
   where
@@ -126,14 +126,14 @@ less_through true count some = omega (arith, some)
 less_through false count some = refl
 
 -- A slot that is entered counts one more for its key; for others it counts what it did.
-pub held_entered : (row after : List Held) (counts : List ℕ) (slot : ℕ) (key : Key) → HoldsAt after slot key
+pub held_entered : (row after : List EntryView) (counts : List ℕ) (slot : ℕ) (key : Key) → HoldsAt after slot key
     → ((s : ℕ) → s ≢ slot → slice_get after s ≡ slice_get row s) → HoldsAt row slot key ⊎ (get_or counts slot 0 ≡ 0) → slot < length counts
     → (k : Key) (s : ℕ) → held_at (slice_get after s) k (get_or (set counts slot (get_or counts slot 0 + 1)) s 0)
     ≡ held_at (slice_get row s) k (get_or counts s 0) + slot_once (Slot slot) key k s
 held_entered row after counts slot key holds others before within k s = elim (cases_eq s slot) [
   | inl same ↦ subst (λ (t : ℕ). held_at (slice_get after t) k (get_or (set counts slot (get_or counts slot 0 + 1)) t 0)
       ≡ held_at (slice_get row t) k (get_or counts t 0) + slot_once (Slot slot) key k t) (sym same) (here before)
-  | inr not ↦ ap₂ (λ (o : Option Held) (n : ℕ). held_at o k n) (others s not) (get_or-set_other counts slot s (get_or counts slot 0 + 1) 0 not)
+  | inr not ↦ ap₂ (λ (o : Option EntryView) (n : ℕ). held_at o k n) (others s not) (get_or-set_other counts slot s (get_or counts slot 0 + 1) 0 not)
       ∙ omega arith ∙ ap (λ (n : ℕ). held_at (slice_get row s) k (get_or counts s 0) + n) (sym (once_other key k slot s not))
 ]
   where
@@ -157,7 +157,7 @@ held_entered row after counts slot key holds others before within k s = elim (ca
         (sym (ap (λ (n : ℕ). held_at (slice_get row slot) k n) none ∙ held_nothing (slice_get row slot) k))))))
 
 -- A slot that is left counts one less for its key; for others it counts what it did.
-pub held_left : (row after : List Held) (counts : List ℕ) (slot : ℕ) (key : Key) → HoldsAt row slot key → HoldsAt after slot key
+pub held_left : (row after : List EntryView) (counts : List ℕ) (slot : ℕ) (key : Key) → HoldsAt row slot key → HoldsAt after slot key
     → ((s : ℕ) → s ≢ slot → slice_get after s ≡ slice_get row s) → slot < length counts → 0 < get_or counts slot 0
     → (k : Key) (s : ℕ) → held_at (slice_get after s) k (get_or (set counts slot (get_or counts slot 0 - 1)) s 0) + slot_once (Slot slot) key k s
     ≡ held_at (slice_get row s) k (get_or counts s 0)
@@ -165,7 +165,7 @@ held_left row after counts slot key before holds others within some k s = elim (
   | inl same ↦ subst (λ (t : ℕ). held_at (slice_get after t) k (get_or (set counts slot (get_or counts slot 0 - 1)) t 0) + slot_once (Slot slot) key k t
       ≡ held_at (slice_get row t) k (get_or counts t 0)) (sym same) here
   | inr not ↦ ap₂ (λ (m n : ℕ). m + n)
-      (ap₂ (λ (o : Option Held) (n : ℕ). held_at o k n) (others s not) (get_or-set_other counts slot s (get_or counts slot 0 - 1) 0 not)) (once_other key k slot s not)
+      (ap₂ (λ (o : Option EntryView) (n : ℕ). held_at o k n) (others s not) (get_or-set_other counts slot s (get_or counts slot 0 - 1) 0 not)) (once_other key k slot s not)
       ∙ omega arith
 ]
   where
@@ -179,7 +179,7 @@ held_left row after counts slot key before holds others within some k s = elim (
         ∙ (less_through (is_eq (key_cmp key k)) (get_or counts slot 0) some ∙ sym (held_of (slice_get row slot) key k (get_or counts slot 0) before))
 
 -- A slot that counts for its own key has an entry of it, and a visit below.
-pub held_there : (o : Option Held) (key : Key) (count : ℕ) → 0 < held_at o key count → IsSomeAnd o (λ e. e.key ≡ key) × (0 < count)
+pub held_there : (o : Option EntryView) (key : Key) (count : ℕ) → 0 < held_at o key count → IsSomeAnd o (λ e. e.key ≡ key) × (0 < count)
 held_there None key count some = absurd (omega (arith, some))
 held_there (Some e) key count some = by_test (is_eq (key_cmp e.key key)) refl some
   where

@@ -2,16 +2,16 @@
 use Rattle.std.proofs.Common.{◌≡◌, inl, List, [], ◌∷◌, ◌++◌, length, refl, sym, ap, ◌∙◌, subst, arith, Bool, false}
 use Rattle.std.specs.Prelude.{Option, Some, None, IfSome, IfNone, MatchOption}
 use Rattle.visit_log.specs.declared.words.WorkEnd.{WorkEnd}
-use Rattle.visit_log.specs.Visit.{Event as Exchange}
+use Rattle.visit_log.specs.Visit.{Exchange}
 use Rattle.visit_log.specs.Machine.{State, end_of, path_of}
-use Rattle.visit_log.specs.Run.{Leads, Standing}
+use Rattle.visit_log.specs.Run.{Leads, WorkerView}
 use Rattle.worker_core.specs.Port.{Suits, KeepsOthers, WentBy, Goes}
-use Rattle.lone_port.specs.Lone.{Lone, Turns, opened, book_of}
+use Rattle.lone_port.specs.Lone.{LonePortView, Turns, opened, book_of}
 use Rattle.lone_port.specs.World.{Steps}
 
 -- What suits the worker suits it once it is opened.
-pub opened_suits : (worker : Standing) (port ready : Lone) (stops : Bool) → ready ≡ opened port stops → Suits worker (book_of port) → Suits worker (book_of ready)
-opened_suits worker port ready stops is suits = subst (λ (p : Lone). Suits worker (book_of p)) (sym is) (record {
+pub opened_suits : (worker : WorkerView) (port ready : LonePortView) (stops : Bool) → ready ≡ opened port stops → Suits worker (book_of port) → Suits worker (book_of ready)
+opened_suits worker port ready stops is suits = subst (λ (p : LonePortView). Suits worker (book_of p)) (sym is) (record {
   problem = suits.problem;
   going = inl refl;
   held = suits.held;
@@ -22,19 +22,19 @@ opened_suits worker port ready stops is suits = subst (λ (p : Lone). Suits work
 })
 
 -- What one request comes to: it is answered, and stands in the log.
-abbrev pub IsStepped : Bool → Lone → Standing → Lone → Standing → Type 0
+abbrev pub IsStepped : Bool → LonePortView → WorkerView → LonePortView → WorkerView → Type 0
 IsStepped stops port worker after later =
     (exchange : Exchange) × Steps stops port worker exchange after later
     × ((log : List Exchange) → Leads worker.task log worker.state → Leads worker.task (log ++ exchange ∷ []) later.state)
 
-one_step : (stops : Bool) (port after : Lone) (worker later : Standing) (events : List Exchange) → WentBy Turns (opened port stops) after worker later events
+one_step : (stops : Bool) (port after : LonePortView) (worker later : WorkerView) (events : List Exchange) → WentBy Turns (opened port stops) after worker later events
     → length events ≡ 1 → later.waiting ≡ false → IsStepped stops port worker after later
 one_step stops port after worker later [] went one idle = absurd (omega arith)
 one_step stops port after worker later (e ∷ f ∷ es) went one idle = absurd (omega arith)
 one_step stops port after worker later (e ∷ []) went one idle = (
   e,
   record {
-    turns = subst (λ (q : Lone). Turns (opened port stops) (path_of worker.task worker.state.frames) e.0 e.1 q) went.port.4.0 went.port.2;
+    turns = subst (λ (q : LonePortView). Turns (opened port stops) (path_of worker.task worker.state.frames) e.0 e.1 q) went.port.4.0 went.port.2;
     goes = subst (λ (s : State). Goes worker.task worker.state e s) went.port.4.1 went.port.3;
     task = went.task;
     idle = idle;
@@ -43,20 +43,20 @@ one_step stops port after worker later (e ∷ []) went one idle = (
 )
 
 -- A request that was answered.
-pub stepped : (result : Option WorkEnd) (stops : Bool) (port ready after : Lone) (worker later : Standing) (events : List Exchange) → ready ≡ opened port stops
+pub stepped : (result : Option WorkEnd) (stops : Bool) (port ready after : LonePortView) (worker later : WorkerView) (events : List Exchange) → ready ≡ opened port stops
     → WentBy Turns ready after worker later events → MatchOption result (length events ≡ 1) (λ (end : WorkEnd). length events ≡ 0)
     → later.waiting ≡ false → IfNone result (IsStepped stops port worker after later)
 stepped None stops port ready after worker later events is went one idle =
-    one_step stops port after worker later events (subst (λ (p : Lone). WentBy Turns p after worker later events) is went) one idle
+    one_step stops port after worker later events (subst (λ (p : LonePortView). WentBy Turns p after worker later events) is went) one idle
 stepped (Some end) stops port ready after worker later events is went none idle = tt
 
-same_state : (port after : Lone) (worker later : Standing) (events : List Exchange) → WentBy Turns port after worker later events → length events ≡ 0
+same_state : (port after : LonePortView) (worker later : WorkerView) (events : List Exchange) → WentBy Turns port after worker later events → length events ≡ 0
     → worker.state ≡ later.state
 same_state port after worker later [] went none = went.port.1
 same_state port after worker later (e ∷ es) went none = absurd (omega arith)
 
 -- A worker that hasn't ended has a request.
-pub not_ended : (P : WorkEnd → Type 0) (result : Option WorkEnd) (port after : Lone) (worker later : Standing) (events : List Exchange)
+pub not_ended : (P : WorkEnd → Type 0) (result : Option WorkEnd) (port after : LonePortView) (worker later : WorkerView) (events : List Exchange)
     → WentBy Turns port after worker later events → MatchOption result (length events ≡ 1) (λ (end : WorkEnd). length events ≡ 0)
     → IfSome result (λ (end : WorkEnd). end_of later.state ≡ Some end) → end_of worker.state ≡ None → IfSome result P
 not_ended P None port after worker later events went one ended none = tt
@@ -65,10 +65,10 @@ not_ended P (Some end) port after worker later events went no_event ended none =
     absurd (cc)
 
 -- What is kept beside the worker's own is so however it was opened.
-pub others_opened : (worker later : Standing) (port ready after : Lone) (stops : Bool) → ready ≡ opened port stops
+pub others_opened : (worker later : WorkerView) (port ready after : LonePortView) (stops : Bool) → ready ≡ opened port stops
     → KeepsOthers worker later (book_of ready) (book_of after) → KeepsOthers worker later (book_of port) (book_of after)
 others_opened worker later port ready after stops is keeps =
-    let k = subst (λ (p : Lone). KeepsOthers worker later (book_of p) (book_of after)) is keeps in
+    let k = subst (λ (p : LonePortView). KeepsOthers worker later (book_of p) (book_of after)) is keeps in
     record { held = k.held; size = k.size; units = k.units; rooms = k.rooms }
 
 -- What holds holds where there is no result, too.

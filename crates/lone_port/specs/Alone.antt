@@ -6,10 +6,10 @@ use Rattle.search_limits.specs.Sizes.{SettingsView}
 use Rattle.search_limits.specs.declared.cause.Cause.{Cause}
 use Rattle.search_limits.specs.declared.cause.Cause.TheVariants.{Expansions, Room, Height, Stopped as StoppedFirst, Entries}
 use Rattle.visit_log.specs.declared.words.WorkEnd.TheVariants.{Spent, NoRoom, TooHigh, Stopped}
-use Rattle.visit_log.specs.Visit.{Event as Exchange}
+use Rattle.visit_log.specs.Visit.{Exchange}
 use Rattle.visit_log.specs.Machine.{end_of}
-use Rattle.visit_log.specs.Run.{Standing, IsReached}
-use Rattle.lone_port.specs.Lone.{Lone}
+use Rattle.visit_log.specs.Run.{WorkerView, IsReached}
+use Rattle.lone_port.specs.Lone.{LonePortView}
 use Rattle.lone_port.specs.World.{World, Plays, world_at_first}
 use Rattle.lone_port.specs.declared.event.Event.{Event}
 use Rattle.lone_port.specs.declared.event.Event.TheVariants.{Step, Raise, Starve}
@@ -35,12 +35,12 @@ abbrev pub told_to_one : List Exchange → List (ℕ × Exchange)
 told_to_one exchanges = map (λ exchange. (1, exchange)) exchanges
 
 -- The world of one worker.
-abbrev pub world_of : Lone → Standing → Bool → World
+abbrev pub world_of : LonePortView → WorkerView → Bool → World
 world_of its_port worker is_raised = record { port = its_port; workers = worker ∷ []; raised = is_raised ∷ [] }
 
 -- The world of the problem and one worker comes by this schedule to where its table and desk and its worker stand so, and the worker asked and
 -- was told this.
-pub record RunsAlone (problem : Board) (s : SettingsView) (schedule : List Event) (log : List Exchange) (port : Lone) (worker : Standing) : Type 0 where
+pub record RunsAlone (problem : Board) (s : SettingsView) (schedule : List Event) (log : List Exchange) (port : LonePortView) (worker : WorkerView) : Type 0 where
   pub own : All IsOwn schedule
   pub raised : Bool
   pub plays : Plays (world_at_first problem (for_one s)) schedule (told_to_one log) (world_of port worker raised)
@@ -48,7 +48,7 @@ pub record RunsAlone (problem : Board) (s : SettingsView) (schedule : List Event
 
 -- Why a search with one worker ends without an answer, by how its worker ended: its units are used up, and it had them all; its room is, and
 -- it had it all; a note would have been higher than notes can be; or a stop was signalled. That a certificate is too long is no cause of a search.
-abbrev pub HasCause : SettingsView → Standing → Cause → Type 0
+abbrev pub HasCause : SettingsView → WorkerView → Cause → Type 0
 HasCause s worker (Expansions number) = (number ≡ s.expansions) × (end_of worker.state ≡ Some Spent) × (worker.state.visits ≡ number)
 HasCause s worker (Room number) = (number ≡ s.room) × (end_of worker.state ≡ Some NoRoom) × (worker.state.claims ≡ number)
 HasCause s worker (Height number) = (number ≡ HEIGHT_LIMIT) × (end_of worker.state ≡ Some TooHigh)

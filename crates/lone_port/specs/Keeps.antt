@@ -2,24 +2,24 @@
 use Rattle.std.specs.Prelude.{◌≡◌, ◌≤◌, ◌+◌, ℕ, List, All, length, sum, sum_by}
 use Rattle.board_core.specs.declared.keys.Key.{Key}
 use Rattle.visit_log.specs.Frame.{task_for}
-use Rattle.visit_log.specs.Visit.{Event as Exchange}
+use Rattle.visit_log.specs.Visit.{Exchange}
 use Rattle.visit_log.specs.Sound.{IsSoundRequest}
 use Rattle.visit_log.specs.Counts.{enters, leaves, enters_some, leaves_some}
 use Rattle.worker_core.specs.Port.{units_by, rooms_by}
-use Rattle.lone_port.specs.Lone.{Lone, IsLone, Turns, held_in}
+use Rattle.lone_port.specs.Lone.{LonePortView, IsLone, Turns, held_in}
 
 -- A table and a desk as they are kept, and no row has more than eight entries.
-pub record IsKeptPort (port : Lone) : Type 0 where
+pub record IsKeptPort (port : LonePortView) : Type 0 where
   pub lone : IsLone port
   pub few : All (λ row. length row ≤ 8) port.rows
 
 -- What is asked may be: what it hands in is sound, and the slot that it leaves is entered.
-pub record MayAsk (port : Lone) (event : Exchange) : Type 0 where
+pub record MayAsk (port : LonePortView) (event : Exchange) : Type 0 where
   pub sound : IsSoundRequest (task_for port.desk.position 1) event.0
   pub held : (key : Key) (slot : ℕ) → leaves event key slot ≤ held_in port.rows port.pins key slot
 
 -- What is kept stays kept; and what is held, and what was given, changes by what the event enters, leaves and gives, and by nothing else.
-pub record IsCountedBy (event : Exchange) (before after : Lone) : Type 0 where
+pub record IsCountedBy (event : Exchange) (before after : LonePortView) : Type 0 where
   pub kept : IsKeptPort after
   pub held : (key : Key) (slot : ℕ) → held_in after.rows after.pins key slot + leaves event key slot ≡ held_in before.rows before.pins key slot + enters event key slot
   pub size : sum_by sum after.pins + leaves_some event ≡ sum_by sum before.pins + enters_some event
@@ -28,5 +28,5 @@ pub record IsCountedBy (event : Exchange) (before after : Lone) : Type 0 where
 
 -- A law: so it is of each request that may be asked, and its answer.
 abbrev pub TurnsAreCounted : Type 0
-TurnsAreCounted = (before : Lone) (path : List Key) (event : Exchange) (after : Lone) → IsKeptPort before → MayAsk before event
+TurnsAreCounted = (before : LonePortView) (path : List Key) (event : Exchange) (after : LonePortView) → IsKeptPort before → MayAsk before event
     → Turns before path event.0 event.1 after → IsCountedBy event before after

@@ -9,37 +9,37 @@ use Rattle.notes.specs.Derivation.{attacker_of}
 use Rattle.notes.specs.declared.words.Kept.{Kept}
 use Rattle.notes.specs.declared.words.Kept.TheVariants.{Slot, Unkept}
 use Rattle.notes.specs.declared.words.Update.{Update}
-use Rattle.table_shard.specs.Entry.{Held}
+use Rattle.table_shard.specs.Entry.{EntryView}
 use Rattle.table_shard.specs.Row.{HoldsAt, Lacks, Looks, left}
 use Rattle.table_shard.specs.Shard.{row_of, with_row, EntersIn}
 use Rattle.table_shard.specs.Spot.{place_of}
 use Rattle.unit_desk.specs.Desk.{DeskView, Draws, Claims, first_posted, fresh}
 use Rattle.visit_log.specs.declared.words.Request.{Request}
 use Rattle.visit_log.specs.declared.words.Request.TheVariants.{Poll, Draw, Claim, Look, Enter, Leave, Post}
-use Rattle.visit_log.specs.declared.words.Answer.{Answer}
-use Rattle.visit_log.specs.declared.words.Answer.TheVariants.{Poll as Polled, Draw as Drew, Claim as Claimed, Look as Looked, Enter as Entered, Leave as LeftIt, Post as PostedIt}
+use Rattle.visit_log.specs.declared.words.Reply.{Reply}
+use Rattle.visit_log.specs.declared.words.Reply.TheVariants.{Poll as Polled, Draw as Drew, Claim as Claimed, Look as Looked, Enter as Entered, Leave as LeftIt, Post as PostedIt}
 use Rattle.visit_log.specs.Frame.{task_for}
 use Rattle.visit_log.specs.Machine.{start}
-use Rattle.visit_log.specs.Run.{Standing}
+use Rattle.visit_log.specs.Run.{WorkerView}
 use Rattle.worker_core.specs.Port.{Book, ends_by}
 
 -- 1. WHAT IT IS.
 
 -- The rows of the table, how many visits are below each slot of each row, the desk, whether it goes on (it said neither that all is done
 -- or spent nor that there is no room), and whether it says that the worker is to stop.
-pub record Lone : Type 0 where
-  pub rows : List (List Held)
+pub record LonePortView : Type 0 where
+  pub rows : List (List EntryView)
   pub pins : List (List ℕ)
   pub desk : DeskView
   pub going : Bool
   pub stops : Bool
 
 -- With so many rows, the desk of a problem and its limits, before anything is asked.
-abbrev pub alone_at_first : Board → ℕ → ℕ → ℕ → Lone
+abbrev pub alone_at_first : Board → ℕ → ℕ → ℕ → LonePortView
 alone_at_first problem expansions room its_rows = record { rows = replicate its_rows []; pins = replicate its_rows (replicate 8 0); desk = fresh problem expansions room; going = true; stops = false }
 
 -- Opened for a worker's turn: it goes on, and says so whether the worker is to stop.
-abbrev pub opened : Lone → Bool → Lone
+abbrev pub opened : LonePortView → Bool → LonePortView
 opened port its_stops = record port { going = true; stops = its_stops }
 
 -- How many visits are below the slots of the key's row.
@@ -61,36 +61,36 @@ unpinned pins key Unkept = pins
 unpinned pins key (Slot slot) = with_pins pins key (slice_set (pins_of pins key) slot (slice_index (pins_of pins key) slot - 1))
 
 -- How many visits are below the slot of a row, if the row has the key's entry there; else none.
-abbrev pub held_at : Option Held → Key → ℕ → ℕ
+abbrev pub held_at : Option EntryView → Key → ℕ → ℕ
 held_at None key below = 0
 held_at (Some entry) key below = if is_eq (key_cmp entry.key key) then below else 0
 
 -- How often the slot of the key is entered and not left.
-abbrev pub held_in : List (List Held) → List (List ℕ) → Key → ℕ → ℕ
+abbrev pub held_in : List (List EntryView) → List (List ℕ) → Key → ℕ → ℕ
 held_in rows pins key slot = held_at (slice_get (row_of rows key) slot) key (slice_index (pins_of pins key) slot)
 
 -- How many visits are below the slot of the key's entry; none where its row has none.
-abbrev pub IsBelow : List (List Held) → List (List ℕ) → Key → ℕ → Type 0
+abbrev pub IsBelow : List (List EntryView) → List (List ℕ) → Key → ℕ → Type 0
 IsBelow rows pins key count =
     ((slot : ℕ) × HoldsAt (row_of rows key) slot key × (count ≡ slice_index (pins_of pins key) slot))
     ⊎ (Lacks (row_of rows key) key × (count ≡ 0))
 
 -- What it tells of itself.
-abbrev pub book_of : Lone → Book
+abbrev pub book_of : LonePortView → Book
 book_of port = record { problem = port.desk.position; units = port.desk.drawn; going = port.going; held = held_in port.rows port.pins; size = sum_by sum port.pins; rooms = port.desk.claimed }
 
 -- The worker of this number in the search of the problem, before it asks anything.
-abbrev pub worker_at_first : Board → ℕ → Standing
+abbrev pub worker_at_first : Board → ℕ → WorkerView
 worker_at_first problem number = record { task = task_for problem number; state = start (task_for problem number); waiting = false }
 
 -- 2. WHAT IT KEEPS.
 
 -- All notes of the entry are for the attacker.
-abbrev pub AreFor : Side → Held → Type 0
+abbrev pub AreFor : Side → EntryView → Type 0
 AreFor attacker entry = All (λ note. attacker_of note ≡ attacker) entry.notes
 
 -- It has a row; there are eight counts for each row; a slot with visits below it has an entry; and all notes are for the problem's attacker.
-pub record IsLone (port : Lone) : Type 0 where
+pub record IsLone (port : LonePortView) : Type 0 where
   pub some : 0 < length port.rows
   pub as_many : length port.pins ≡ length port.rows
   pub eight : All (λ counts. length counts ≡ 8) port.pins
@@ -100,18 +100,18 @@ pub record IsLone (port : Lone) : Type 0 where
 -- 3. WHAT EACH REQUEST DOES.
 
 -- Whether it goes on after an answer.
-abbrev pub goes_on : Answer → Bool → Bool
+abbrev pub goes_on : Reply → Bool → Bool
 goes_on answer going = if ends_by (Some answer) then false else going
 
 -- The rows after the key's entry in a slot was left with an update.
-abbrev pub left_in : List (List Held) → Kept → Key → Update → List (List Held)
+abbrev pub left_in : List (List EntryView) → Kept → Key → Update → List (List EntryView)
 left_in rows Unkept key update = rows
 left_in rows (Slot slot) key update = with_row rows key (left (row_of rows key) slot update)
 
 -- From one state to the next, by a request of a worker on this path and its answer. It says whether the worker is to stop. The desk draws, claims
 -- and keeps what is posted; the table shows what its rows do on the path, or there is no memory for it; the key's row enters the key,
 -- and leaves it; and what is entered in a slot is counted until it is left.
-abbrev pub Turns : Lone → List Key → Request → Option Answer → Lone → Type 0
+abbrev pub Turns : LonePortView → List Key → Request → Option Reply → LonePortView → Type 0
 Turns before path Poll (Some (Polled stop)) after = (stop ≡ before.stops) × (after ≡ before)
 Turns before path Draw (Some (Drew draw)) after =
     Draws before.desk draw after.desk × (after ≡ record before { desk = after.desk; going = goes_on (Drew draw) before.going })

@@ -2,12 +2,12 @@
 use Rattle.std.specs.Prelude.{◌≡◌, ◌+◌, ◌++◌, ◌⊎◌, ℕ, zero, suc, Bool, true, false, List, [], ◌∷◌, Some, None, replicate, slice_get, slice_set, slice_index_or, if◌then◌else◌}
 use Rattle.board_core.specs.Board.{Board}
 use Rattle.search_limits.specs.Sizes.{SettingsView}
-use Rattle.visit_log.specs.Visit.{Event as Exchange}
+use Rattle.visit_log.specs.Visit.{Exchange}
 use Rattle.visit_log.specs.Machine.{path_of, starve, end_of}
-use Rattle.visit_log.specs.Run.{Standing}
+use Rattle.visit_log.specs.Run.{WorkerView}
 use Rattle.worker_core.specs.Port.{Goes}
 use Rattle.worker_core.specs.Machine.{is_poll}
-use Rattle.lone_port.specs.Lone.{Lone, Turns, opened, alone_at_first, worker_at_first}
+use Rattle.lone_port.specs.Lone.{LonePortView, Turns, opened, alone_at_first, worker_at_first}
 use Rattle.lone_port.specs.declared.event.Event.{Event}
 use Rattle.lone_port.specs.declared.event.Event.TheVariants.{Step, Raise, Starve}
 
@@ -15,7 +15,7 @@ use Rattle.lone_port.specs.declared.event.Event.TheVariants.{Step, Raise, Starve
 
 -- A worker makes a request, and the table and the desk answer it, which say that it is to stop where that was signalled. (None is the answer
 -- to a look that is refused memory.)
-pub record Steps (stops : Bool) (port : Lone) (worker : Standing) (exchange : Exchange) (after : Lone) (later : Standing) : Type 0 where
+pub record Steps (stops : Bool) (port : LonePortView) (worker : WorkerView) (exchange : Exchange) (after : LonePortView) (later : WorkerView) : Type 0 where
   pub turns : Turns (opened port stops) (path_of worker.task worker.state.frames) exchange.0 exchange.1 after
   pub goes : Goes worker.task worker.state exchange later.state
   pub task : later.task ≡ worker.task
@@ -25,12 +25,12 @@ pub record Steps (stops : Bool) (port : Lone) (worker : Standing) (exchange : Ex
 
 -- The table and the desk; the workers, the first first; and of each whether a stop was signalled to it since it polled last.
 pub record World : Type 0 where
-  pub port : Lone
-  pub workers : List Standing
+  pub port : LonePortView
+  pub workers : List WorkerView
   pub raised : List Bool
 
 -- So many workers in the search of a problem, numbered from the first number, before they ask anything.
-abbrev pub workers_from : Board → ℕ → ℕ → List Standing
+abbrev pub workers_from : Board → ℕ → ℕ → List WorkerView
 workers_from problem first zero = []
 workers_from problem first (suc more) = worker_at_first problem first ∷ workers_from problem (first + 1) more
 
@@ -43,18 +43,18 @@ world_at_first problem s = record {
 }
 
 -- The worker of this number, from 1, stands at this place, from 0, and hasn't ended.
-pub record IsAtWork (world : World) (number place : ℕ) (worker : Standing) : Type 0 where
+pub record IsAtWork (world : World) (number place : ℕ) (worker : WorkerView) : Type 0 where
   pub numbered : number ≡ place + 1
   pub there : slice_get world.workers place ≡ Some worker
   pub goes_on : end_of worker.state ≡ None
 
 -- The worker of this number isn't there, or has ended.
 abbrev pub IsIdle : World → ℕ → Type 0
-IsIdle world number = (place : ℕ) (worker : Standing) → IsAtWork world number place worker → ⊥
+IsIdle world number = (place : ℕ) (worker : WorkerView) → IsAtWork world number place worker → ⊥
 
 -- The worker at the place makes its request, and is answered. A poll takes in that a stop was signalled.
-pub record StepsAt (world : World) (place : ℕ) (worker : Standing) (exchange : Exchange) (after : World) : Type 0 where
-  pub later : Standing
+pub record StepsAt (world : World) (place : ℕ) (worker : WorkerView) (exchange : Exchange) (after : World) : Type 0 where
+  pub later : WorkerView
   pub steps : Steps (slice_index_or world.raised place false) world.port worker exchange after.port later
   pub workers : after.workers ≡ slice_set world.workers place later
   pub raised : after.raised ≡ (if is_poll exchange.0 then slice_set world.raised place false else world.raised)
@@ -64,7 +64,7 @@ abbrev pub RaisesAt : World → ℕ → World → Type 0
 RaisesAt world place after = after ≡ record world { raised = slice_set world.raised place true }
 
 -- The worker at the place is starved; nothing else changes.
-abbrev pub StarvesAt : World → ℕ → Standing → World → Type 0
+abbrev pub StarvesAt : World → ℕ → WorkerView → World → Type 0
 StarvesAt world place worker after =
     after ≡ record world { workers = slice_set world.workers place (record { task = worker.task; state = starve worker.state; waiting = false }) }
 
@@ -74,14 +74,14 @@ StarvesAt world place worker after =
 -- changes nothing.
 abbrev pub Happens : World → Event → List (ℕ × Exchange) → World → Type 0
 Happens world (Step number) log after =
-    ((place : ℕ) × (worker : Standing) × (exchange : Exchange) × IsAtWork world number place worker × StepsAt world place worker exchange after
+    ((place : ℕ) × (worker : WorkerView) × (exchange : Exchange) × IsAtWork world number place worker × StepsAt world place worker exchange after
     × (log ≡ (number, exchange) ∷ []))
     ⊎ (IsIdle world number × (log ≡ []) × (after ≡ world))
 Happens world (Raise number) log after =
-    ((place : ℕ) × (worker : Standing) × IsAtWork world number place worker × RaisesAt world place after × (log ≡ []))
+    ((place : ℕ) × (worker : WorkerView) × IsAtWork world number place worker × RaisesAt world place after × (log ≡ []))
     ⊎ (IsIdle world number × (log ≡ []) × (after ≡ world))
 Happens world (Starve number) log after =
-    ((place : ℕ) × (worker : Standing) × IsAtWork world number place worker × StarvesAt world place worker after × (log ≡ []))
+    ((place : ℕ) × (worker : WorkerView) × IsAtWork world number place worker × StarvesAt world place worker after × (log ≡ []))
     ⊎ (IsIdle world number × (log ≡ []) × (after ≡ world))
 
 -- The events of a schedule happen, one after the other; the log has what was asked and answered, in order.

@@ -6,7 +6,7 @@ ghost use Rattle.lone_port.specs.Lone.{IsLone, IsBelow, alone_at_first, opened, 
 ghost use Rattle.unit_desk.specs.Desk.{IsDesk};
 
 use board_core::Key;
-use notes::{Claim, Draw, Kept, Note, Seen, Update};
+use notes::{Draw, Kept, Note, RoomAnswer, Seen, Update};
 use path_tags::Path;
 use pn_numbers::Numbers;
 use search_limits::Settings;
@@ -35,9 +35,9 @@ pub struct LonePort {
 impl Model for LonePort {
     ghost use Rattle.std.specs.Coded.{codes};
     ghost use Rattle.notes.specs.contracts.note.Note as facts;
-    ghost use Rattle.lone_port.specs.Lone.{Lone, IsLone};
+    ghost use Rattle.lone_port.specs.Lone.{LonePortView, IsLone};
 
-    ghost Value = { Lone };
+    ghost Value = { LonePortView };
 
     ghost coded = { Prim.hlevel (codes, facts.the_row.coded) };
 
@@ -179,11 +179,11 @@ impl Port for LonePort {
         draw
     }
 
-    fn claim(&mut self) -> Claim {
+    fn claim(&mut self) -> RoomAnswer {
         let claim = self.desk.claim();
         match claim {
-            Claim::Room(_) => {}
-            Claim::NoRoom => self.is_going = false,
+            RoomAnswer::Room(_) => {}
+            RoomAnswer::NoRoom => self.is_going = false,
         }
         claim
     }

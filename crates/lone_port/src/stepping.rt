@@ -1,7 +1,7 @@
 // One request of a worker in a world.
 ghost use Rattle.std.specs.Prelude.{◌≡◌, ◌<◌, ◌++◌, ◌∷◌, [], List, false, Some, None, IfSome, IfNone};
 ghost use Rattle.visit_log.specs.Machine.{end_of};
-ghost use Rattle.visit_log.specs.Visit.{Event as Exchange};
+ghost use Rattle.visit_log.specs.Visit.{Exchange};
 ghost use Rattle.visit_log.specs.Run.{Leads};
 ghost use Rattle.visit_log.specs.Counts.{to_come};
 ghost use Rattle.worker_core.specs.Port.{Suits, KeepsOthers};

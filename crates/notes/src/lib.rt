@@ -18,4 +18,4 @@ pub use escapes::{escape_all, escape_by, escape_end, escape_repeat};
 pub use mates::{mate_all, mate_by, mate_end};
 pub use note::{HEIGHT_LIMIT, Note, NoteEnd, note_laws};
 pub use rule::{Conclusion, Rule};
-pub use words::{Claim, Draw, Kept, Seen, Update};
+pub use words::{Draw, Kept, RoomAnswer, Seen, Update};

@@ -15,7 +15,7 @@ pub enum Draw {
 
 /// What the desk answers to a worker that is about to make a note.
 #[derive(Clone, Copy, PartialEq, Eq, Debug)]
-pub enum Claim {
+pub enum RoomAnswer {
     /// There is room: the note is the one of this number, from 1.
     Room(u32),
     /// All room is taken.

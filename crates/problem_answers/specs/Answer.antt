@@ -18,7 +18,7 @@ use Rattle.cert_extract.specs.Extracted.{claim_by, ComesFrom, HasMoreThan}
 use Rattle.search_limits.specs.declared.cause.Cause.{Cause}
 use Rattle.search_limits.specs.declared.cause.Cause.TheVariants.{Entries}
 use Rattle.visit_log.specs.Frame.{task_for}
-use Rattle.visit_log.specs.Run.{Standing}
+use Rattle.visit_log.specs.Run.{WorkerView}
 use Rattle.visit_log.specs.Sound.{IsAnswer}
 use Rattle.play_line.specs.Line.{IsMainLine}
 use Rattle.app_texts.specs.Texts.{solution_text}
@@ -64,7 +64,7 @@ pub record IsShownBy (p : Board) (note : Derivation) (solution : Solution) : Typ
 
 -- The verdict of a note that answers the problem isn't told: a walk through its tree meets more different positions of the attacker than
 -- entries are read. No workers are named.
-pub record IsUntold (p : Board) (note : Derivation) (its_cause : Cause) (crew : List Standing) : Type 0 where
+pub record IsUntold (p : Board) (note : Derivation) (its_cause : Cause) (crew : List WorkerView) : Type 0 where
   pub cause : its_cause ≡ Entries MOST_ENTRIES
   pub answers : IsAnswer (task_for p 1) note
   pub more : HasMoreThan MOST_ENTRIES p note

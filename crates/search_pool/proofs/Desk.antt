@@ -5,14 +5,14 @@ use Rattle.std.proofs.lemmas.List.Elements.{Contains-push_cases}
 use Rattle.board_core.specs.declared.keys.Key.{Key}
 use Rattle.notes.specs.Derivation.{Derivation}
 use Rattle.notes.specs.declared.words.Draw.TheVariants.{Go, Done, Spent as AllDrawn}
-use Rattle.notes.specs.declared.words.Claim.TheVariants.{Room, NoRoom as Full}
+use Rattle.notes.specs.declared.words.RoomAnswer.TheVariants.{Room, NoRoom as Full}
 use Rattle.visit_log.specs.declared.words.Request.{Request}
 use Rattle.visit_log.specs.declared.words.Request.TheVariants.{Poll, Draw as Draws, Claim as Claims, Look, Enter, Leave, Post, End}
-use Rattle.visit_log.specs.declared.words.Answer.{Answer}
-use Rattle.visit_log.specs.declared.words.Answer.TheVariants.{Poll as Polled, Draw as Drew, Claim as Claimed, Look as Looked, Enter as Entered, Leave as LeftIt, Post as PostedIt}
-use Rattle.visit_log.specs.Visit.{Event as Exchange}
+use Rattle.visit_log.specs.declared.words.Reply.{Reply}
+use Rattle.visit_log.specs.declared.words.Reply.TheVariants.{Poll as Polled, Draw as Drew, Claim as Claimed, Look as Looked, Enter as Entered, Leave as LeftIt, Post as PostedIt}
+use Rattle.visit_log.specs.Visit.{Exchange}
 use Rattle.unit_desk.specs.Desk.{DeskView, first_posted}
-use Rattle.lone_port.specs.Lone.{Lone, Turns, opened}
+use Rattle.lone_port.specs.Lone.{LonePortView, Turns, opened}
 use Rattle.search_pool.specs.Inside.{says_spent, says_full, says_posted, WasSaid, IsToldDesk}
 
 -- What a step does to a desk: its limits stay; what was used up stays so, and what is posted; and what the answer says is so.
@@ -38,7 +38,7 @@ stays d says one two three = record {
   is_said = λ k. inl k;
 }
 
-stays_at : (before after : Lone) (says : Exchange) → after.desk ≡ before.desk → says_spent says ≡ false → says_full says ≡ false → says_posted says ≡ false
+stays_at : (before after : LonePortView) (says : Exchange) → after.desk ≡ before.desk → says_spent says ≡ false → says_full says ≡ false → says_posted says ≡ false
     → DeskMoves before.desk says after.desk
 stays_at before after says e one two three = subst (λ (d : DeskView). DeskMoves before.desk says d) (sym e) (stays before.desk says one two three)
 
@@ -46,9 +46,9 @@ first_is : (posted : Option Derivation) (note : Derivation) → IsSome (first_po
 first_is None note = refl
 first_is (Some first) note = refl
 
-moves : (before : Lone) (path : List Key) (q : Request) (a : Option Answer) (after : Lone) → Turns before path q a after → DeskMoves before.desk (q, a) after.desk
+moves : (before : LonePortView) (path : List Key) (q : Request) (a : Option Reply) (after : LonePortView) → Turns before path q a after → DeskMoves before.desk (q, a) after.desk
 moves before path Poll None after h = absurd h
-moves before path Poll (Some (Polled stop)) after h = stays_at before after (Poll, Some (Polled stop)) (ap (λ (p : Lone). p.desk) h.1) refl refl refl
+moves before path Poll (Some (Polled stop)) after h = stays_at before after (Poll, Some (Polled stop)) (ap (λ (p : LonePortView). p.desk) h.1) refl refl refl
 moves before path Poll (Some (Drew (Go unit))) after h = absurd h
 moves before path Poll (Some (Drew Done)) after h = absurd h
 moves before path Poll (Some (Drew AllDrawn)) after h = absurd h
@@ -125,14 +125,14 @@ moves before path Claims (Some (Looked seen)) after h = absurd h
 moves before path Claims (Some (Entered kept_in)) after h = absurd h
 moves before path Claims (Some LeftIt) after h = absurd h
 moves before path Claims (Some PostedIt) after h = absurd h
-moves before path (Look key) None after h = stays_at before after ((Look key), None) (ap (λ (p : Lone). p.desk) h) refl refl refl
+moves before path (Look key) None after h = stays_at before after ((Look key), None) (ap (λ (p : LonePortView). p.desk) h) refl refl refl
 moves before path (Look key) (Some (Polled stop)) after h = absurd h
 moves before path (Look key) (Some (Drew (Go unit))) after h = absurd h
 moves before path (Look key) (Some (Drew Done)) after h = absurd h
 moves before path (Look key) (Some (Drew AllDrawn)) after h = absurd h
 moves before path (Look key) (Some (Claimed (Room room))) after h = absurd h
 moves before path (Look key) (Some (Claimed Full)) after h = absurd h
-moves before path (Look key) (Some (Looked seen)) after h = stays_at before after ((Look key), Some (Looked seen)) (ap (λ (p : Lone). p.desk) h.1) refl refl refl
+moves before path (Look key) (Some (Looked seen)) after h = stays_at before after ((Look key), Some (Looked seen)) (ap (λ (p : LonePortView). p.desk) h.1) refl refl refl
 moves before path (Look key) (Some (Entered kept_in)) after h = absurd h
 moves before path (Look key) (Some LeftIt) after h = absurd h
 moves before path (Look key) (Some PostedIt) after h = absurd h
@@ -144,7 +144,7 @@ moves before path (Enter key numbers) (Some (Drew AllDrawn)) after h = absurd h
 moves before path (Enter key numbers) (Some (Claimed (Room room))) after h = absurd h
 moves before path (Enter key numbers) (Some (Claimed Full)) after h = absurd h
 moves before path (Enter key numbers) (Some (Looked seen)) after h = absurd h
-moves before path (Enter key numbers) (Some (Entered kept_in)) after h = stays_at before after ((Enter key numbers), Some (Entered kept_in)) (ap (λ (p : Lone). p.desk) h.1) refl refl refl
+moves before path (Enter key numbers) (Some (Entered kept_in)) after h = stays_at before after ((Enter key numbers), Some (Entered kept_in)) (ap (λ (p : LonePortView). p.desk) h.1) refl refl refl
 moves before path (Enter key numbers) (Some LeftIt) after h = absurd h
 moves before path (Enter key numbers) (Some PostedIt) after h = absurd h
 moves before path (Leave kept key update) None after h = absurd h
@@ -156,7 +156,7 @@ moves before path (Leave kept key update) (Some (Claimed (Room room))) after h =
 moves before path (Leave kept key update) (Some (Claimed Full)) after h = absurd h
 moves before path (Leave kept key update) (Some (Looked seen)) after h = absurd h
 moves before path (Leave kept key update) (Some (Entered kept_in)) after h = absurd h
-moves before path (Leave kept key update) (Some LeftIt) after h = stays_at before after ((Leave kept key update), Some LeftIt) (ap (λ (p : Lone). p.desk) h) refl refl refl
+moves before path (Leave kept key update) (Some LeftIt) after h = stays_at before after ((Leave kept key update), Some LeftIt) (ap (λ (p : LonePortView). p.desk) h) refl refl refl
 moves before path (Leave kept key update) (Some PostedIt) after h = absurd h
 moves before path (Post note) None after h = absurd h
 moves before path (Post note) (Some (Polled stop)) after h = absurd h
@@ -169,7 +169,7 @@ moves before path (Post note) (Some (Looked seen)) after h = absurd h
 moves before path (Post note) (Some (Entered kept_in)) after h = absurd h
 moves before path (Post note) (Some LeftIt) after h = absurd h
 moves before path (Post note) (Some PostedIt) after h =
-    subst (λ (d : DeskView). DeskMoves before.desk ((Post note), Some PostedIt) d) (sym (ap (λ (p : Lone). p.desk) h))
+    subst (λ (d : DeskView). DeskMoves before.desk ((Post note), Some PostedIt) d) (sym (ap (λ (p : LonePortView). p.desk) h))
     (record {
       expansions = refl;
       room = refl;
@@ -191,7 +191,7 @@ moves before path (End end) (Some LeftIt) after h = absurd h
 moves before path (End end) (Some PostedIt) after h = absurd h
 
 -- So what was said of the desk holds behind another step.
-pub told_on : (log : List Exchange) (x : Exchange) (before after : Lone) (stops : Bool) (path : List Key) → IsToldDesk log before.desk
+pub told_on : (log : List Exchange) (x : Exchange) (before after : LonePortView) (stops : Bool) (path : List Key) → IsToldDesk log before.desk
     → Turns (opened before stops) path x.0 x.1 after → IsToldDesk (log ++ x ∷ []) after.desk
 told_on log x before after stops path told turns =
     let m = moves (opened before stops) path x.0 x.1 after turns in
@@ -209,11 +209,11 @@ told_on log x before after stops path told turns =
         ]
 
 -- Its limits stay.
-pub limits_stay : (x : Exchange) (before after : Lone) (stops : Bool) (path : List Key) → Turns (opened before stops) path x.0 x.1 after
+pub limits_stay : (x : Exchange) (before after : LonePortView) (stops : Bool) (path : List Key) → Turns (opened before stops) path x.0 x.1 after
     → (after.desk.expansions ≡ before.desk.expansions) × (after.desk.room ≡ before.desk.room)
 limits_stay x before after stops path turns = let m = moves (opened before stops) path x.0 x.1 after turns in (m.expansions, m.room)
 
 -- A note that is posted behind a step was posted before, or the step says so.
-pub posted_by : (x : Exchange) (before after : Lone) (stops : Bool) (path : List Key) → Turns (opened before stops) path x.0 x.1 after
+pub posted_by : (x : Exchange) (before after : LonePortView) (stops : Bool) (path : List Key) → Turns (opened before stops) path x.0 x.1 after
     → IsSome after.desk.posted → IsSome before.desk.posted ⊎ (says_posted x ≡ true)
 posted_by x before after stops path turns = (moves (opened before stops) path x.0 x.1 after turns).is_said

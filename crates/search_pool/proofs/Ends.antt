@@ -5,20 +5,20 @@ use Rattle.std.proofs.lemmas.List.Elements.{All-nil}
 use Rattle.board_core.specs.Board.{Board}
 use Rattle.notes.specs.Derivation.{Derivation}
 use Rattle.notes.specs.declared.words.Draw.TheVariants.{Spent as AllDrawn}
-use Rattle.notes.specs.declared.words.Claim.TheVariants.{NoRoom as Full}
+use Rattle.notes.specs.declared.words.RoomAnswer.TheVariants.{NoRoom as Full}
 use Rattle.search_limits.specs.Sizes.{SettingsView}
 use Rattle.search_limits.specs.declared.cause.Cause.{Cause}
 use Rattle.search_limits.specs.declared.cause.Cause.TheVariants.{Expansions, Room, Height, Stopped as StoppedFirst, Entries}
 use Rattle.visit_log.specs.declared.words.WorkEnd.{WorkEnd}
 use Rattle.visit_log.specs.declared.words.WorkEnd.TheVariants.{Posted, Spent, NoRoom, TooHigh, Stopped}
 use Rattle.visit_log.specs.declared.parts.Stage.TheVariants.{Winding}
-use Rattle.visit_log.specs.Visit.{Event as Exchange, IsVisitLog, drew, claimed, polled}
+use Rattle.visit_log.specs.Visit.{Exchange, IsVisitLog, drew, claimed, polled}
 use Rattle.visit_log.specs.Frame.{Task, task_for}
 use Rattle.visit_log.specs.Machine.{end_of}
-use Rattle.visit_log.specs.Run.{Standing, Leads, IsReached, now_at}
+use Rattle.visit_log.specs.Run.{WorkerView, Leads, IsReached, now_at}
 use Rattle.visit_log.specs.Laws.{EndsHaveCauses}
 use Rattle.worker_core.specs.Port.{Suits}
-use Rattle.lone_port.specs.Lone.{Lone, alone_at_first, worker_at_first, book_of}
+use Rattle.lone_port.specs.Lone.{LonePortView, alone_at_first, worker_at_first, book_of}
 use Rattle.search_gate.specs.Stop.{Signal, one_more}
 use Rattle.lone_port.specs.declared.event.Event.{Event}
 use Rattle.lone_port.specs.Alone.{IsOwn, IsOwnStep, RunsAlone, HasCause}
@@ -62,16 +62,16 @@ at_first problem s signal suits = record {
 }
 
 -- A search with one worker is under way before anything happens.
-pub begun : (problem : Board) (s : SettingsView) (signal : Signal) (port : Lone) (worker : Standing) → port ≡ alone_at_first problem s.expansions s.room s.rows
+pub begun : (problem : Board) (s : SettingsView) (signal : Signal) (port : LonePortView) (worker : WorkerView) → port ≡ alone_at_first problem s.expansions s.room s.rows
     → worker ≡ worker_at_first problem 1 → ((number : ℕ) → Suits (worker_at_first problem number) (book_of port)) → IsUnderWay problem s signal signal port worker
 begun problem s signal port worker ep ew suits =
-    subst (λ (p : Lone). IsUnderWay problem s signal signal p worker) (sym ep)
+    subst (λ (p : LonePortView). IsUnderWay problem s signal signal p worker) (sym ep)
     (subst (IsUnderWay problem s signal signal (alone_at_first problem s.expansions s.room s.rows)) (sym ew)
-    (at_first problem s signal (subst (λ (p : Lone). Suits (worker_at_first problem 1) (book_of p)) ep (suits 1))))
+    (at_first problem s signal (subst (λ (p : LonePortView). Suits (worker_at_first problem 1) (book_of p)) ep (suits 1))))
 
 -- 2. THE END.
 
-reached : (problem : Board) (worker : Standing) (log : List Exchange) → worker.task ≡ task_for problem 1 → worker.waiting ≡ false → Leads (task_for problem 1) log worker.state
+reached : (problem : Board) (worker : WorkerView) (log : List Exchange) → worker.task ≡ task_for problem 1 → worker.waiting ≡ false → Leads (task_for problem 1) log worker.state
     → IsReached worker log
 reached problem worker log task idle leads = record {
   state = worker.state;
@@ -79,7 +79,7 @@ reached problem worker log task idle leads = record {
   now = ap (λ (b : Bool). now_at b worker.state) (sym idle);
 }
 
-runs : (problem : Board) (s : SettingsView) (before after : Signal) (port : Lone) (worker : Standing) (way : IsUnderWay problem s before after port worker)
+runs : (problem : Board) (s : SettingsView) (before after : Signal) (port : LonePortView) (worker : WorkerView) (way : IsUnderWay problem s before after port worker)
     → RunsAlone problem s way.schedule way.log port worker
 runs problem s before after port worker way = record {
   own = way.own;
@@ -94,7 +94,7 @@ quietly before after schedule log (inl q) = inl q.0
 quietly before after schedule log (inr q) = inr q.1
 
 -- With a note that is posted.
-pub ends_solved : (problem : Board) (s : SettingsView) (before after : Signal) (port : Lone) (worker : Standing) (end : WorkEnd) (note : Derivation)
+pub ends_solved : (problem : Board) (s : SettingsView) (before after : Signal) (port : LonePortView) (worker : WorkerView) (end : WorkEnd) (note : Derivation)
     → IsUnderWay problem s before after port worker → end_of worker.state ≡ Some end → Some note ≡ port.desk.posted → IsAloneUntil problem s before after (Solved note)
 ends_solved problem s before after port worker end note way ended posted = (
   way.schedule,
@@ -110,11 +110,11 @@ ends_solved problem s before after port worker end note way ended posted = (
   way.polls,
 )
 
-posted_not_stopped : {A : Type 0} (worker : Standing) → worker.state.stage ≡ Winding Posted → worker.state.stage ≡ Winding Stopped → A
+posted_not_stopped : {A : Type 0} (worker : WorkerView) → worker.state.stage ≡ Winding Posted → worker.state.stage ≡ Winding Stopped → A
 posted_not_stopped worker one two = (let e : Winding Posted ≡ Winding Stopped = sym one ∙ two in absurd (cc))
 
 -- Then the stop signalled nothing.
-pub heeds_solved : (problem : Board) (s : SettingsView) (before after : Signal) (port : Lone) (worker : Standing) (note : Derivation)
+pub heeds_solved : (problem : Board) (s : SettingsView) (before after : Signal) (port : LonePortView) (worker : WorkerView) (note : Derivation)
     → IsUnderWay problem s before after port worker → Some note ≡ port.desk.posted → HeedsStop before after (Solved note)
 heeds_solved problem s before after port worker note way posted = by_quiet way.quiet
   where
@@ -122,12 +122,12 @@ heeds_solved problem s before after port worker note way posted = by_quiet way.q
     by_quiet (inl q) = q.2
     by_quiet (inr q) = posted_not_stopped worker (way.winding.posted (way.winding.is_said (subst IsSome posted refl))) (way.winding.stopped q.0)
 
-visit_log : (problem : Board) (worker : Standing) (log : List Exchange) (end : WorkEnd) → worker.task ≡ task_for problem 1 → worker.waiting ≡ false
+visit_log : (problem : Board) (worker : WorkerView) (log : List Exchange) (end : WorkEnd) → worker.task ≡ task_for problem 1 → worker.waiting ≡ false
     → Leads (task_for problem 1) log worker.state → end_of worker.state ≡ Some end
     → ((l : List Exchange) (e : WorkEnd) → IsReached worker l → end_of worker.state ≡ Some e → IsVisitLog worker.task l e) → IsVisitLog worker.task log end
 visit_log problem worker log end task idle leads ended whole = whole log end (reached problem worker log task idle leads) ended
 
-cause_by : (problem : Board) (s : SettingsView) (before after : Signal) (port : Lone) (worker : Standing) (end : WorkEnd) (cause : Cause)
+cause_by : (problem : Board) (s : SettingsView) (before after : Signal) (port : LonePortView) (worker : WorkerView) (end : WorkEnd) (cause : Cause)
     → IsUnderWay problem s before after port worker → end_of worker.state ≡ Some end → EndsHaveCauses
     → ((l : List Exchange) (e : WorkEnd) → IsReached worker l → end_of worker.state ≡ Some e → IsVisitLog worker.task l e) → IsCauseOf s end cause
     → HasCause s worker cause
@@ -146,7 +146,7 @@ cause_by problem s before after port worker end (StoppedFirst number) way ended 
 cause_by problem s before after port worker end (Entries number) way ended law whole is = absurd is
 
 -- Without one, for a cause.
-pub ends_unknown : (problem : Board) (s : SettingsView) (before after : Signal) (port : Lone) (worker : Standing) (end : WorkEnd) (cause : Cause) (crew : List Standing)
+pub ends_unknown : (problem : Board) (s : SettingsView) (before after : Signal) (port : LonePortView) (worker : WorkerView) (end : WorkEnd) (cause : Cause) (crew : List WorkerView)
     → IsUnderWay problem s before after port worker → end_of worker.state ≡ Some end → EndsHaveCauses
     → ((l : List Exchange) (e : WorkEnd) → IsReached worker l → end_of worker.state ≡ Some e → IsVisitLog worker.task l e) → IsCauseOf s end cause
     → port.desk.posted ≡ None → crew ≡ worker ∷ [] → IsAloneUntil problem s before after (Unknown cause crew)
@@ -164,7 +164,7 @@ ends_unknown problem s before after port worker end cause crew way ended law who
   way.polls,
 )
 
-not_stopped : (problem : Board) (s : SettingsView) (before after : Signal) (port : Lone) (worker : Standing) (end : WorkEnd) → IsUnderWay problem s before after port worker
+not_stopped : (problem : Board) (s : SettingsView) (before after : Signal) (port : LonePortView) (worker : WorkerView) (end : WorkEnd) → IsUnderWay problem s before after port worker
     → end_of worker.state ≡ Some end → (end ≡ Stopped → ⊥) → after.raised ≡ before.raised
 not_stopped problem s before after port worker end way ended other = by_quiet way.quiet
   where
@@ -173,7 +173,7 @@ not_stopped problem s before after port worker end way ended other = by_quiet wa
     by_quiet (inr q) = absurd (other (ends_so worker.state.stage worker.state.frames Stopped end (way.winding.stopped q.0) ended))
 
 -- That it was stopped is told exactly where a stop signalled.
-pub heeds_unknown : (problem : Board) (s : SettingsView) (before after : Signal) (port : Lone) (worker : Standing) (end : WorkEnd) (cause : Cause) (crew : List Standing)
+pub heeds_unknown : (problem : Board) (s : SettingsView) (before after : Signal) (port : LonePortView) (worker : WorkerView) (end : WorkEnd) (cause : Cause) (crew : List WorkerView)
     → IsUnderWay problem s before after port worker → end_of worker.state ≡ Some end → EndsHaveCauses
     → ((l : List Exchange) (e : WorkEnd) → IsReached worker l → end_of worker.state ≡ Some e → IsVisitLog worker.task l e) → IsCauseOf s end cause
     → HeedsStop before after (Unknown cause crew)

@@ -4,9 +4,9 @@ use Rattle.std.specs.Prelude.{Option, Some, None}
 use Rattle.board_core.specs.declared.keys.Key.{Key}
 use Rattle.visit_log.specs.declared.words.Request.{Request}
 use Rattle.visit_log.specs.declared.words.Request.TheVariants.{Poll, Draw as Draws, Claim as Claims, Look, Enter, Leave, Post, End}
-use Rattle.visit_log.specs.declared.words.Answer.{Answer}
-use Rattle.visit_log.specs.declared.words.Answer.TheVariants.{Poll as Polled, Draw as Drew, Claim as Claimed, Look as Looked, Enter as Entered, Leave as LeftIt, Post as PostedIt}
-use Rattle.lone_port.specs.Lone.{Lone, Turns}
+use Rattle.visit_log.specs.declared.words.Reply.{Reply}
+use Rattle.visit_log.specs.declared.words.Reply.TheVariants.{Poll as Polled, Draw as Drew, Claim as Claimed, Look as Looked, Enter as Entered, Leave as LeftIt, Post as PostedIt}
+use Rattle.lone_port.specs.Lone.{LonePortView, Turns}
 use Rattle.worker_core.specs.Machine.{is_poll}
 use Rattle.search_pool.specs.Inside.{says_stop}
 
@@ -15,7 +15,7 @@ told_no true told e not = absurd (cc)
 told_no false told e not = refl
 
 -- A table and a desk that aren't told to stop a worker don't.
-pub says_no : (before : Lone) (path : List Key) (q : Request) (a : Option Answer) (after : Lone) → Turns before path q a after → before.stops ≡ false
+pub says_no : (before : LonePortView) (path : List Key) (q : Request) (a : Option Reply) (after : LonePortView) → Turns before path q a after → before.stops ≡ false
     → says_stop (q, a) ≡ false
 says_no before path q None after h not = refl
 says_no before path Poll (Some (Polled stop)) after h not = told_no stop before.stops h.0 not
@@ -41,7 +41,7 @@ told_yes true told e raised = refl
 told_yes false told e raised = absurd (cc)
 
 -- Where a stop is signalled, a poll is told so.
-pub says_yes : (before : Lone) (path : List Key) (q : Request) (a : Option Answer) (after : Lone) → Turns before path q a after → is_poll q ≡ true → before.stops ≡ true
+pub says_yes : (before : LonePortView) (path : List Key) (q : Request) (a : Option Reply) (after : LonePortView) → Turns before path q a after → is_poll q ≡ true → before.stops ≡ true
     → says_stop (q, a) ≡ true
 says_yes before path Poll None after h polls raised = absurd h
 says_yes before path Poll (Some (Polled stop)) after h polls raised = told_yes stop before.stops h.0 raised

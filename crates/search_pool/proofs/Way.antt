@@ -5,14 +5,14 @@ use Rattle.std.proofs.lemmas.List.{map_push}
 use Rattle.std.proofs.lemmas.List.Elements.{All-push, All-append, All-cons, All-nil}
 use Rattle.board_core.specs.Board.{Board}
 use Rattle.search_limits.specs.Sizes.{SettingsView}
-use Rattle.visit_log.specs.Visit.{Event as Exchange}
+use Rattle.visit_log.specs.Visit.{Exchange}
 use Rattle.visit_log.specs.Frame.{Task}
 use Rattle.visit_log.specs.Machine.{State, asks, end_of, path_of}
-use Rattle.visit_log.specs.Run.{Standing, Leads}
+use Rattle.visit_log.specs.Run.{WorkerView, Leads}
 use Rattle.visit_log.specs.declared.words.WorkEnd.TheVariants.{Stopped}
 use Rattle.worker_core.specs.Machine.{is_poll}
 use Rattle.worker_core.specs.Port.{Suits, KeepsOthers, Goes}
-use Rattle.lone_port.specs.Lone.{Lone, book_of, opened}
+use Rattle.lone_port.specs.Lone.{LonePortView, book_of, opened}
 use Rattle.search_gate.specs.Stop.{Signal, one_more, polled}
 use Rattle.lone_port.specs.declared.event.Event.{Event}
 use Rattle.lone_port.specs.declared.event.Event.TheVariants.{Step, Raise}
@@ -44,7 +44,7 @@ goes_asks : (task : Task) (s t : State) (x : Exchange) → Goes task s x t → x
 goes_asks task s t (q, None) h = h.0
 goes_asks task s t (q, Some a) h = h.0
 
-at_work : (port : Lone) (worker : Standing) (raised : Bool) → end_of worker.state ≡ None → IsAtWork (world_of port worker raised) 1 0 worker
+at_work : (port : LonePortView) (worker : WorkerView) (raised : Bool) → end_of worker.state ≡ None → IsAtWork (world_of port worker raised) 1 0 worker
 at_work port worker raised going = record { numbered = refl; there = refl; goes_on = going }
 
 either : (b : Bool) (xs : List Bool) → xs ≡ (if b then xs else xs)
@@ -52,7 +52,7 @@ either true xs = refl
 either false xs = refl
 
 -- The worker's step, where no stop is signalled.
-step_quietly : (port after : Lone) (worker later : Standing) (x : Exchange) → end_of worker.state ≡ None → Steps false port worker x after later
+step_quietly : (port after : LonePortView) (worker later : WorkerView) (x : Exchange) → end_of worker.state ≡ None → Steps false port worker x after later
     → Plays (world_of port worker false) (Step 1 ∷ []) ((1, x) ∷ []) (world_of after later false)
 step_quietly port after worker later x going steps =
     let at : StepsAt (world_of port worker false) 0 worker x (world_of after later false) =
@@ -70,7 +70,7 @@ cleared true e = refl
 cleared false e = absurd (cc)
 
 -- A stop is signalled, and its step.
-step_stopped : (port after : Lone) (worker later : Standing) (x : Exchange) → end_of worker.state ≡ None → is_poll x.0 ≡ true → Steps true port worker x after later
+step_stopped : (port after : LonePortView) (worker later : WorkerView) (x : Exchange) → end_of worker.state ≡ None → is_poll x.0 ≡ true → Steps true port worker x after later
     → Plays (world_of port worker false) (Raise 1 ∷ Step 1 ∷ []) ((1, x) ∷ []) (world_of after later false)
 step_stopped port after worker later x going polls steps =
     let at : StepsAt (world_of port worker true) 0 worker x (world_of after later false) =
@@ -95,7 +95,7 @@ said_before log x none not w =
     ]
 
 -- All that is known of one request of the search.
-pub record IsRequest (before mid after : Signal) (stops : Bool) (port : Lone) (worker : Standing) (x : Exchange) (next : Lone) (later : Standing) : Type 0 where
+pub record IsRequest (before mid after : Signal) (stops : Bool) (port : LonePortView) (worker : WorkerView) (x : Exchange) (next : LonePortView) (later : WorkerView) : Type 0 where
   pub going : end_of worker.state ≡ None
   pub at_polls : stops ≡ true → is_poll (asks worker.state) ≡ true
   pub signal : after ≡ (if is_poll (asks worker.state) then polled mid stops else mid)
@@ -112,7 +112,7 @@ own_events : (stops : Bool) → All IsOwn (new_events stops)
 own_events true = All-cons IsOwn (Raise 1) (Step 1 ∷ []) refl (All-cons IsOwn (Step 1) [] refl (All-nil IsOwn))
 own_events false = All-cons IsOwn (Step 1) [] refl (All-nil IsOwn)
 
-plays_one : (stops : Bool) (port next : Lone) (worker later : Standing) (x : Exchange) → end_of worker.state ≡ None → (stops ≡ true → is_poll x.0 ≡ true)
+plays_one : (stops : Bool) (port next : LonePortView) (worker later : WorkerView) (x : Exchange) → end_of worker.state ≡ None → (stops ≡ true → is_poll x.0 ≡ true)
     → Steps stops port worker x next later → Plays (world_of port worker false) (new_events stops) ((1, x) ∷ []) (world_of next later false)
 plays_one true port next worker later x going polls steps = step_stopped port next worker later x going (polls refl) steps
 plays_one false port next worker later x going polls steps = step_quietly port next worker later x going steps
@@ -139,7 +139,7 @@ polls_push : (log : List Exchange) (x : Exchange) (n : ℕ) → polls_after (log
 polls_push [] x n = refl
 polls_push (y ∷ log) x n = polls_push log x (if is_poll y.0 then one_more n else n)
 
-quiet_on : (before mid after : Signal) (stops : Bool) (port : Lone) (worker : Standing) (x : Exchange) (next : Lone) (later : Standing) (schedule : List Event) (log : List Exchange)
+quiet_on : (before mid after : Signal) (stops : Bool) (port : LonePortView) (worker : WorkerView) (x : Exchange) (next : LonePortView) (later : WorkerView) (schedule : List Event) (log : List Exchange)
     → IsRequest before mid after stops port worker x next later → IsWindingUp log port worker → is_poll x.0 ≡ is_poll (asks worker.state)
     → IsQuiet before mid schedule log → IsQuiet before after (schedule ++ new_events stops) (log ++ x ∷ [])
 quiet_on before mid after true port worker x next later schedule log r w asked (inl q) =
@@ -172,7 +172,7 @@ abbrev tagged : Exchange → ℕ × Exchange
 tagged x = (1, x)
 
 -- A search under way goes on by one request.
-pub on_way : (problem : Board) (s : SettingsView) (before mid after : Signal) (stops : Bool) (port : Lone) (worker : Standing) (x : Exchange) (next : Lone) (later : Standing)
+pub on_way : (problem : Board) (s : SettingsView) (before mid after : Signal) (stops : Bool) (port : LonePortView) (worker : WorkerView) (x : Exchange) (next : LonePortView) (later : WorkerView)
     → IsUnderWay problem s before mid port worker → IsRequest before mid after stops port worker x next later → IsUnderWay problem s before after next later
 on_way problem s before mid after stops port worker x next later way r =
     let asked : is_poll x.0 ≡ is_poll (asks worker.state) = ap is_poll (goes_asks worker.task worker.state later.state x r.steps.goes) in

@@ -3,19 +3,19 @@ use Rattle.std.proofs.Common.{◌≡◌, inl, inr, List, [], ◌∷◌, ◌++◌
 use Rattle.std.specs.Prelude.{Some, None}
 use Rattle.std.proofs.lemmas.List.Elements.{Contains-push, Contains-push_cases, Contains-append_left}
 use Rattle.notes.specs.declared.words.Draw.TheVariants.{Go, Done, Spent as AllDrawn}
-use Rattle.visit_log.specs.declared.words.Answer.{Answer}
-use Rattle.visit_log.specs.declared.words.Answer.TheVariants.{Poll as Polled, Draw as Drew, Claim as Claimed, Look as Looked, Enter as Entered, Leave as LeftIt, Post as PostedIt}
+use Rattle.visit_log.specs.declared.words.Reply.{Reply}
+use Rattle.visit_log.specs.declared.words.Reply.TheVariants.{Poll as Polled, Draw as Drew, Claim as Claimed, Look as Looked, Enter as Entered, Leave as LeftIt, Post as PostedIt}
 use Rattle.visit_log.specs.declared.parts.Stage.{Stage}
 use Rattle.visit_log.specs.declared.parts.Stage.TheVariants.{Polling, Drawing, Entering, Looking, Claiming, Leaving, Posting, Winding}
 use Rattle.visit_log.specs.declared.words.WorkEnd.{WorkEnd}
 use Rattle.visit_log.specs.declared.words.WorkEnd.TheVariants.{Posted, Stopped}
-use Rattle.visit_log.specs.Frame.{Task, Visiting}
+use Rattle.visit_log.specs.Frame.{Task, FrameView}
 use Rattle.visit_log.specs.Machine.{State, LeadsAt, asks_at, end_at, path_of}
-use Rattle.visit_log.specs.Run.{Standing, IsLooking}
-use Rattle.visit_log.specs.Visit.{Event as Exchange}
+use Rattle.visit_log.specs.Run.{WorkerView, IsLooking}
+use Rattle.visit_log.specs.Visit.{Exchange}
 use Rattle.worker_core.specs.Machine.{is_poll}
 use Rattle.worker_core.specs.Port.{Goes}
-use Rattle.lone_port.specs.Lone.{Lone, Turns, opened}
+use Rattle.lone_port.specs.Lone.{LonePortView, Turns, opened}
 use Rattle.search_pool.specs.Inside.{says_stop, says_posted, WasSaid, IsWindingUp}
 use Rattle.search_pool.proofs.Desk.{posted_by}
 
@@ -80,7 +80,7 @@ winds_posted task s t (q, Some LeftIt) g e = no e
 winds_posted task s t (q, Some PostedIt) g e = told_posted task s s.stage t g.2
 
 -- A worker that winds up goes on to.
-still : (task : Task) (s : State) (end : WorkEnd) (a : Answer) (t : State) → LeadsAt task s (Winding end) a t → t.stage ≡ Winding end
+still : (task : Task) (s : State) (end : WorkEnd) (a : Reply) (t : State) → LeadsAt task s (Winding end) a t → t.stage ≡ Winding end
 still task s end (Polled stop) t h = absurd h
 still task s end (Drew draw) t h = absurd h
 still task s end (Claimed claim) t h = absurd h
@@ -94,12 +94,12 @@ stays_winding task s t (q, None) end g w = absurd (subst IsLooking w g.1)
 stays_winding task s t (q, Some a) end g w = still task s end a t (subst (λ (stage : Stage). LeadsAt task s stage a t) w g.2)
 
 -- It polls no more.
-pub not_polling : (stage : Stage) (frames : List Visiting) (end : WorkEnd) → stage ≡ Winding end → is_poll (asks_at stage frames) ≡ true → ⊥
+pub not_polling : (stage : Stage) (frames : List FrameView) (end : WorkEnd) → stage ≡ Winding end → is_poll (asks_at stage frames) ≡ true → ⊥
 not_polling stage [] end w polls = no (subst (λ (z : Stage). is_poll (asks_at z []) ≡ true) w polls)
 not_polling stage (f ∷ fs) end w polls = no (subst (λ (z : Stage). is_poll (asks_at z (f ∷ fs)) ≡ true) w polls)
 
 -- It ends for what it winds up for.
-pub ends_so : (stage : Stage) (frames : List Visiting) (end told : WorkEnd) → stage ≡ Winding end → end_at stage frames ≡ Some told → told ≡ end
+pub ends_so : (stage : Stage) (frames : List FrameView) (end told : WorkEnd) → stage ≡ Winding end → end_at stage frames ≡ Some told → told ≡ end
 ends_so stage [] end told w e = (let k : Some end ≡ Some told = subst (λ (z : Stage). end_at z [] ≡ Some told) w e in cc)
 ends_so stage (f ∷ fs) end told w e = (let k : None ≡ Some told = subst (λ (z : Stage). end_at z (f ∷ fs) ≡ Some told) w e in absurd (cc))
 
@@ -120,7 +120,7 @@ winds_on says end task s t log x g now before w =
     ]
 
 -- What a worker winds up for, behind a request.
-pub winding_on : (log : List Exchange) (x : Exchange) (port next : Lone) (stops : Bool) (worker later : Standing) → IsWindingUp log port worker
+pub winding_on : (log : List Exchange) (x : Exchange) (port next : LonePortView) (stops : Bool) (worker later : WorkerView) → IsWindingUp log port worker
     → Goes worker.task worker.state x later.state → Turns (opened port stops) (path_of worker.task worker.state.frames) x.0 x.1 next
     → IsWindingUp (log ++ x ∷ []) next later
 winding_on log x port next stops worker later before goes turns = record {

@@ -4,13 +4,13 @@ use Rattle.board_core.specs.Board.{Board}
 use Rattle.search_gate.specs.Stop.{Signal, one_more}
 use Rattle.search_limits.specs.Sizes.{SettingsView}
 use Rattle.search_limits.specs.declared.cause.Cause.TheVariants.{Expansions, Room, Height, Stopped, Entries}
-use Rattle.visit_log.specs.Visit.{Event as Exchange}
+use Rattle.visit_log.specs.Visit.{Exchange}
 use Rattle.visit_log.specs.Frame.{task_for}
 use Rattle.visit_log.specs.Machine.{end_of}
-use Rattle.visit_log.specs.Run.{Standing}
+use Rattle.visit_log.specs.Run.{WorkerView}
 use Rattle.visit_log.specs.Sound.{IsAnswer}
 use Rattle.worker_core.specs.Machine.{is_poll}
-use Rattle.lone_port.specs.Lone.{Lone}
+use Rattle.lone_port.specs.Lone.{LonePortView}
 use Rattle.lone_port.specs.declared.event.Event.{Event}
 use Rattle.lone_port.specs.Alone.{RunsAlone, HasCause, IsOwnStep}
 use Rattle.search_pool.specs.declared.end.SearchEnd.{SearchEnd}
@@ -18,7 +18,7 @@ use Rattle.search_pool.specs.declared.end.SearchEnd.TheVariants.{Solved, Unknown
 
 -- What a search with one worker answers, once its table and desk and its worker stand so: the note that is posted; where none is, the cause by
 -- the worker's end, and the worker.
-abbrev pub IsOutcome : SettingsView → Lone → Standing → SearchEnd → Type 0
+abbrev pub IsOutcome : SettingsView → LonePortView → WorkerView → SearchEnd → Type 0
 IsOutcome s port worker (Solved note) = port.desk.posted ≡ Some note
 IsOutcome s port worker (Unknown cause crew) = (port.desk.posted ≡ None) × (crew ≡ worker ∷ []) × HasCause s worker cause
 
@@ -26,8 +26,8 @@ IsOutcome s port worker (Unknown cause crew) = (port.desk.posted ≡ None) × (c
 -- table, desk and worker tell then.
 pub record IsEndBy (problem : Board) (s : SettingsView) (schedule : List Event) (end : SearchEnd) : Type 0 where
   pub log : List Exchange
-  pub port : Lone
-  pub worker : Standing
+  pub port : LonePortView
+  pub worker : WorkerView
   pub runs : RunsAlone problem s schedule log port worker
   pub ended : IsSome (end_of worker.state)
   pub outcome : IsOutcome s port worker end

@@ -2,7 +2,7 @@
 use Rattle.std.specs.Prelude.{◌≡◌, ◌⊎◌, Bool, true, false, List, Some, All, Contains, IsSome}
 use Rattle.board_core.specs.Board.{Board}
 use Rattle.notes.specs.declared.words.Draw.TheVariants.{Done, Spent as AllDrawn}
-use Rattle.notes.specs.declared.words.Claim.TheVariants.{NoRoom as Full}
+use Rattle.notes.specs.declared.words.RoomAnswer.TheVariants.{NoRoom as Full}
 use Rattle.notes.specs.declared.note.TheConstants.{HEIGHT_LIMIT}
 use Rattle.search_limits.specs.declared.cause.Cause.{Cause}
 use Rattle.search_limits.specs.declared.cause.Cause.TheVariants.{Expansions, Room, Height, Stopped as StoppedFirst, Entries}
@@ -12,12 +12,12 @@ use Rattle.visit_log.specs.declared.parts.Stage.TheVariants.{Winding}
 use Rattle.search_gate.specs.Stop.{Signal, one_more}
 use Rattle.search_limits.specs.Sizes.{SettingsView}
 use Rattle.unit_desk.specs.Desk.{DeskView}
-use Rattle.visit_log.specs.declared.words.Answer.TheVariants.{Poll as Polled, Draw as Drew, Claim as Claimed, Post as PostedIt}
+use Rattle.visit_log.specs.declared.words.Reply.TheVariants.{Poll as Polled, Draw as Drew, Claim as Claimed, Post as PostedIt}
 use Rattle.visit_log.specs.Frame.{task_for}
-use Rattle.visit_log.specs.Visit.{Event as Exchange}
-use Rattle.visit_log.specs.Run.{Standing, Leads}
+use Rattle.visit_log.specs.Visit.{Exchange}
+use Rattle.visit_log.specs.Run.{WorkerView, Leads}
 use Rattle.worker_core.specs.Port.{Suits}
-use Rattle.lone_port.specs.Lone.{Lone, book_of}
+use Rattle.lone_port.specs.Lone.{LonePortView, book_of}
 use Rattle.lone_port.specs.World.{Plays, world_at_first}
 use Rattle.lone_port.specs.declared.event.Event.{Event}
 use Rattle.lone_port.specs.Alone.{IsOwn, IsOwnStep, for_one, told_to_one, world_of}
@@ -55,7 +55,7 @@ pub record IsToldDesk (log : List Exchange) (desk : DeskView) : Type 0 where
   pub posted : WasSaid says_posted log → IsSome desk.posted
 
 -- What was said behind which the worker winds up: that it is to stop, or that a note is posted, as there is none without that.
-pub record IsWindingUp (log : List Exchange) (port : Lone) (worker : Standing) : Type 0 where
+pub record IsWindingUp (log : List Exchange) (port : LonePortView) (worker : WorkerView) : Type 0 where
   pub stopped : WasSaid says_stop log → worker.state.stage ≡ Winding Stopped
   pub posted : WasSaid says_posted log → worker.state.stage ≡ Winding Posted
   pub is_said : IsSome port.desk.posted → WasSaid says_posted log
@@ -70,7 +70,7 @@ IsQuiet before after schedule log =
 -- told; the worker stands by the log, and winds up where it was told to; table and desk suit it; what was said of the desk holds, whose units and room are the
 -- settings'; the worker had all units and all room that the desk gave; the stop was polled as often as it polls, and not armed; and unless the stop signalled,
 -- no stop was signalled to the worker.
-pub record IsUnderWay (problem : Board) (s : SettingsView) (before after : Signal) (port : Lone) (worker : Standing) : Type 0 where
+pub record IsUnderWay (problem : Board) (s : SettingsView) (before after : Signal) (port : LonePortView) (worker : WorkerView) : Type 0 where
   pub schedule : List Event
   pub log : List Exchange
   pub own : All IsOwn schedule

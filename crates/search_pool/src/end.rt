@@ -14,9 +14,9 @@ impl Model for Crew {
     ghost use Rattle.std.specs.Prelude.{List};
     ghost use Rattle.std.specs.Coded.{codes};
     ghost use Rattle.worker_core.specs.contracts.worker.Worker as worker;
-    ghost use Rattle.visit_log.specs.Run.{Standing};
+    ghost use Rattle.visit_log.specs.Run.{WorkerView};
 
-    ghost Value = { List Standing };
+    ghost Value = { List WorkerView };
 
     ghost coded = { Prim.hlevel (codes, worker.the_row.coded) };
 

@@ -5,11 +5,11 @@ use Rattle.notes.specs.declared.words.Kept.{Kept}
 use Rattle.notes.specs.declared.words.Update.{Update}
 use Rattle.pn_numbers.specs.declared.numbers.Numbers.{Numbers}
 use Rattle.visit_log.specs.declared.words.Request.TheVariants.{Enter, Leave}
-use Rattle.visit_log.specs.declared.words.Answer.TheVariants.{Enter as Entered, Leave as LeftIt}
-use Rattle.visit_log.specs.Run.{Standing}
+use Rattle.visit_log.specs.declared.words.Reply.TheVariants.{Enter as Entered, Leave as LeftIt}
+use Rattle.visit_log.specs.Run.{WorkerView}
 use Rattle.worker_core.specs.Port.{Book, IsBooked, Suits}
 
-pub learnt_suits : (worker : Standing) (a b c : Book) (key : Key) (numbers : Numbers) (kept : Kept) (update : Update)
+pub learnt_suits : (worker : WorkerView) (a b c : Book) (key : Key) (numbers : Numbers) (kept : Kept) (update : Update)
     → IsBooked (Enter key numbers, Some (Entered kept)) a b → IsBooked (Leave kept key update, Some LeftIt) b c → Suits worker a → Suits worker c
 learnt_suits worker a b c key numbers kept update first second suits =
     let going : c.going ≡ a.going = second.going ∙ first.going in

@@ -4,13 +4,13 @@ use Rattle.visit_log.specs.declared.words.WorkEnd.{WorkEnd}
 use Rattle.visit_log.specs.declared.words.WorkEnd.TheVariants.{NoMemory}
 use Rattle.visit_log.specs.declared.parts.Stage.{Stage}
 use Rattle.visit_log.specs.declared.parts.Stage.TheVariants.{Polling, Drawing, Entering, Looking, Claiming, Leaving, Posting, Winding}
-use Rattle.visit_log.specs.Frame.{Visiting}
+use Rattle.visit_log.specs.Frame.{FrameView}
 use Rattle.visit_log.specs.Machine.{State, starve, starve_at, starve_winding}
-use Rattle.visit_log.specs.Run.{Standing}
+use Rattle.visit_log.specs.Run.{WorkerView}
 use Rattle.visit_log.specs.Laws.{IsLeftAlone}
 use Rattle.worker_core.specs.Port.{Book, entering, Suits}
 
-still_winds : (s : State) (end : WorkEnd) (frames : List Visiting) → (last : WorkEnd) × ((starve_winding s end frames).stage ≡ Winding last)
+still_winds : (s : State) (end : WorkEnd) (frames : List FrameView) → (last : WorkEnd) × ((starve_winding s end frames).stage ≡ Winding last)
 still_winds s end [] = (end, refl)
 still_winds s end (f ∷ fs) = (NoMemory, refl)
 
@@ -25,14 +25,14 @@ starved_winds s Claiming = (NoMemory, refl)
 starved_winds s (Leaving left) = (NoMemory, refl)
 starved_winds s (Posting posted) = (NoMemory, refl)
 
-pub starved_suits : (v w : Standing) (book : Book) → Suits v book → w ≡ record { task = v.task; state = starve v.state; waiting = false } → IsLeftAlone v.state w.state
+pub starved_suits : (v w : WorkerView) (book : Book) → Suits v book → w ≡ record { task = v.task; state = starve v.state; waiting = false } → IsLeftAlone v.state w.state
     → Suits w book
 starved_suits v w book suits is alone =
     let winds = starved_winds v.state v.state.stage in
-    let stage : w.state.stage ≡ Winding winds.0 = ap (λ (z : Standing). z.state.stage) is ∙ winds.1 in
+    let stage : w.state.stage ≡ Winding winds.0 = ap (λ (z : WorkerView). z.state.stage) is ∙ winds.1 in
     let none : entering w.state.stage ≡ 0 = ap entering stage in
     record {
-      problem = ap (λ (z : Standing). z.task.problem) is ∙ suits.problem;
+      problem = ap (λ (z : WorkerView). z.task.problem) is ∙ suits.problem;
       going = inr (winds.0, stage);
       held = λ key slot. let own = alone.slots key slot in let h = suits.held key slot in omega (arith, own, h);
       some = (let own = alone.size in let some = suits.some in omega (arith, own, some));

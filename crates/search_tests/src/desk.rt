@@ -1,7 +1,7 @@
 // Settings at the ends of their ranges and beyond, and desks whose units and room run out.
 use crate::problems::{problem, settings};
 use crate::same::same;
-use notes::{Claim, Draw};
+use notes::{Draw, RoomAnswer};
 use search_limits::{Setting, Settings, SettingsFault, Size, default_shards};
 use unit_desk::Desk;
 
@@ -63,11 +63,11 @@ fn units_and_room_are_handed_out_each_once_until_none_is_left(rt: HostRuntime) {
         }
         for note in 1..=room {
             same(&rt, "claimed before", desk.claimed(), note - 1);
-            same(&rt, "a note", desk.claim(), Claim::Room(note));
+            same(&rt, "a note", desk.claim(), RoomAnswer::Room(note));
         }
         for row in ["none is left", "nor later"] {
             same(&rt, row, desk.draw(), Draw::Spent);
-            same(&rt, row, desk.claim(), Claim::NoRoom);
+            same(&rt, row, desk.claim(), RoomAnswer::NoRoom);
             same(&rt, row, (desk.drawn(), desk.claimed()), (expansions, room));
         }
         same(&rt, "posted", desk.posted().is_some(), false);

@@ -4,39 +4,39 @@ use Rattle.std.proofs.lemmas.List.{map-append, map-set}
 use Rattle.notes.specs.declared.words.Update.{Update}
 use Rattle.notes.specs.declared.words.Update.TheVariants.{Numbers as SetNumbers, Note as AddNote, Nothing as ChangeNothing}
 use Rattle.board_core.specs.declared.keys.Key.{Key}
-use Rattle.table_shard.specs.Entry.{Held, updated}
+use Rattle.table_shard.specs.Entry.{EntryView, updated}
 use Rattle.table_shard.specs.Marks.{marks_of}
 use Rattle.table_shard.specs.Row.{left}
 use Rattle.table_shard.specs.Spot.{mark_of}
 
 -- the mark of an entry
-abbrev pub mark_in : Held → ℕ
+abbrev pub mark_in : EntryView → ℕ
 mark_in entry = mark_of entry.key
 
 -- an entry is put behind
-pub marks_pushed : (row : List Held) (entry : Held) (mark : ℕ) (marks : List ℕ) → marks ≡ marks_of row → mark ≡ mark_of entry.key
+pub marks_pushed : (row : List EntryView) (entry : EntryView) (mark : ℕ) (marks : List ℕ) → marks ≡ marks_of row → mark ≡ mark_of entry.key
     → marks ++ mark ∷ [] ≡ marks_of (row ++ entry ∷ [])
 marks_pushed row entry mark marks are is = rw (are, is) (sym (map-append mark_in row (entry ∷ [])))
 
 -- an entry is put into a slot
-pub marks_set : (row : List Held) (slot : ℕ) (entry : Held) (mark : ℕ) (marks : List ℕ) → marks ≡ marks_of row → mark ≡ mark_of entry.key
+pub marks_set : (row : List EntryView) (slot : ℕ) (entry : EntryView) (mark : ℕ) (marks : List ℕ) → marks ≡ marks_of row → mark ≡ mark_of entry.key
     → set marks slot mark ≡ marks_of (set row slot entry)
 marks_set row slot entry mark marks are is = rw (are, is) (sym (map-set mark_in row slot entry))
 
 -- an update keeps the key
-key_stays : (entry : Held) (update : Update) → (updated entry update).key ≡ entry.key
+key_stays : (entry : EntryView) (update : Update) → (updated entry update).key ≡ entry.key
 key_stays entry (SetNumbers numbers) = refl
 key_stays entry (AddNote note) = refl
 key_stays entry ChangeNothing = refl
 
 -- a slot is left
-pub marks_left : (row : List Held) (slot : ℕ) (update : Update) → marks_of (left row slot update) ≡ marks_of row
+pub marks_left : (row : List EntryView) (slot : ℕ) (update : Update) → marks_of (left row slot update) ≡ marks_of row
 marks_left [] slot update = refl
 marks_left (x ∷ xs) zero update = ap (λ (k : Key). mark_of k ∷ marks_of xs) (key_stays x update)
 marks_left (x ∷ xs) (suc slot) update = ap (λ (ms : List ℕ). mark_of x.key ∷ ms) (marks_left xs slot update)
 
 -- the mark in a slot
-pub mark_at : (row : List Held) (slot d : ℕ) (e : Held) → slot < length row → get_or (marks_of row) slot d ≡ mark_of (get_or row slot e).key
+pub mark_at : (row : List EntryView) (slot d : ℕ) (e : EntryView) → slot < length row → get_or (marks_of row) slot d ≡ mark_of (get_or row slot e).key
 mark_at [] slot d e there = absurd (omega (arith, there))
 mark_at (x ∷ xs) zero d e there = refl
 mark_at (x ∷ xs) (suc slot) d e there = mark_at xs slot d e (omega (arith, there))

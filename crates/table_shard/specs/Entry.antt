@@ -14,7 +14,7 @@ use Rattle.notes.specs.declared.words.Update.{Update}
 use Rattle.notes.specs.declared.words.Update.TheVariants.{Numbers as SetNumbers, Note as AddNote, Nothing as ChangeNothing}
 
 -- What a slot holds of a position: the position's key, its numbers, and notes about it, in order of coming.
-pub record Held : Type 0 where
+pub record EntryView : Type 0 where
   pub key : Key
   pub numbers : Numbers
   pub notes : List Derivation
@@ -53,7 +53,7 @@ pub record AreTagged (notes : List Derivation) : Type 0 where
 
 -- What is kept of an entry: its numbers are both from 1 to the cap; each note is valid, and about its position; and either one note that holds
 -- on every path stands alone, or there are at most four others.
-pub record IsEntry (entry : Held) : Type 0 where
+pub record IsEntry (entry : EntryView) : Type 0 where
   pub numbers : IsOpen entry.numbers
   pub facts : All (IsFactAbout entry.key) entry.notes
   pub notes : IsAlone entry.notes ⊎ AreTagged entry.notes
@@ -67,7 +67,7 @@ IsFirstWithin path (note ∷ notes) found =
 
 -- What an entry shows to a worker on a path, with so many workers below the position: the first note that holds on the path; where
 -- none does, its numbers and that count.
-abbrev pub Shows : Held → List Key → ℕ → Seen → Type 0
+abbrev pub Shows : EntryView → List Key → ℕ → Seen → Type 0
 Shows entry path below New = ⊥
 Shows entry path below (Open numbers count) = IsFirstWithin path entry.notes None × (numbers ≡ entry.numbers) × (count ≡ below)
 Shows entry path below (Solved note) = IsFirstWithin path entry.notes (Some note)
@@ -81,7 +81,7 @@ noted notes note =
     else drop (length notes - 3) notes ++ note ∷ [])
 
 -- The entry after an update.
-abbrev pub updated : Held → Update → Held
+abbrev pub updated : EntryView → Update → EntryView
 updated entry (SetNumbers numbers) = record entry { numbers = numbers }
 updated entry (AddNote note) = record entry { notes = noted entry.notes note }
 updated entry ChangeNothing = entry

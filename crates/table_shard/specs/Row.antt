@@ -7,25 +7,25 @@ use Rattle.notes.specs.declared.words.Seen.TheVariants.{New, Open, Solved}
 use Rattle.notes.specs.declared.words.Kept.{Kept}
 use Rattle.notes.specs.declared.words.Kept.TheVariants.{Slot, Unkept}
 use Rattle.notes.specs.declared.words.Update.{Update}
-use Rattle.table_shard.specs.Entry.{Held, IsEntry, Shows, has_closed, updated}
+use Rattle.table_shard.specs.Entry.{EntryView, IsEntry, Shows, has_closed, updated}
 
 -- The slot holds an entry of the key.
-abbrev pub HoldsAt : List Held → ℕ → Key → Type 0
+abbrev pub HoldsAt : List EntryView → ℕ → Key → Type 0
 HoldsAt row slot key = IsSomeAnd (slice_get row slot) (λ entry. entry.key ≡ key)
 
 -- No slot holds an entry of the key.
-abbrev pub Lacks : List Held → Key → Type 0
+abbrev pub Lacks : List EntryView → Key → Type 0
 Lacks row key = All (λ entry. entry.key ≢ key) row
 
 -- What is kept of a row: it has at most eight entries, each as entries are, and no two of one key.
-pub record IsRow (row : List Held) : Type 0 where
+pub record IsRow (row : List EntryView) : Type 0 where
   pub few : length row ≤ 8
   pub entries : All IsEntry row
   pub apart : (one other : ℕ) (key : Key) → HoldsAt row one key → HoldsAt row other key → one ≡ other
 
 -- What a look for the key shows: New exactly where no entry is the key's; else what its entry shows, with the count of workers of
 -- its slot.
-abbrev pub Looks : List Held → List ℕ → Key → List Key → Seen → Type 0
+abbrev pub Looks : List EntryView → List ℕ → Key → List Key → Seen → Type 0
 Looks row pins key path New = Lacks row key
 Looks row pins key path (Open numbers below) =
     (slot : ℕ) × IsSomeAnd (slice_get row slot) (λ entry. (entry.key ≡ key) × Shows entry path (slice_index pins slot) (Open numbers below))
@@ -33,12 +33,12 @@ Looks row pins key path (Solved note) =
     (slot : ℕ) × IsSomeAnd (slice_get row slot) (λ entry. (entry.key ≡ key) × Shows entry path (slice_index pins slot) (Solved note))
 
 -- The slot holds an entry, and no worker is below it.
-pub record IsIdle (row : List Held) (pins : List ℕ) (slot : ℕ) : Type 0 where
+pub record IsIdle (row : List EntryView) (pins : List ℕ) (slot : ℕ) : Type 0 where
   pub there : slot < length row
   pub unpinned : slice_index pins slot ≡ 0
 
 -- No worker is below the slot's entry, and none of its notes holds on every path.
-pub record IsIdleUnsolved (row : List Held) (pins : List ℕ) (slot : ℕ) : Type 0 where
+pub record IsIdleUnsolved (row : List EntryView) (pins : List ℕ) (slot : ℕ) : Type 0 where
   pub idle : IsIdle row pins slot
   pub unsolved : IsSomeAnd (slice_get row slot) (λ entry. has_closed entry.notes ≡ false)
 
@@ -49,36 +49,36 @@ pub record IsFirst (P : ℕ → Type 0) (n : ℕ) : Type 0 where
 
 -- The slot whose entry is given up for another: of the entries that no worker is below the first without a note that holds on every
 -- path; where each of them has such a note, the first of them.
-abbrev pub IsGivenUp : List Held → List ℕ → ℕ → Type 0
+abbrev pub IsGivenUp : List EntryView → List ℕ → ℕ → Type 0
 IsGivenUp row pins slot =
     IsFirst (IsIdleUnsolved row pins) slot
     ⊎ (((other : ℕ) → ¬ IsIdleUnsolved row pins other) × IsFirst (IsIdle row pins) slot)
 
 -- The entry of a position that has none yet: its key, the numbers that were handed in, and no note.
-abbrev pub fresh : Key → Numbers → Held
+abbrev pub fresh : Key → Numbers → EntryView
 fresh key numbers = record { key = key; numbers = numbers; notes = [] }
 
 -- The slot that a new entry takes, and the row after it: the first free slot; in a full row the one that is given up.
-abbrev pub Takes : List Held → List ℕ → Held → ℕ → List Held → Type 0
+abbrev pub Takes : List EntryView → List ℕ → EntryView → ℕ → List EntryView → Type 0
 Takes row pins entry slot after =
     ((length row < 8) × (slot ≡ length row) × (after ≡ row ++ entry ∷ []))
     ⊎ ((length row ≡ 8) × IsGivenUp row pins slot × (after ≡ slice_set row slot entry))
 
 -- What entering the key with these numbers answers, and the row after it. The key's own slot: the row stays as it is. Else the slot
 -- that a new entry takes. Unkept exactly where eight other entries are there with workers below each: the row stays as it is.
-abbrev pub Enters : List Held → List ℕ → Key → Numbers → Kept → List Held → Type 0
+abbrev pub Enters : List EntryView → List ℕ → Key → Numbers → Kept → List EntryView → Type 0
 Enters row pins key numbers (Slot slot) after =
     (HoldsAt row slot key × (after ≡ row)) ⊎ (Lacks row key × Takes row pins (fresh key numbers) slot after)
 Enters row pins key numbers Unkept after =
     Lacks row key × (length row ≡ 8) × ((slot : ℕ) → slot < 8 → 0 < slice_index pins slot) × (after ≡ row)
 
 -- The row after an update of the entry in a slot.
-abbrev pub left : List Held → ℕ → Update → List Held
+abbrev pub left : List EntryView → ℕ → Update → List EntryView
 left [] slot update = []
 left (entry ∷ entries) zero update = updated entry update ∷ entries
 left (entry ∷ entries) (suc slot) update = entry ∷ left entries slot update
 
 -- What entering answers is where the key's entry is.
-abbrev pub IsKeptAt : List Held → Key → Kept → Type 0
+abbrev pub IsKeptAt : List EntryView → Key → Kept → Type 0
 IsKeptAt row key (Slot slot) = HoldsAt row slot key
 IsKeptAt row key Unkept = Lacks row key

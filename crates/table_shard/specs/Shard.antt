@@ -3,29 +3,29 @@ use Rattle.std.specs.Prelude.{◌≡◌, ◌<◌, ℕ, List, [], length, slice_i
 use Rattle.board_core.specs.declared.keys.Key.{Key}
 use Rattle.pn_numbers.specs.declared.numbers.Numbers.{Numbers}
 use Rattle.notes.specs.declared.words.Kept.{Kept}
-use Rattle.table_shard.specs.Entry.{Held}
+use Rattle.table_shard.specs.Entry.{EntryView}
 use Rattle.table_shard.specs.Row.{HoldsAt, Enters}
 use Rattle.table_shard.specs.Spot.{place_of}
 
 -- The key's row.
-abbrev pub row_of : List (List Held) → Key → List Held
+abbrev pub row_of : List (List EntryView) → Key → List EntryView
 row_of rows key = slice_index_or rows (place_of key (length rows)) []
 
 -- The rows with another in place of the key's.
-abbrev pub with_row : List (List Held) → Key → List Held → List (List Held)
+abbrev pub with_row : List (List EntryView) → Key → List EntryView → List (List EntryView)
 with_row rows key row = slice_set rows (place_of key (length rows)) row
 
 -- What entering the key with these numbers answers, and the rows after it: the key's row does what rows do, and the others stay.
-pub record EntersIn (rows : List (List Held)) (pins : List ℕ) (key : Key) (numbers : Numbers) (kept : Kept) (after : List (List Held)) : Type 0 where
-  pub row : List Held
+pub record EntersIn (rows : List (List EntryView)) (pins : List ℕ) (key : Key) (numbers : Numbers) (kept : Kept) (after : List (List EntryView)) : Type 0 where
+  pub row : List EntryView
   pub enters : Enters (row_of rows key) pins key numbers kept row
   pub others : after ≡ with_row rows key row
 
 -- An entry of the key that is in the slot stays there.
-abbrev pub StaysAt : List (List Held) → List (List Held) → Key → ℕ → Type 0
+abbrev pub StaysAt : List (List EntryView) → List (List EntryView) → Key → ℕ → Type 0
 StaysAt rows after key slot = HoldsAt (row_of rows key) slot key → HoldsAt (row_of after key) slot key
 
 -- Every entry that is in the key's row with a worker below it, or in another row, stays in its slot.
-abbrev pub KeepsPinned : List (List Held) → List ℕ → Key → List (List Held) → Type 0
+abbrev pub KeepsPinned : List (List EntryView) → List ℕ → Key → List (List EntryView) → Type 0
 KeepsPinned rows pins key after =
     (other : Key) (slot : ℕ) → (place_of other (length rows) ≡ place_of key (length rows) → 0 < slice_index pins slot) → StaysAt rows after other slot

@@ -1,7 +1,7 @@
 // An entry: what the table knows of one position.
 ghost use Rattle.std.specs.Prelude.{◌≡◌, ◌↔◌, IfOk, IsTrue};
 ghost use Rattle.pn_numbers.specs.Numbers.{IsOpen};
-ghost use Rattle.table_shard.specs.Entry.{Held, IsEntry, Shows, IsAbout, noted, updated, FitsKey, has_closed};
+ghost use Rattle.table_shard.specs.Entry.{EntryView, IsEntry, Shows, IsAbout, noted, updated, FitsKey, has_closed};
 ghost use Rattle.table_shard.specs.Row.{fresh};
 
 use crate::facts::Facts;
@@ -29,10 +29,10 @@ impl Model for Entry {
     ghost use Rattle.std.specs.Coded.{codes};
     ghost use Rattle.notes.specs.contracts.note.Note as note;
     ghost use Rattle.pn_numbers.specs.Numbers.{IsOpen};
-    ghost use Rattle.table_shard.specs.Entry.{Held, IsFactAbout};
+    ghost use Rattle.table_shard.specs.Entry.{EntryView, IsFactAbout};
     ghost use Rattle.table_shard.specs.Facts.{notes_of, AreFacts};
 
-    ghost Value = { Held };
+    ghost Value = { EntryView };
 
     ghost coded = { Prim.hlevel (codes, note.the_row.coded) };
 

@@ -1,7 +1,7 @@
 // A row of eight slots.
 ghost use Rattle.std.specs.Prelude.{◌≡◌, ◌≢◌, ◌<◌, ◌≤◌, ◌++◌, ◌==◌, ◌↔◌, [], ◌∷◌, ℕ, IfOk, IfSome, IfNone, MatchOption, IsSomeAnd, All, IsTrue, false, length, slice_get, slice_set, slice_index};
 ghost use Rattle.pn_numbers.specs.Numbers.{IsOpen};
-ghost use Rattle.table_shard.specs.Entry.{Held, IsEntry, FitsKey};
+ghost use Rattle.table_shard.specs.Entry.{EntryView, IsEntry, FitsKey};
 ghost use Rattle.table_shard.specs.Marks.{marks_of};
 ghost use Rattle.table_shard.specs.Spot.{mark_of};
 ghost use Rattle.table_shard.specs.Row.{HoldsAt, Lacks, IsRow, Looks, IsIdle, IsIdleUnsolved, IsFirst, IsGivenUp, Enters, left};
@@ -31,13 +31,13 @@ const _: () = prove!(size_of::<Row>() <= 1024);
 
 impl Model for Row {
     ghost use Rattle.std.specs.Prelude.{◌≡◌, List};
-    ghost use Rattle.table_shard.specs.Entry.{Held};
+    ghost use Rattle.table_shard.specs.Entry.{EntryView};
     ghost use Rattle.table_shard.specs.Row.{IsRow};
     ghost use Rattle.table_shard.specs.Marks.{marks_of};
     ghost use Rattle.std.specs.Coded.{codes};
     ghost use Rattle.table_shard.specs.contracts.entry.Entry as entry;
 
-    ghost Value = { List Held };
+    ghost Value = { List EntryView };
 
     ghost coded = { Prim.hlevel (codes, entry.the_row.coded) };
 

@@ -2,7 +2,7 @@
 ghost use Rattle.std.specs.Prelude.{◌≡◌, ◌<◌, [], ℕ, List, IfOk, IfSome, IfNone, All, length, replicate};
 ghost use Rattle.board_core.specs.declared.keys.Key.{Key};
 ghost use Rattle.pn_numbers.specs.Numbers.{IsOpen};
-ghost use Rattle.table_shard.specs.Entry.{Held, FitsKey};
+ghost use Rattle.table_shard.specs.Entry.{EntryView, FitsKey};
 ghost use Rattle.table_shard.specs.Row.{HoldsAt, Lacks, IsRow, IsKeptAt, Looks, left};
 ghost use Rattle.table_shard.specs.Shard.{row_of, with_row, EntersIn, KeepsPinned, StaysAt};
 ghost use Rattle.table_shard.specs.Spot.{spot_of};
@@ -36,10 +36,10 @@ impl Model for Shard {
     ghost use Rattle.std.specs.Prelude.{List, vec_capacity};
     ghost use Rattle.std.specs.Coded.{codes};
     ghost use Rattle.table_shard.specs.contracts.row.Row as row;
-    ghost use Rattle.table_shard.specs.Entry.{Held};
+    ghost use Rattle.table_shard.specs.Entry.{EntryView};
     ghost use Rattle.table_shard.specs.Used.{IsShard};
 
-    ghost Value = { List (List Held) };
+    ghost Value = { List (List EntryView) };
 
     ghost coded = { Prim.hlevel (codes, row.the_row.coded) };
 

@@ -1,7 +1,7 @@
 // The lines of a trace: a request and its answer each.
 use crate::place::position_of;
 use board_core::{Key, Side};
-use notes::{Claim, Conclusion, Draw, Kept, Note, Seen, Update};
+use notes::{Conclusion, Draw, Kept, Note, RoomAnswer, Seen, Update};
 use pn_numbers::Numbers;
 use sfen_text::append_sfen;
 use std::alloc::Global;
@@ -111,11 +111,11 @@ impl Lines {
     }
 
     /// Room for a note.
-    pub fn claim(&mut self, claim: Claim) {
+    pub fn claim(&mut self, claim: RoomAnswer) {
         self.begin("claim");
         match claim {
-            Claim::Room(number) => self.end_by("room", &[u64::from(number)]),
-            Claim::NoRoom => self.end_by("noroom", &[]),
+            RoomAnswer::Room(number) => self.end_by("room", &[u64::from(number)]),
+            RoomAnswer::NoRoom => self.end_by("noroom", &[]),
         }
     }
 

@@ -2,7 +2,7 @@
 use crate::lines::Lines;
 use board_core::Key;
 use lone_port::LonePort;
-use notes::{Claim, Draw, Kept, Note, Seen, Update};
+use notes::{Draw, Kept, Note, RoomAnswer, Seen, Update};
 use path_tags::Path;
 use pn_numbers::Numbers;
 use std::alloc::AllocError;
@@ -38,7 +38,7 @@ impl Port for Recorder {
         draw
     }
 
-    fn claim(&mut self) -> Claim {
+    fn claim(&mut self) -> RoomAnswer {
         let claim = self.port.claim();
         self.lines.claim(claim);
         claim

@@ -18,7 +18,7 @@ use Rattle.search_limits.specs.Sizes.{SettingsView}
 use Rattle.tsume_words.specs.Given.Wish.{to_solve, to_check, to_survey, to_collect}
 use Rattle.tsume_words.specs.Meaning.{command_of}
 use Rattle.search_limits.specs.declared.cause.Cause.{Cause}
-use Rattle.visit_log.specs.Run.{Standing}
+use Rattle.visit_log.specs.Run.{WorkerView}
 use Rattle.app_texts.specs.declared.answer.Solution.TheVariants.{Mate, NoMate, Unknown}
 use Rattle.app_texts.specs.declared.answer.Judgement.TheVariants.{Accepted, Refused}
 use Rattle.app_texts.specs.declared.answer.Answer.TheVariants.{Solved, Judged, Surveyed, Collected, Help}
@@ -63,7 +63,7 @@ no_mate_of settings form watch stops source sink input c ended told =
       text = d.true_of.true_of.verdict.shown.1.text;
     }
 
-pub unknown_of : (settings : SettingsView) (form : ProblemForm) (watch : WatchView) (stops : Signals) (source sink : Shown) (input : List ℕ) (cause : Cause) (crew : List Standing)
+pub unknown_of : (settings : SettingsView) (form : ProblemForm) (watch : WatchView) (stops : Signals) (source sink : Shown) (input : List ℕ) (cause : Cause) (crew : List WorkerView)
     → IsEnded (to_solve settings form watch) stops source sink (Answered (Solved (Unknown cause crew))) → source.told ≡ Some input
     → StandsForUnknown form settings stops input cause crew
 unknown_of settings form watch stops source sink input cause crew ended told =

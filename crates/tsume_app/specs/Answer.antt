@@ -9,7 +9,7 @@ use Rattle.cert_check.specs.Valid.{IsValid, Shows}
 use Rattle.cert_check.specs.Reasons.{IsFirstAgainst}
 use Rattle.notes.specs.Derivation.{Derivation}
 use Rattle.search_limits.specs.Sizes.{SettingsView}
-use Rattle.visit_log.specs.Run.{Standing}
+use Rattle.visit_log.specs.Run.{WorkerView}
 use Rattle.search_pool.specs.End.{IsAloneUntil, HeedsStop}
 use Rattle.search_pool.specs.declared.end.SearchEnd.TheVariants.{Solved as SearchSolved, Unknown as SearchUnknown}
 use Rattle.search_limits.specs.declared.cause.Cause.{Cause}
@@ -29,7 +29,7 @@ pub record IsVerdictFound (p : Board) (s : SettingsView) (stops : Signals) (solu
 
 -- A search gave up for its cause: so a search alone ends, with these workers, whose worker polls the first stop; and that it was stopped is the cause
 -- exactly where that stop signalled.
-pub record IsGivenUp (p : Board) (s : SettingsView) (stops : Signals) (cause : Cause) (crew : List Standing) : Type 0 where
+pub record IsGivenUp (p : Board) (s : SettingsView) (stops : Signals) (cause : Cause) (crew : List WorkerView) : Type 0 where
   pub alone : IsAloneUntil p s (first_of stops.before) (first_of stops.after) (SearchUnknown cause crew)
   pub heeds : HeedsStop (first_of stops.before) (first_of stops.after) (SearchUnknown cause crew)
 

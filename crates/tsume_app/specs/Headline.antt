@@ -18,7 +18,7 @@ use Rattle.search_limits.specs.Sizes.{SettingsView}
 use Rattle.tsume_words.specs.Given.Wish.{to_solve, to_check}
 use Rattle.tsume_words.specs.Meaning.{command_of}
 use Rattle.search_limits.specs.declared.cause.Cause.{Cause}
-use Rattle.visit_log.specs.Run.{Standing}
+use Rattle.visit_log.specs.Run.{WorkerView}
 use Rattle.app_texts.specs.declared.answer.Judgement.TheVariants.{Accepted}
 use Rattle.app_texts.specs.declared.answer.Solution.TheVariants.{Mate, NoMate, Unknown}
 use Rattle.app_texts.specs.Texts.{solution_text}
@@ -66,7 +66,7 @@ pub record StandsForNoMate (form : ProblemForm) (input : List ℕ) (c : Escaping
 -- The bytes stand for a problem of which neither is told. It was given up: a search with these settings, alone, ends for the cause, which its
 -- worker met: a limit was used up, or a stop was signalled. Or that search found a note that answers it, and a walk through its tree meets
 -- more positions of the attacker than a certificate is read with.
-pub record StandsForUnknown (form : ProblemForm) (settings : SettingsView) (stops : Signals) (input : List ℕ) (cause : Cause) (crew : List Standing) : Type 0 where
+pub record StandsForUnknown (form : ProblemForm) (settings : SettingsView) (stops : Signals) (input : List ℕ) (cause : Cause) (crew : List WorkerView) : Type 0 where
   pub problem : Board
   pub stands_for : StandsFor form input (Ok problem)
   pub why : IsTrueOf problem settings stops (Unknown cause crew)

@@ -14,7 +14,7 @@ ghost use Rattle.clap.specs.Words.{Text as Word};
 ghost use Rattle.app_texts.specs.declared.counts.Counts.{Counts};
 ghost use Rattle.app_texts.specs.declared.tallies.Summary.{Summary};
 ghost use Rattle.search_limits.specs.declared.cause.Cause.{Cause};
-ghost use Rattle.visit_log.specs.Run.{Standing};
+ghost use Rattle.visit_log.specs.Run.{WorkerView};
 ghost use Rattle.app_texts.specs.declared.fault.ProblemFault.{ProblemFault};
 ghost use Rattle.tsume_app.specs.Headline.{AsksToSolve, AsksToCheck, StandsForMate, StandsForNoMate, StandsForUnknown, NamesMate, NamesNoMate, IsValidText, IsAccepted, IsBrokenOff};
 ghost use Rattle.app_texts.specs.Texts.{HasTexts};
@@ -345,7 +345,7 @@ pub fn run<R: Threads + Sync, S: Source, K: Sink, G: Gate, T: Stop>(
 
     // Where neither is told, one of the stated limits was used up: the expansions, the room for notes, or their height, and the worker
     // that met it is told; or the first stop signalled; or the note that was found has more positions than a certificate is read with.
-    ensures gave_up { (settings : SettingsView) (form : ProblemForm) (watch : WatchView) (input : List ℕ) (cause : Cause) (crew : List Standing)
+    ensures gave_up { (settings : SettingsView) (form : ProblemForm) (watch : WatchView) (input : List ℕ) (cause : Cause) (crew : List WorkerView)
         → command_of (texts_of words.items) ≡ Some (to_solve settings form watch) → S.left source.old ≡ Some input
         → result ≡ Ended.Answered (Answer.Solved (Solution.Unknown cause crew)) → StandsForUnknown form settings (signals T.signal stops.old stops.new) input cause crew }
 

@@ -4,8 +4,8 @@ use Rattle.board_core.specs.Board.{Board}
 use Rattle.notes.specs.Derivation.{Derivation, attacker_of, position_of, tag_of}
 use Rattle.notes.specs.declared.words.Draw.{Draw}
 use Rattle.notes.specs.declared.words.Draw.TheVariants.{Go, Done, Spent}
-use Rattle.notes.specs.declared.words.Claim.{Claim}
-use Rattle.notes.specs.declared.words.Claim.TheVariants.{Room, NoRoom}
+use Rattle.notes.specs.declared.words.RoomAnswer.{RoomAnswer}
+use Rattle.notes.specs.declared.words.RoomAnswer.TheVariants.{Room, NoRoom}
 use Rattle.search_limits.specs.Sizes.{IsFromTo}
 use Rattle.search_limits.specs.declared.expansions.TheConstants.{MOST_EXPANSIONS}
 use Rattle.search_limits.specs.declared.settings.TheConstants.{MOST_ROOM}
@@ -51,7 +51,7 @@ Draws desk Spent after = (¬ HasPosted desk) × (desk.drawn ≡ desk.expansions)
 Draws desk (Go unit) after = (¬ HasPosted desk) × (desk.drawn < desk.expansions) × (unit ≡ desk.drawn + 1) × (after ≡ record desk { drawn = unit })
 
 -- What a claim answers, and the desk after it. NoRoom: all room was claimed. Room: that of the next note is claimed. Nothing else changes.
-abbrev pub Claims : DeskView → Claim → DeskView → Type 0
+abbrev pub Claims : DeskView → RoomAnswer → DeskView → Type 0
 Claims desk NoRoom after = (desk.claimed ≡ desk.room) × (after ≡ desk)
 Claims desk (Room note) after = (desk.claimed < desk.room) × (note ≡ desk.claimed + 1) × (after ≡ record desk { claimed = note })
 

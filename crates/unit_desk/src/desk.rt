@@ -1,11 +1,11 @@
 // The desk.
 ghost use Rattle.std.specs.Prelude.{◌≡◌, ◌↔◌, option_copied};
 ghost use Rattle.notes.specs.declared.words.Draw.TheVariants.{Done, Spent};
-ghost use Rattle.notes.specs.declared.words.Claim.TheVariants.{NoRoom};
+ghost use Rattle.notes.specs.declared.words.RoomAnswer.TheVariants.{NoRoom};
 ghost use Rattle.unit_desk.specs.Desk.{IsAnswerTo, IsDesk, HasPosted, Draws, Claims, fresh, first_posted};
 
 use board_core::Position;
-use notes::{Claim, Draw, Note};
+use notes::{Draw, Note, RoomAnswer};
 use search_limits::Settings;
 use shogi_rules::Problem;
 use std::marker::Model;
@@ -72,15 +72,15 @@ impl Desk {
 
     /// Room for another note: NoRoom exactly where all room was claimed; else the number of the note, from 1, whose room is claimed
     /// then. Nothing else changes.
-    pub fn claim(&mut self) -> Claim
+    pub fn claim(&mut self) -> RoomAnswer
         ensures claims { Claims self.old result self.new }
         ensures no_room { (result ≡ NoRoom) ↔ (self.old.claimed ≡ self.old.room) }
     {
         if self.claimed == self.room {
-            return Claim::NoRoom;
+            return RoomAnswer::NoRoom;
         }
         self.claimed += 1;
-        Claim::Room(self.claimed)
+        RoomAnswer::Room(self.claimed)
     }
 
     /// Posts a note that answers the problem: it holds on every path, is about the problem's position, and for its attacker. The first

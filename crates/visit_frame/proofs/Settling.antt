@@ -11,7 +11,7 @@ use Rattle.notes.specs.declared.words.Seen.{Seen}
 use Rattle.visit_log.specs.declared.parts.Child.{Child}
 use Rattle.visit_log.specs.declared.parts.Look.{Look}
 use Rattle.visit_log.specs.declared.parts.Look.TheVariants.{Due, Fresh, Stale}
-use Rattle.visit_log.specs.Frame.{Task, attacker_in, Visiting}
+use Rattle.visit_log.specs.Frame.{Task, attacker_in, FrameView}
 use Rattle.visit_log.specs.Children.{is_due, is_fresh, child_is_due}
 use Rattle.visit_log.specs.Round.{node_in, Selects, LooksNext, GoesDown, MayShow}
 use Rattle.visit_log.specs.Sound.{IsSoundChild, IsListed}
@@ -20,7 +20,7 @@ use Rattle.visit_frame.proofs.Places.{there, all_at, find_none, position_none}
 use Rattle.visit_frame.proofs.Refuted.{move_legal}
 
 -- the children of a listed visit count with open numbers
-pub opens_of : (task : Task) (path : List Key) (f : Visiting) → IsListed task path f → All (λ child. IsOpen child.numbers) f.children
+pub opens_of : (task : Task) (path : List Key) (f : FrameView) → IsListed task path f → All (λ child. IsOpen child.numbers) f.children
 opens_of task path f listed = λ k d inside. (listed.children k d inside).in_range
 
 fresh_is : (look : Look) → is_fresh look ≡ true → look ≡ Fresh
@@ -34,7 +34,7 @@ stale_is Fresh h d = absurd (false≢true (sym h))
 stale_is Stale h d = refl
 
 -- the selected child is visited, where this round has looked at it
-pub goes_down : (task : Task) (path : List Key) (f : Visiting) (at next : ℕ) (child : Child) → IsListed task path f → slice_get f.children at ≡ Some child
+pub goes_down : (task : Task) (path : List Key) (f : FrameView) (at next : ℕ) (child : Child) → IsListed task path f → slice_get f.children at ≡ Some child
     → Selects task f at next → is_fresh child.look ≡ true → GoesDown task f (record { place = at; child = child; second = next })
 goes_down task path f at next child listed here selects fresh = record {
   there = here;
@@ -44,7 +44,7 @@ goes_down task path f at next child listed here selects fresh = record {
 }
 
 -- and else looked at
-pub looks_next : (task : Task) (f : Visiting) (at second : ℕ) (child : Child) → slice_get f.children at ≡ Some child
+pub looks_next : (task : Task) (f : FrameView) (at second : ℕ) (child : Child) → slice_get f.children at ≡ Some child
     → Selects task f at second → is_fresh child.look ≡ false → LooksNext task f at child
 looks_next task f at second child here selects fails = record {
   there = here;
@@ -55,7 +55,7 @@ looks_next task f at second child here selects fails = record {
 }
 
 -- what may be told of a child
-pub may_tell : (task : Task) (path : List Key) (f : Visiting) (place : ℕ) (seen : Seen) → IsListed task path f
+pub may_tell : (task : Task) (path : List Key) (f : FrameView) (place : ℕ) (seen : Seen) → IsListed task path f
     → ((child : Child) → slice_get f.children place ≡ Some child → MayShow (attacker_in task) child.key path seen) → IsSome (slice_get f.children place)
     → MayTell (attacker_in task) f.place.position f.children place seen
 may_tell task path f place seen listed may here =

@@ -53,9 +53,9 @@ impl Model for Frame {
     ghost use Rattle.std.specs.Prelude.{◌≡◌, length};
     ghost use Rattle.std.specs.Coded.{codes};
     ghost use Rattle.notes.specs.contracts.note.Note as note;
-    ghost use Rattle.visit_log.specs.Frame.{Visiting};
+    ghost use Rattle.visit_log.specs.Frame.{FrameView};
 
-    ghost Value = { Visiting };
+    ghost Value = { FrameView };
 
     ghost coded = { Prim.hlevel (codes, note.the_row.coded) };
 

@@ -7,16 +7,16 @@ use Rattle.notes.specs.Derivation.{Derivation}
 use Rattle.notes.specs.declared.words.Kept.{Kept}
 use Rattle.notes.specs.declared.words.Update.TheVariants.{Numbers as Count, Note as Noted, Nothing}
 use Rattle.notes.specs.declared.words.Draw.TheVariants.{Go, Done, Spent as AllDrawn}
-use Rattle.notes.specs.declared.words.Claim.TheVariants.{Room, NoRoom as Full}
+use Rattle.notes.specs.declared.words.RoomAnswer.TheVariants.{Room, NoRoom as Full}
 use Rattle.visit_log.specs.declared.parts.Left.TheVariants.{Solved, Open}
 use Rattle.visit_log.specs.declared.words.WorkEnd.{WorkEnd}
 use Rattle.visit_log.specs.declared.words.WorkEnd.TheVariants.{Posted, Spent, NoRoom, TooHigh, NoMemory, Stopped}
 use Rattle.visit_log.specs.declared.words.Request.TheVariants.{Look, Post}
-use Rattle.visit_log.specs.declared.words.Answer.TheVariants.{Post as PostedIt}
-use Rattle.visit_log.specs.Frame.{Task, Place, Visiting, root, opened}
+use Rattle.visit_log.specs.declared.words.Reply.TheVariants.{Post as PostedIt}
+use Rattle.visit_log.specs.Frame.{Task, Place, FrameView, root, opened}
 use Rattle.visit_log.specs.Children.{rule_at, notes_under}
 use Rattle.visit_log.specs.Round.{IsRefusal, Solves, child_place, node_in, own}
-use Rattle.visit_log.specs.Visit.{Event, Visit, Unpolled, Halted, Undrawn, Refused, Unentered, Unlisted, Visited, Doings, nothing_yet, and_look, and_visit, Tail, Cut, Blind, Unclaimed, Unmade, Made, Passed, Under, Ending, Winds, Ends, ending, tail_ending, known_after, polled, drew, entered, looked_at, claimed, leave, drawn_on, entered_on, visit_on, doings_on, tail_on, EndsLog, IsVisit, IsTail, path_at}
+use Rattle.visit_log.specs.Visit.{Exchange, Visit, Unpolled, Halted, Undrawn, Refused, Unentered, Unlisted, Visited, Doings, nothing_yet, and_look, and_visit, Tail, Cut, Blind, Unclaimed, Unmade, Made, Passed, Under, Ending, Winds, Ends, ending, tail_ending, known_after, polled, drew, entered, looked_at, claimed, leave, drawn_on, entered_on, visit_on, doings_on, tail_on, EndsLog, IsVisit, IsTail, path_at}
 use Rattle.visit_log.specs.Unmade.{IsUnmadeIn, IsUnmadeBy, IsTooHigh}
 use Rattle.visit_log.specs.Laws.{HasCause, EndsHaveCauses}
 use Rattle.visit_log.proofs.Bracketed.{place_after}
@@ -24,21 +24,21 @@ use Rattle.visit_log.proofs.Bracketed.{place_after}
 -- 1. WHAT STANDS IN A LOG.
 
 -- The last event stands in the log.
-last : (log : List Event) (event : Event) → Contains (log ++ event ∷ []) event
+last : (log : List Exchange) (event : Exchange) → Contains (log ++ event ∷ []) event
 last log event = Contains-append_right log (event ∷ []) event (0, omega arith, refl)
 
 -- One that stood there stands there still.
-old : (log : List Event) (event e : Event) → Contains log e → Contains (log ++ event ∷ []) e
+old : (log : List Exchange) (event e : Exchange) → Contains log e → Contains (log ++ event ∷ []) e
 old log event e there = Contains-append_left log (event ∷ []) e there
 
 -- And before its position was entered.
-enters_hold : (log : List Event) (unit : ℕ) (p : Place) (kept : Kept) (e : Event) → Contains log e → Contains (entered_on log unit p kept) e
+enters_hold : (log : List Exchange) (unit : ℕ) (p : Place) (kept : Kept) (e : Exchange) → Contains log e → Contains (entered_on log unit p kept) e
 enters_hold log unit p kept e there =
     old (drawn_on log unit) (entered p kept) e (old (log ++ polled false ∷ []) (drew (Go unit)) e (old log (polled false) e there))
 
 -- What stood in the log before a visit, or what is done in it, stands there still.
 mutual
-  visit_holds : (task : Task) (log : List Event) (p : Place) (visit : Visit) (e : Event) → Contains log e → Contains (visit_on task log p visit) e
+  visit_holds : (task : Task) (log : List Exchange) (p : Place) (visit : Visit) (e : Exchange) → Contains log e → Contains (visit_on task log p visit) e
   visit_holds task log p Unpolled e there = there
   visit_holds task log p Halted e there = old log (polled true) e there
   visit_holds task log p Undrawn e there = old log (polled false) e there
@@ -47,17 +47,17 @@ mutual
   visit_holds task log p (Unlisted unit kept) e there =
       old (entered_on log unit p kept) (leave (opened p kept []) Nothing) e (enters_hold log unit p kept e there)
   visit_holds task log p (Visited unit kept children doings tail) e there =
-      let f : Visiting = opened p kept children in
+      let f : FrameView = opened p kept children in
       tail_holds task (doings_on task (entered_on log unit p kept) f doings) (known_after task f doings) tail e
       (doings_hold task (entered_on log unit p kept) f doings e (enters_hold log unit p kept e there))
 
-  doings_hold : (task : Task) (log : List Event) (f : Visiting) (doings : Doings) (e : Event) → Contains log e → Contains (doings_on task log f doings) e
+  doings_hold : (task : Task) (log : List Exchange) (f : FrameView) (doings : Doings) (e : Exchange) → Contains log e → Contains (doings_on task log f doings) e
   doings_hold task log f nothing_yet e there = there
   doings_hold task log f (and_look doings sight) e there = old (doings_on task log f doings) (looked_at sight) e (doings_hold task log f doings e there)
   doings_hold task log f (and_visit doings choice visit) e there =
       visit_holds task (doings_on task log f doings) (child_place task (known_after task f doings) choice) visit e (doings_hold task log f doings e there)
 
-  tail_holds : (task : Task) (log : List Event) (f : Visiting) (tail : Tail) (e : Event) → Contains log e → Contains (tail_on task log f tail) e
+  tail_holds : (task : Task) (log : List Exchange) (f : FrameView) (tail : Tail) (e : Exchange) → Contains log e → Contains (tail_on task log f tail) e
   tail_holds task log f Cut e there = old log (leave f Nothing) e there
   tail_holds task log f (Blind place child) e there =
       old (log ++ (Look child.key, None) ∷ []) (leave f Nothing) e (old log (Look child.key, None) e there)
@@ -71,7 +71,7 @@ mutual
 -- 2. CAUSES.
 
 -- Why a visit, or what ends it, winds up: the note that would have been too high is one that isn't made in it.
-abbrev CauseIn : Task → (Visiting → ℕ → Type 0) → WorkEnd → List Event → Type 0
+abbrev CauseIn : Task → (FrameView → ℕ → Type 0) → WorkEnd → List Exchange → Type 0
 CauseIn task unmade Posted log = ((note : Derivation) × Contains log (Post note, Some PostedIt)) ⊎ Contains log (drew Done)
 CauseIn task unmade Spent log = Contains log (drew AllDrawn)
 CauseIn task unmade NoRoom log = Contains log (claimed Full)
@@ -80,7 +80,7 @@ CauseIn task unmade NoMemory log = Unit {0}
 CauseIn task unmade Stopped log = Contains log (polled true)
 
 -- A note that would have been too high is one in a longer log.
-high_more : (task : Task) (unmade : Visiting → ℕ → Type 0) (log : List Event) (event : Event) → IsTooHigh task unmade log
+high_more : (task : Task) (unmade : FrameView → ℕ → Type 0) (log : List Exchange) (event : Exchange) → IsTooHigh task unmade log
     → IsTooHigh task unmade (log ++ event ∷ [])
 high_more task unmade log event h = record {
   solved = h.solved;
@@ -98,7 +98,7 @@ high_more task unmade log event h = record {
 }
 
 -- A cause stays one in a longer log.
-cause_more : (task : Task) (unmade : Visiting → ℕ → Type 0) (end : WorkEnd) (log : List Event) (event : Event) → CauseIn task unmade end log
+cause_more : (task : Task) (unmade : FrameView → ℕ → Type 0) (end : WorkEnd) (log : List Exchange) (event : Exchange) → CauseIn task unmade end log
     → CauseIn task unmade end (log ++ event ∷ [])
 cause_more task unmade Posted log event (inl posts) = inl (posts.0, old log event (Post posts.0, Some PostedIt) posts.1)
 cause_more task unmade Posted log event (inr done) = inr (old log event (drew Done) done)
@@ -109,18 +109,18 @@ cause_more task unmade NoMemory log event cause = tt
 cause_more task unmade Stopped log event cause = old log event (polled true) cause
 
 -- A visit that winds up has a cause.
-abbrev WindsWhy : Task → (Visiting → ℕ → Type 0) → Ending → List Event → Type 0
+abbrev WindsWhy : Task → (FrameView → ℕ → Type 0) → Ending → List Exchange → Type 0
 WindsWhy task unmade (Winds end) log = CauseIn task unmade end log
 WindsWhy task unmade (Ends left) log = Unit {0}
 
 -- It still has behind one more event.
-why_more : (task : Task) (unmade : Visiting → ℕ → Type 0) (ended : Ending) (log : List Event) (event : Event) → WindsWhy task unmade ended log
+why_more : (task : Task) (unmade : FrameView → ℕ → Type 0) (ended : Ending) (log : List Exchange) (event : Exchange) → WindsWhy task unmade ended log
     → WindsWhy task unmade ended (log ++ event ∷ [])
 why_more task unmade (Winds end) log event why = cause_more task unmade end log event why
 why_more task unmade (Ends left) log event why = tt
 
 -- A note isn't made for a cause: room for it was claimed, and it would have been too high.
-refusal_cause : (task : Task) (f : Visiting) (log : List Event) (room : ℕ) (kept : Kept) (end : WorkEnd) → Solves task f → IsRefusal task f end
+refusal_cause : (task : Task) (f : FrameView) (log : List Exchange) (room : ℕ) (kept : Kept) (end : WorkEnd) → Solves task f → IsRefusal task f end
     → Contains log (entered f.place kept) → CauseIn task (λ g given. IsUnmadeBy task f (Unmade room end) g given) end (log ++ claimed (Room room) ∷ [])
 refusal_cause task f log room kept TooHigh solves refusal there = record {
   solved = f;
@@ -144,7 +144,7 @@ refusal_cause task f log room kept Stopped solves refusal there = absurd refusal
 
 -- The cause stands in the log behind the visit.
 mutual
-  visit_why : (task : Task) (path : List Key) (log : List Event) (p : Place) (visit : Visit) → IsVisit task path p visit
+  visit_why : (task : Task) (path : List Key) (log : List Exchange) (p : Place) (visit : Visit) → IsVisit task path p visit
       → WindsWhy task (λ f room. IsUnmadeIn task p visit f room) (ending task p visit) (visit_on task log p visit)
   visit_why task path log p Unpolled is = tt
   visit_why task path log p Halted is = last log (polled true)
@@ -155,13 +155,13 @@ mutual
   visit_why task path log p (Unentered unit) is = tt
   visit_why task path log p (Unlisted unit kept) is = tt
   visit_why task path log p (Visited unit kept children doings tail) is =
-      let f : Visiting = opened p kept children in
+      let f : FrameView = opened p kept children in
       let same : (known_after task f doings).place ≡ p = place_after task f doings in
       tail_why task (path_at task p path) (doings_on task (entered_on log unit p kept) f doings) (known_after task f doings) kept tail is.2
       (subst (λ (q : Place). Contains (doings_on task (entered_on log unit p kept) f doings) (entered q kept)) (sym same)
       (doings_hold task (entered_on log unit p kept) f doings (entered p kept) (last (drawn_on log unit) (entered p kept))))
 
-  tail_why : (task : Task) (path : List Key) (log : List Event) (f : Visiting) (kept : Kept) (tail : Tail) → IsTail task path f tail
+  tail_why : (task : Task) (path : List Key) (log : List Exchange) (f : FrameView) (kept : Kept) (tail : Tail) → IsTail task path f tail
       → Contains log (entered f.place kept) → WindsWhy task (λ g room. IsUnmadeBy task f tail g room) (tail_ending task f tail) (tail_on task log f tail)
   tail_why task path log f kept Cut is there = tt
   tail_why task path log f kept (Blind place child) is there = tt
@@ -179,7 +179,7 @@ mutual
 -- 3. WHOLE LOGS.
 
 -- The cause of a visit of the problem's position is that of its log.
-root_cause : (task : Task) (visit : Visit) (end : WorkEnd) (log : List Event) → IsVisit task [] (root task) visit
+root_cause : (task : Task) (visit : Visit) (end : WorkEnd) (log : List Exchange) → IsVisit task [] (root task) visit
     → visit_on task [] (root task) visit ≡ log → CauseIn task (λ f room. IsUnmadeIn task (root task) visit f room) end log → HasCause task end log
 root_cause task visit Posted log is writes why = why
 root_cause task visit Spent log is writes why = why
@@ -189,16 +189,16 @@ root_cause task visit NoMemory log is writes why = why
 root_cause task visit Stopped log is writes why = why
 
 -- So does that of the end of a log that is made of it.
-log_cause : (task : Task) (visit : Visit) (ended : Ending) (written log : List Event) (end : WorkEnd) → IsVisit task [] (root task) visit
+log_cause : (task : Task) (visit : Visit) (ended : Ending) (written log : List Exchange) (end : WorkEnd) → IsVisit task [] (root task) visit
     → visit_on task [] (root task) visit ≡ written → WindsWhy task (λ f room. IsUnmadeIn task (root task) visit f room) ended written
     → EndsLog ended written log end → HasCause task end log
 log_cause task visit (Winds reason) written log end is writes why (same, inl e) =
-    subst (λ (z : List Event). HasCause task end z) (sym same)
+    subst (λ (z : List Exchange). HasCause task end z) (sym same)
     (subst (λ (z : WorkEnd). HasCause task z written) (sym e) (root_cause task visit reason written is writes why))
 log_cause task visit (Winds reason) written log end is writes why (same, inr e) = subst (λ (z : WorkEnd). HasCause task z log) (sym e) tt
 log_cause task visit (Ends (Solved note)) written log end is writes why (inl (same, e)) =
     subst (λ (z : WorkEnd). HasCause task z log) (sym e)
-    (inl (note, subst (λ (z : List Event). Contains z (Post note, Some PostedIt)) (sym same) (last written (Post note, Some PostedIt))))
+    (inl (note, subst (λ (z : List Exchange). Contains z (Post note, Some PostedIt)) (sym same) (last written (Post note, Some PostedIt))))
 log_cause task visit (Ends (Solved note)) written log end is writes why (inr (same, e)) = subst (λ (z : WorkEnd). HasCause task z log) (sym e) tt
 log_cause task visit (Ends (Open numbers)) written log end is writes why ends = absurd ends
 

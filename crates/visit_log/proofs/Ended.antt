@@ -7,8 +7,8 @@ use Rattle.visit_log.specs.declared.parts.Stage.TheVariants.{Polling, Drawing, E
 use Rattle.visit_log.specs.declared.words.WorkEnd.{WorkEnd}
 use Rattle.visit_log.specs.declared.words.Request.{Request}
 use Rattle.visit_log.specs.declared.words.Request.TheVariants.{Poll, Draw as Draws, Claim as Claims, Post, End}
-use Rattle.visit_log.specs.Frame.{Task, Visiting}
-use Rattle.visit_log.specs.Visit.{Event}
+use Rattle.visit_log.specs.Frame.{Task, FrameView}
+use Rattle.visit_log.specs.Visit.{Exchange}
 use Rattle.visit_log.specs.Machine.{start, asks_at, ask_look, end_at}
 use Rattle.visit_log.specs.Run.{events}
 use Rattle.visit_log.specs.Laws.{AsksItsEnd}
@@ -24,7 +24,7 @@ goes_on : (request : Request) (end : WorkEnd) → IsGoing request → (request �
 goes_on request end going = (λ is. absurd (subst IsGoing is going), λ is. absurd (cc))
 
 -- It asks for its end exactly where it stands at it.
-ends_at : (task : Task) (stage : Stage) (fs : List Visiting) (log : List Event) (end : WorkEnd) → StandsAt task stage fs log
+ends_at : (task : Task) (stage : Stage) (fs : List FrameView) (log : List Exchange) (end : WorkEnd) → StandsAt task stage fs log
     → (asks_at stage fs ≡ End end) ↔ (end_at stage fs ≡ Some end)
 ends_at task (Polling entry) fs log end h = goes_on Poll end tt
 ends_at task (Drawing entry) fs log end h = goes_on Draws end tt

@@ -5,17 +5,17 @@ use Rattle.std.proofs.lemmas.List.Sums.{sum_by-append}
 use Rattle.notes.specs.declared.words.Kept.{Kept}
 use Rattle.notes.specs.declared.words.Seen.{Seen}
 use Rattle.notes.specs.declared.words.Draw.TheVariants.{Go, Done, Spent as AllDrawn}
-use Rattle.notes.specs.declared.words.Claim.TheVariants.{Room, NoRoom as Full}
+use Rattle.notes.specs.declared.words.RoomAnswer.TheVariants.{Room, NoRoom as Full}
 use Rattle.visit_log.specs.declared.parts.Entry.{Entry}
 use Rattle.visit_log.specs.declared.parts.Left.{Left}
 use Rattle.visit_log.specs.declared.parts.Left.TheVariants.{Solved, Open}
 use Rattle.visit_log.specs.declared.parts.Stage.{Stage}
 use Rattle.visit_log.specs.declared.parts.Stage.TheVariants.{Polling, Drawing, Entering, Looking, Claiming, Leaving, Posting, Winding}
 use Rattle.visit_log.specs.declared.words.Request.{Request}
-use Rattle.visit_log.specs.declared.words.Answer.{Answer}
-use Rattle.visit_log.specs.declared.words.Answer.TheVariants.{Poll as Polled, Draw as Drew, Claim as Claimed, Look as Looked, Enter as Entered, Leave as LeftIt, Post as PostedIt}
-use Rattle.visit_log.specs.Frame.{Task, Visiting}
-use Rattle.visit_log.specs.Visit.{Event}
+use Rattle.visit_log.specs.declared.words.Reply.{Reply}
+use Rattle.visit_log.specs.declared.words.Reply.TheVariants.{Poll as Polled, Draw as Drew, Claim as Claimed, Look as Looked, Enter as Entered, Leave as LeftIt, Post as PostedIt}
+use Rattle.visit_log.specs.Frame.{Task, FrameView}
+use Rattle.visit_log.specs.Visit.{Exchange}
 use Rattle.visit_log.specs.Machine.{State, start, starve, GoesOn, Opens, Sees, Makes, Returns, Begins, rest_of, LeadsAt}
 use Rattle.visit_log.specs.Run.{Happening, Told, Dark, Starved, Happens, Runs, event, events}
 use Rattle.visit_log.specs.Counts.{units_in, rooms_in, gives_unit, gives_room}
@@ -35,35 +35,35 @@ counts_as s t u units rooms e visits claims =
     record { visits = omega (arith, v, visits); claims = omega (arith, c, claims) }
 
 -- A visit that goes on counts nothing.
-goes_counts : (task : Task) (s t : State) (f : Visiting) (fs : List Visiting) → GoesOn task s f fs t → Counts s t 0 0
+goes_counts : (task : Task) (s t : State) (f : FrameView) (fs : List FrameView) → GoesOn task s f fs t → Counts s t 0 0
 goes_counts task s t f fs on = counts_as s t _ 0 0 on.is (omega arith) (omega arith)
 
 begins_counts : (task : Task) (s t : State) (entry : Entry) → Begins task s entry t → Counts s t 1 0
 begins_counts task s t entry (inl begun) = counts_as s t _ 1 0 begun.1 (omega arith) (omega arith)
 begins_counts task s t entry (inr lost) = counts_as s t _ 1 0 lost (omega arith) (omega arith)
 
-opens_counts : (task : Task) (s t : State) (fs : List Visiting) (kept : Kept) → Opens task s fs kept t → Counts s t 0 0
+opens_counts : (task : Task) (s t : State) (fs : List FrameView) (kept : Kept) → Opens task s fs kept t → Counts s t 0 0
 opens_counts task s t [] kept h = absurd h
 opens_counts task s t (f ∷ fs) kept (inl listed) = goes_counts task s t _ fs listed.2
 opens_counts task s t (f ∷ fs) kept (inr lost) = counts_as s t _ 0 0 lost (omega arith) (omega arith)
 
-sees_counts : (task : Task) (s t : State) (place : ℕ) (fs : List Visiting) (seen : Seen) → Sees task s place fs seen t → Counts s t 0 0
+sees_counts : (task : Task) (s t : State) (place : ℕ) (fs : List FrameView) (seen : Seen) → Sees task s place fs seen t → Counts s t 0 0
 sees_counts task s t place [] seen h = absurd h
 sees_counts task s t place (f ∷ fs) seen h = goes_counts task s t _ fs h.5
 
-makes_counts : (task : Task) (s t : State) (fs : List Visiting) → Makes task s fs t → Counts s t 0 1
+makes_counts : (task : Task) (s t : State) (fs : List FrameView) → Makes task s fs t → Counts s t 0 1
 makes_counts task s t [] h = absurd h
 makes_counts task s t (f ∷ fs) (inl made) = counts_as s t _ 0 1 made.2 (omega arith) (omega arith)
 makes_counts task s t (f ∷ fs) (inr refused) = counts_as s t _ 0 1 refused.2 (omega arith) (omega arith)
 
-returns_counts : (task : Task) (s t : State) (fs : List Visiting) (left : Left) → Returns task s fs left t → Counts s t 0 0
+returns_counts : (task : Task) (s t : State) (fs : List FrameView) (left : Left) → Returns task s fs left t → Counts s t 0 0
 returns_counts task s t [] (Solved note) h = counts_as s t _ 0 0 h (omega arith) (omega arith)
 returns_counts task s t [] (Open numbers) h = absurd h
 returns_counts task s t (g ∷ gs) (Solved note) h = goes_counts task s t _ gs h.2
 returns_counts task s t (g ∷ gs) (Open numbers) h = goes_counts task s t _ gs h.2
 
 -- Each answer adds the units and the room that it gives.
-answers_count : (task : Task) (s t : State) (stage : Stage) (answer : Answer) → LeadsAt task s stage answer t
+answers_count : (task : Task) (s t : State) (stage : Stage) (answer : Reply) → LeadsAt task s stage answer t
     → Counts s t (units_in answer) (rooms_in answer)
 answers_count task s t (Polling entry) (Polled true) h = counts_as s t _ 0 0 h (omega arith) (omega arith)
 answers_count task s t (Polling entry) (Polled false) h = counts_as s t _ 0 0 h (omega arith) (omega arith)
@@ -80,7 +80,7 @@ answers_count task s t (Winding end) LeftIt h = counts_as s t _ 0 0 h (omega ari
 answers_count task s t stage answer h = absurd h
 
 -- What an answer gives is what its event is counted as.
-gives_one : (request : Request) (answer : Answer)
+gives_one : (request : Request) (answer : Reply)
     → (count_by gives_unit ((request, Some answer) ∷ []) ≡ units_in answer) × (count_by gives_room ((request, Some answer) ∷ []) ≡ rooms_in answer)
 gives_one request (Drew (Go unit)) = (refl, refl)
 gives_one request (Drew Done) = (refl, refl)
@@ -112,8 +112,8 @@ runs_count task s t [] runs = counts_as s t s 0 0 (sym runs) (omega arith) (omeg
 runs_count task s t (happening ∷ happenings) (u, happens, runs) =
     let first = happens_counts task s u happening happens in
     let later = runs_count task u t happenings runs in
-    let units = sum_by-append (λ (z : Event). cond (gives_unit z) 1 0) (event happening) (events happenings) in
-    let rooms = sum_by-append (λ (z : Event). cond (gives_room z) 1 0) (event happening) (events happenings) in
+    let units = sum_by-append (λ (z : Exchange). cond (gives_unit z) 1 0) (event happening) (events happenings) in
+    let rooms = sum_by-append (λ (z : Exchange). cond (gives_room z) 1 0) (event happening) (events happenings) in
     record { visits = omega (arith, first.visits, later.visits, units); claims = omega (arith, first.claims, later.claims, rooms) }
 
 -- Units and room are those of the log.

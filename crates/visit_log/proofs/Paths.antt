@@ -15,7 +15,7 @@ use Rattle.pn_numbers.specs.declared.node.Node.TheVariants.{Attacker, Defender}
 use Rattle.notes.specs.declared.words.Kept.{Kept}
 use Rattle.notes.specs.declared.words.Seen.{Seen}
 use Rattle.notes.specs.declared.words.Draw.TheVariants.{Go, Done, Spent as AllDrawn}
-use Rattle.notes.specs.declared.words.Claim.TheVariants.{Room, NoRoom as Full}
+use Rattle.notes.specs.declared.words.RoomAnswer.TheVariants.{Room, NoRoom as Full}
 use Rattle.visit_log.specs.declared.parts.Child.{Child}
 use Rattle.visit_log.specs.declared.parts.Entry.{Entry}
 use Rattle.visit_log.specs.declared.parts.Left.{Left}
@@ -23,9 +23,9 @@ use Rattle.visit_log.specs.declared.parts.Left.TheVariants.{Solved, Open}
 use Rattle.visit_log.specs.declared.parts.Stage.{Stage}
 use Rattle.visit_log.specs.declared.parts.Stage.TheVariants.{Polling, Drawing, Entering, Looking, Claiming, Leaving, Posting, Winding}
 use Rattle.visit_log.specs.declared.words.WorkEnd.{WorkEnd}
-use Rattle.visit_log.specs.declared.words.Answer.{Answer}
-use Rattle.visit_log.specs.declared.words.Answer.TheVariants.{Poll as Polled, Draw as Drew, Claim as Claimed, Look as Looked, Enter as Entered, Leave as LeftIt, Post as PostedIt}
-use Rattle.visit_log.specs.Frame.{Task, attacker_in, node_at, node_of, Place, Visiting}
+use Rattle.visit_log.specs.declared.words.Reply.{Reply}
+use Rattle.visit_log.specs.declared.words.Reply.TheVariants.{Poll as Polled, Draw as Drew, Claim as Claimed, Look as Looked, Enter as Entered, Leave as LeftIt, Post as PostedIt}
+use Rattle.visit_log.specs.Frame.{Task, attacker_in, node_at, node_of, Place, FrameView}
 use Rattle.visit_log.specs.Visit.{path_at, path_with}
 use Rattle.visit_log.specs.Machine.{State, path_of, place_by, at_stage, start, bare, entered_ones, wind, starve, starve_at, starve_winding, GoesOn, Opens, Sees, Makes, Returns, Begins, keep, one_unit, one_claim, rest_of, LeadsAt}
 use Rattle.visit_log.specs.Run.{Happening, Told, Dark, Starved, Happens, Runs}
@@ -90,17 +90,17 @@ behind_node Attacker key path new once = longer path key (new refl) once
 behind_node Defender key path new once = once
 
 -- The path of visits without the innermost.
-rest_once : (task : Task) (fs : List Visiting) → NoRepeats (path_of task fs) → NoRepeats (path_of task (rest_of fs))
+rest_once : (task : Task) (fs : List FrameView) → NoRepeats (path_of task fs) → NoRepeats (path_of task (rest_of fs))
 rest_once task [] once = once
 rest_once task (f ∷ fs) once = before_node (node_at (attacker_in task) f.place.position) f.place.key (path_of task fs) once
 
 -- Visits that wind up stand on the same path.
-bare_path : (task : Task) (fs : List Visiting) → path_of task (map bare fs) ≡ path_of task fs
+bare_path : (task : Task) (fs : List FrameView) → path_of task (map bare fs) ≡ path_of task fs
 bare_path task [] = refl
 bare_path task (f ∷ fs) = ap (λ (path : List Key). path_at task f.place path) (bare_path task fs)
 
 -- So do those that have entered their positions, but perhaps without the innermost.
-entered_once : (task : Task) (fs : List Visiting) → NoRepeats (path_of task fs) → NoRepeats (path_of task (entered_ones fs))
+entered_once : (task : Task) (fs : List FrameView) → NoRepeats (path_of task fs) → NoRepeats (path_of task (entered_ones fs))
 entered_once task [] once = once
 entered_once task (f ∷ fs) once = by_kept (is_some f.kept)
   where
@@ -125,7 +125,7 @@ turns attacker b by attacks = by_sides attacker b.side (subst (λ (side : Side).
     by_sides White White is = absurd (cc)
 
 -- The key of an attacker's position that is visited over sound visits doesn't stand on their path.
-new_key : (task : Task) (fs : List Visiting) (p : Place) → AreSound task fs → IsPlaced task fs p → node_at (attacker_in task) p.position ≡ Attacker
+new_key : (task : Task) (fs : List FrameView) (p : Place) → AreSound task fs → IsPlaced task fs p → node_at (attacker_in task) p.position ≡ Attacker
     → Contains (path_of task fs) p.key → ⊥
 new_key task [] p are placed attacks there = let h = there.1 in absurd (omega (arith, h))
 new_key task (g ∷ gs) p are placed attacks there =
@@ -147,7 +147,7 @@ winds_once : (task : Task) (s t : State) (end : WorkEnd) → Once task s → t �
 winds_once task s t end once is = subst (Once task) (sym is) (entered_once task s.frames once)
 
 -- The innermost visit goes on.
-goes_once : (task : Task) (s t : State) (f : Visiting) (fs : List Visiting) → NoRepeats (path_of task (f ∷ fs)) → GoesOn task s f fs t → Once task t
+goes_once : (task : Task) (s t : State) (f : FrameView) (fs : List FrameView) → NoRepeats (path_of task (f ∷ fs)) → GoesOn task s f fs t → Once task t
 goes_once task s t f fs once on =
     let k = settles_keeps task f t.stage on.next on.settles in
     subst (Once task) (sym on.is) (subst (λ (p : Place). NoRepeats (path_at task p (path_of task fs))) (sym k.place) once)
@@ -161,29 +161,29 @@ begins_once task s t entry are entry_is once (inl begun) =
     (behind_node (node_at (attacker_in task) p.position) p.key (path_of task s.frames) (new_key task s.frames p are entry_is.placed) once)
 begins_once task s t entry are entry_is once (inr lost) = winds_once task (one_unit s) t _ once lost
 
-opens_once : (task : Task) (s t : State) (fs : List Visiting) (kept : Kept) → NoRepeats (path_of task fs) → Opens task s fs kept t → Once task t
+opens_once : (task : Task) (s t : State) (fs : List FrameView) (kept : Kept) → NoRepeats (path_of task fs) → Opens task s fs kept t → Once task t
 opens_once task s t [] kept once h = absurd h
 opens_once task s t (f ∷ fs) kept once (inl listed) = goes_once task s t _ fs once listed.2
 opens_once task s t (f ∷ fs) kept once (inr lost) = winds_once task (at_stage s Entering (keep f kept ∷ fs)) t _ once lost
 
-sees_once : (task : Task) (s t : State) (place : ℕ) (fs : List Visiting) (seen : Seen) → NoRepeats (path_of task fs)
+sees_once : (task : Task) (s t : State) (place : ℕ) (fs : List FrameView) (seen : Seen) → NoRepeats (path_of task fs)
     → Sees task s place fs seen t → Once task t
 sees_once task s t place [] seen once h = absurd h
 sees_once task s t place (f ∷ fs) seen once h = goes_once task s t _ fs once h.5
 
-makes_once : (task : Task) (s t : State) (fs : List Visiting) → Once task s → Makes task s fs t → Once task t
+makes_once : (task : Task) (s t : State) (fs : List FrameView) → Once task s → Makes task s fs t → Once task t
 makes_once task s t [] once h = absurd h
 makes_once task s t (f ∷ fs) once (inl made) = subst (Once task) (sym made.2) once
 makes_once task s t (f ∷ fs) once (inr refused) = winds_once task (one_claim s) t _ once refused.2
 
-returns_once : (task : Task) (s t : State) (fs : List Visiting) (left : Left) → NoRepeats (path_of task fs) → Returns task s fs left t → Once task t
+returns_once : (task : Task) (s t : State) (fs : List FrameView) (left : Left) → NoRepeats (path_of task fs) → Returns task s fs left t → Once task t
 returns_once task s t [] (Solved note) once h = subst (Once task) (sym h) once
 returns_once task s t [] (Open numbers) once h = absurd h
 returns_once task s t (g ∷ gs) (Solved note) once h = goes_once task s t _ gs once h.2
 returns_once task s t (g ∷ gs) (Open numbers) once h = goes_once task s t _ gs once h.2
 
 -- An answer comes.
-leads_once : (task : Task) (s t : State) (stage : Stage) (answer : Answer) → IsSoundAt task stage s.frames → Once task s
+leads_once : (task : Task) (s t : State) (stage : Stage) (answer : Reply) → IsSoundAt task stage s.frames → Once task s
     → LeadsAt task s stage answer t → Once task t
 leads_once task s t (Polling entry) (Polled true) sound once h = winds_once task s t _ once h
 leads_once task s t (Polling entry) (Polled false) sound once h = subst (Once task) (sym h) once
@@ -203,7 +203,7 @@ leads_once task s t stage answer sound once h = absurd h
 starved_once : (task : Task) (s t : State) → Once task s → t ≡ starve s → Once task t
 starved_once task s t once is = subst (Once task) (sym is) (by_stage s.stage)
   where
-    by_frames : (end : WorkEnd) (fs : List Visiting) → NoRepeats (path_of task fs) → Once task (starve_winding s end fs)
+    by_frames : (end : WorkEnd) (fs : List FrameView) → NoRepeats (path_of task fs) → Once task (starve_winding s end fs)
     by_frames end [] none = none
     by_frames end (f ∷ fs) none = none
 

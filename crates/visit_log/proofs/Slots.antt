@@ -9,7 +9,7 @@ use Rattle.notes.specs.declared.words.Seen.{Seen}
 use Rattle.notes.specs.declared.words.Update.{Update}
 use Rattle.notes.specs.declared.words.Update.TheVariants.{Nothing}
 use Rattle.notes.specs.declared.words.Draw.TheVariants.{Go, Done, Spent as AllDrawn}
-use Rattle.notes.specs.declared.words.Claim.TheVariants.{Room, NoRoom as Full}
+use Rattle.notes.specs.declared.words.RoomAnswer.TheVariants.{Room, NoRoom as Full}
 use Rattle.visit_log.specs.declared.parts.Child.{Child}
 use Rattle.visit_log.specs.declared.parts.Entry.{Entry}
 use Rattle.visit_log.specs.declared.parts.Left.{Left}
@@ -19,10 +19,10 @@ use Rattle.visit_log.specs.declared.parts.Stage.TheVariants.{Polling, Drawing, E
 use Rattle.visit_log.specs.declared.words.WorkEnd.{WorkEnd}
 use Rattle.visit_log.specs.declared.words.WorkEnd.TheVariants.{Posted, Spent, NoRoom, NoMemory, Stopped}
 use Rattle.visit_log.specs.declared.words.Request.TheVariants.{Enter, Leave}
-use Rattle.visit_log.specs.declared.words.Answer.{Answer}
-use Rattle.visit_log.specs.declared.words.Answer.TheVariants.{Poll as Polled, Draw as Drew, Claim as Claimed, Look as Looked, Enter as Entered, Leave as LeftIt, Post as PostedIt}
-use Rattle.visit_log.specs.Frame.{Task, Place, Visiting, opened}
-use Rattle.visit_log.specs.Visit.{Event, kept_by}
+use Rattle.visit_log.specs.declared.words.Reply.{Reply}
+use Rattle.visit_log.specs.declared.words.Reply.TheVariants.{Poll as Polled, Draw as Drew, Claim as Claimed, Look as Looked, Enter as Entered, Leave as LeftIt, Post as PostedIt}
+use Rattle.visit_log.specs.Frame.{Task, Place, FrameView, opened}
+use Rattle.visit_log.specs.Visit.{Exchange, kept_by}
 use Rattle.visit_log.specs.Machine.{State, at_stage, bare, entered_ones, wind, starve, starve_at, starve_winding, Settles, GoesOn, Opens, Sees, Makes, Returns, Begins, keep, update_by, one_unit, one_claim, rest_of, LeadsAt, LeadsTo, ask_enter, ask_look, ask_look_in, ask_leave, ask_post, asks_at, asks}
 use Rattle.visit_log.specs.Sound.{IsSoundAt, IsSound}
 use Rattle.visit_log.specs.Counts.{slot_once, kept_once, slot_of, slots_in, own_slots, own_size, enters, leaves, enters_some, leaves_some}
@@ -41,52 +41,52 @@ weighed w None key = 0
 weighed w (Some kept) key = w.of kept key
 
 -- what visits count
-abbrev total : Weight → List Visiting → ℕ
+abbrev total : Weight → List FrameView → ℕ
 total w [] = 0
 total w (f ∷ fs) = weighed w f.kept f.place.key + total w fs
 
 -- what an event enters, and what it leaves
-abbrev taken : Weight → Event → ℕ
+abbrev taken : Weight → Exchange → ℕ
 taken w (Enter key numbers, Some (Entered kept)) = w.of kept key
 taken w event = 0
 
-abbrev given : Weight → Event → ℕ
+abbrev given : Weight → Exchange → ℕ
 given w (Leave kept key update, Some LeftIt) = w.of kept key
 given w event = 0
 
 -- 2. WHAT KEEPS IT.
 
 -- Where the entry of a visit is stays as it is, and of which place it is.
-pub record Keeps (f g : Visiting) : Type 0 where
+pub record Keeps (f g : FrameView) : Type 0 where
   pub kept : g.kept ≡ f.kept
   pub place : g.place ≡ f.place
 
-keeps_itself : (f g : Visiting) → g ≡ f → Keeps f g
-keeps_itself f g e = record { kept = ap (λ (z : Visiting). z.kept) e; place = ap (λ (z : Visiting). z.place) e }
+keeps_itself : (f g : FrameView) → g ≡ f → Keeps f g
+keeps_itself f g e = record { kept = ap (λ (z : FrameView). z.kept) e; place = ap (λ (z : FrameView). z.place) e }
 
 -- What comes next in a visit keeps both.
-pub settles_keeps : (task : Task) (f : Visiting) (st : Stage) (g : Visiting) → Settles task f st g → Keeps f g
+pub settles_keeps : (task : Task) (f : FrameView) (st : Stage) (g : FrameView) → Settles task f st g → Keeps f g
 settles_keeps task f (Looking place) g h = keeps_itself f g h.1
 settles_keeps task f Claiming g h = keeps_itself f g h.1
 settles_keeps task f (Leaving (Open numbers)) g h = keeps_itself f g h.2
-settles_keeps task f (Polling entry) g h = record { kept = ap (λ (z : Visiting). z.kept) h.3; place = ap (λ (z : Visiting). z.place) h.3 }
+settles_keeps task f (Polling entry) g h = record { kept = ap (λ (z : FrameView). z.kept) h.3; place = ap (λ (z : FrameView). z.place) h.3 }
 settles_keeps task f (Leaving (Solved note)) g h = absurd h
 settles_keeps task f (Drawing entry) g h = absurd h
 settles_keeps task f Entering g h = absurd h
 settles_keeps task f (Posting posted) g h = absurd h
 settles_keeps task f (Winding end) g h = absurd h
 
-goes_total : (w : Weight) (task : Task) (s : State) (f : Visiting) (fs : List Visiting) (t : State) → GoesOn task s f fs t
+goes_total : (w : Weight) (task : Task) (s : State) (f : FrameView) (fs : List FrameView) (t : State) → GoesOn task s f fs t
     → total w t.frames ≡ weighed w f.kept f.place.key + total w fs
 goes_total w task s f fs t on =
     let k = settles_keeps task f t.stage on.next on.settles in
     ap (λ (z : State). total w z.frames) on.is ∙ ap₂ (λ (z : Option Kept) (p : Place). weighed w z p.key + total w fs) k.kept k.place
 
-bare_total : (w : Weight) (fs : List Visiting) → total w (map bare fs) ≡ total w fs
+bare_total : (w : Weight) (fs : List FrameView) → total w (map bare fs) ≡ total w fs
 bare_total w [] = refl
 bare_total w (f ∷ fs) = ap (λ (n : ℕ). weighed w f.kept f.place.key + n) (bare_total w fs)
 
-entered_total : (w : Weight) (fs : List Visiting) → total w (entered_ones fs) ≡ total w fs
+entered_total : (w : Weight) (fs : List FrameView) → total w (entered_ones fs) ≡ total w fs
 entered_total w [] = refl
 entered_total w (f ∷ fs) = by_kept f.kept refl
   where
@@ -105,15 +105,15 @@ winds_total w s end t e = ap (λ (z : State). total w z.frames) e ∙ entered_to
 -- 3. WHAT CHANGES IT.
 
 -- the innermost position, where it is to be entered, isn't entered yet
-abbrev IsUnentered : Stage → List Visiting → Type 0
+abbrev IsUnentered : Stage → List FrameView → Type 0
 IsUnentered Entering (f ∷ fs) = f.kept ≡ None
 IsUnentered st fs = Unit {0}
 
-sound_unentered : (task : Task) (st : Stage) (fs : List Visiting) → IsSoundAt task st fs → IsUnentered st fs
-sound_unentered task Entering (f ∷ fs) sound = ap (λ (z : Visiting). z.kept) sound.1
+sound_unentered : (task : Task) (st : Stage) (fs : List FrameView) → IsSoundAt task st fs → IsUnentered st fs
+sound_unentered task Entering (f ∷ fs) sound = ap (λ (z : FrameView). z.kept) sound.1
 sound_unentered task st fs sound = tt
 
-opens_total : (w : Weight) (task : Task) (s : State) (fs : List Visiting) (kept : Kept) (t : State) → IsUnentered Entering fs
+opens_total : (w : Weight) (task : Task) (s : State) (fs : List FrameView) (kept : Kept) (t : State) → IsUnentered Entering fs
     → Opens task s fs kept t → total w t.frames ≡ total w fs + taken w (ask_enter fs, Some (Entered kept))
 opens_total w task s [] kept t new h = absurd h
 opens_total w task s (f ∷ fs) kept t new h =
@@ -123,12 +123,12 @@ opens_total w task s (f ∷ fs) kept t new h =
       | inr lost ↦ let r = winds_total w (at_stage s Entering (keep f kept ∷ fs)) NoMemory t lost in omega (arith, r, z)
     ]
 
-sees_total : (w : Weight) (task : Task) (s : State) (place : ℕ) (fs : List Visiting) (seen : Seen) (t : State) → Sees task s place fs seen t
+sees_total : (w : Weight) (task : Task) (s : State) (place : ℕ) (fs : List FrameView) (seen : Seen) (t : State) → Sees task s place fs seen t
     → total w t.frames ≡ total w fs
 sees_total w task s place [] seen t h = absurd h
 sees_total w task s place (f ∷ fs) seen t h = goes_total w task s _ fs t h.5
 
-makes_total : (w : Weight) (task : Task) (s : State) (fs : List Visiting) (t : State) → Makes task s fs t → total w t.frames ≡ total w s.frames
+makes_total : (w : Weight) (task : Task) (s : State) (fs : List FrameView) (t : State) → Makes task s fs t → total w t.frames ≡ total w s.frames
 makes_total w task s [] t h = absurd h
 makes_total w task s (f ∷ fs) t h = elim h [
   | inl made ↦ ap (λ (z : State). total w z.frames) made.2
@@ -141,7 +141,7 @@ begins_total w task s entry t h = elim h [
   | inr lost ↦ winds_total w (one_unit s) NoMemory t lost
 ]
 
-returns_total : (w : Weight) (task : Task) (s : State) (fs : List Visiting) (left : Left) (t : State) → Returns task s fs left t
+returns_total : (w : Weight) (task : Task) (s : State) (fs : List FrameView) (left : Left) (t : State) → Returns task s fs left t
     → total w t.frames ≡ total w fs
 returns_total w task s [] (Solved note) t h = ap (λ (z : State). total w z.frames) h
 returns_total w task s [] (Open numbers) t h = absurd h
@@ -152,14 +152,14 @@ kept_weight : (w : Weight) (o : Option Kept) (key : Key) → w.of (kept_by o) ke
 kept_weight w None key = w.unkept key
 kept_weight w (Some kept) key = refl
 
-leaves_total : (w : Weight) (fs : List Visiting) (update : Update) (end : WorkEnd)
+leaves_total : (w : Weight) (fs : List FrameView) (update : Update) (end : WorkEnd)
     → total w (rest_of fs) + given w (ask_leave fs update end, Some LeftIt) ≡ total w fs
 leaves_total w [] update end = refl
 leaves_total w (f ∷ fs) update end = omega (arith, kept_weight w f.kept f.place.key)
 
 -- 4. WHAT IS ASKED ENTERS AND LEAVES NOTHING ELSE.
 
-look_none : (w : Weight) (fs : List Visiting) (place : ℕ) (answer : Answer)
+look_none : (w : Weight) (fs : List FrameView) (place : ℕ) (answer : Reply)
     → (given w (ask_look_in fs place, Some answer) ≡ 0) × (taken w (ask_look_in fs place, Some answer) ≡ 0)
 look_none w [] place answer = (refl, refl)
 look_none w (f ∷ fs) place answer = by_child (slice_get f.children place)
@@ -168,22 +168,22 @@ look_none w (f ∷ fs) place answer = by_child (slice_get f.children place)
     by_child None = (refl, refl)
     by_child (Some child) = (refl, refl)
 
-enter_none : (w : Weight) (fs : List Visiting) (answer : Answer) → given w (ask_enter fs, Some answer) ≡ 0
+enter_none : (w : Weight) (fs : List FrameView) (answer : Reply) → given w (ask_enter fs, Some answer) ≡ 0
 enter_none w [] answer = refl
 enter_none w (f ∷ fs) answer = refl
 
-leave_none : (w : Weight) (fs : List Visiting) (update : Update) (end : WorkEnd) (answer : Answer) → taken w (ask_leave fs update end, Some answer) ≡ 0
+leave_none : (w : Weight) (fs : List FrameView) (update : Update) (end : WorkEnd) (answer : Reply) → taken w (ask_leave fs update end, Some answer) ≡ 0
 leave_none w [] update end answer = refl
 leave_none w (f ∷ fs) update end answer = refl
 
-post_none : (w : Weight) (posted : Option Derivation) (answer : Answer)
+post_none : (w : Weight) (posted : Option Derivation) (answer : Reply)
     → (given w (ask_post posted, Some answer) ≡ 0) × (taken w (ask_post posted, Some answer) ≡ 0)
 post_none w None answer = (refl, refl)
 post_none w (Some note) answer = (refl, refl)
 
 -- 5. THE LAWS.
 
-moves_at : (w : Weight) (task : Task) (s t : State) (st : Stage) (answer : Answer) → IsUnentered st s.frames → LeadsAt task s st answer t
+moves_at : (w : Weight) (task : Task) (s t : State) (st : Stage) (answer : Reply) → IsUnentered st s.frames → LeadsAt task s st answer t
     → total w t.frames + given w (asks_at st s.frames, Some answer) ≡ total w s.frames + taken w (asks_at st s.frames, Some answer)
 moves_at w task s t (Polling entry) (Polled true) new h = omega (arith, winds_total w s Stopped t h)
 moves_at w task s t (Polling entry) (Polled false) new h = omega (arith, ap (λ (z : State). total w z.frames) h)
@@ -209,7 +209,7 @@ moves_at w task s t (Winding end) LeftIt new h =
     omega (arith, ap (λ (z : State). total w z.frames) h, leaves_total w s.frames Nothing end, leave_none w s.frames Nothing end LeftIt)
 moves_at w task s t st answer new h = absurd h
 
-moves : (w : Weight) (task : Task) (s t : State) (answer : Answer) → IsSound task s → LeadsTo task s answer t
+moves : (w : Weight) (task : Task) (s t : State) (answer : Reply) → IsSound task s → LeadsTo task s answer t
     → total w t.frames + given w (asks s, Some answer) ≡ total w s.frames + taken w (asks s, Some answer)
 moves w task s t answer sound h = moves_at w task s t s.stage answer (sound_unentered task s.stage s.frames sound) h
 
@@ -220,7 +220,7 @@ one_slot key slot = record { of = λ kept of. slot_once kept of key slot; unkept
 abbrev all_slots : Weight
 all_slots = record { of = λ kept of. kept_once kept; unkept = λ of. refl }
 
-own_total : (fs : List Visiting) (key : Key) (slot : ℕ) → own_slots fs key slot ≡ total (one_slot key slot) fs
+own_total : (fs : List FrameView) (key : Key) (slot : ℕ) → own_slots fs key slot ≡ total (one_slot key slot) fs
 own_total [] key slot = refl
 own_total (f ∷ fs) key slot = ap₂ (λ (a b : ℕ). a + b) (by_kept f.kept) (own_total fs key slot)
   where
@@ -228,7 +228,7 @@ own_total (f ∷ fs) key slot = ap₂ (λ (a b : ℕ). a + b) (by_kept f.kept) (
     by_kept None = refl
     by_kept (Some kept) = refl
 
-size_total : (fs : List Visiting) → own_size fs ≡ total all_slots fs
+size_total : (fs : List FrameView) → own_size fs ≡ total all_slots fs
 size_total [] = refl
 size_total (f ∷ fs) = ap₂ (λ (a b : ℕ). a + b) (by_kept f.kept) (size_total fs)
   where
@@ -236,19 +236,19 @@ size_total (f ∷ fs) = ap₂ (λ (a b : ℕ). a + b) (by_kept f.kept) (size_tot
     by_kept None = refl
     by_kept (Some kept) = refl
 
-enters_taken : (e : Event) (key : Key) (slot : ℕ) → enters e key slot ≡ taken (one_slot key slot) e
+enters_taken : (e : Exchange) (key : Key) (slot : ℕ) → enters e key slot ≡ taken (one_slot key slot) e
 enters_taken (Enter of numbers, Some (Entered kept)) key slot = refl
 enters_taken e key slot = refl
 
-leaves_given : (e : Event) (key : Key) (slot : ℕ) → leaves e key slot ≡ given (one_slot key slot) e
+leaves_given : (e : Exchange) (key : Key) (slot : ℕ) → leaves e key slot ≡ given (one_slot key slot) e
 leaves_given (Leave kept of update, Some LeftIt) key slot = refl
 leaves_given e key slot = refl
 
-enters_some_taken : (e : Event) → enters_some e ≡ taken all_slots e
+enters_some_taken : (e : Exchange) → enters_some e ≡ taken all_slots e
 enters_some_taken (Enter of numbers, Some (Entered kept)) = refl
 enters_some_taken e = refl
 
-leaves_some_given : (e : Event) → leaves_some e ≡ given all_slots e
+leaves_some_given : (e : Exchange) → leaves_some e ≡ given all_slots e
 leaves_some_given (Leave kept of update, Some LeftIt) = refl
 leaves_some_given e = refl
 
@@ -277,7 +277,7 @@ sizes_move task s t answer sound fits h = omega (
 starve_total : (w : Weight) (s : State) → total w (starve s).frames ≡ total w s.frames
 starve_total w s = by_stage s.stage
   where
-    by_frames : (end : WorkEnd) (fs : List Visiting) → total w (starve_winding s end fs).frames ≡ total w fs
+    by_frames : (end : WorkEnd) (fs : List FrameView) → total w (starve_winding s end fs).frames ≡ total w fs
     by_frames end [] = refl
     by_frames end (f ∷ fs) = refl
 
@@ -294,7 +294,7 @@ starve_total w s = by_stage s.stage
 starve_counts : (s : State) → ((starve s).visits ≡ s.visits) × ((starve s).claims ≡ s.claims)
 starve_counts s = by_stage s.stage
   where
-    by_frames : (end : WorkEnd) (fs : List Visiting)
+    by_frames : (end : WorkEnd) (fs : List FrameView)
         → ((starve_winding s end fs).visits ≡ s.visits) × ((starve_winding s end fs).claims ≡ s.claims)
     by_frames end [] = (refl, refl)
     by_frames end (f ∷ fs) = (refl, refl)

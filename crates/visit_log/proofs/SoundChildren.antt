@@ -17,7 +17,7 @@ use Rattle.std.proofs.lemmas.List.Elements.{All-head, All-tail}
 use Rattle.std.proofs.lemmas.List.Quantifiers.{position-Some}
 use Rattle.std.proofs.lemmas.Option.{get_or_from_slice_get, none-some, same_Some, slice_get_within}
 use Rattle.visit_log.specs.Children.{IsNewChild, child_is_due, decides, deciding, first_due, first_look, is_due, is_fresh, is_solved, move_to, shows_escape}
-use Rattle.visit_log.specs.Frame.{Task, Visiting, attacker_in, node_at}
+use Rattle.visit_log.specs.Frame.{Task, FrameView, attacker_in, node_at}
 use Rattle.visit_log.specs.Round.{LooksNext, MayShow, Selects, Tells, staled, staled_look, told, visited}
 use Rattle.visit_log.specs.Sound.{IsLookedAt, IsNoteOf, IsOnPath, IsSoundChild}
 use Rattle.visit_log.specs.declared.parts.Child.{Child}
@@ -116,7 +116,7 @@ due_off node path child on due = by_test child.on_path refl
     by_test true is = absurd (true≢false (sym due ∙ ap is_due (on is).stale))
 
 -- The child that is looked at next isn't on the path, and this round hasn't looked at it.
-pub next_off : (task : Task) (f : Visiting) (path : List Key) (place : ℕ) (child : Child)
+pub next_off : (task : Task) (f : FrameView) (path : List Key) (place : ℕ) (child : Child)
     → All (IsSoundChild task f.place.position path) f.children → LooksNext task f place child → IsLookedAt f place
 next_off task f path place child sound next = by_next next.next
   where

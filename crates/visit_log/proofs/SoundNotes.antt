@@ -15,7 +15,7 @@ use Rattle.shogi_rules.specs.Rules.{after}
 use Rattle.std.proofs.lemmas.List.Elements.{All-append, All-cons, All-contains, All-nil, All-tail, All-weaker, Contains-append_cases}
 use Rattle.visit_log.proofs.SoundChildren.{of_found}
 use Rattle.visit_log.specs.Children.{decides, deciding, note_list, notes_in, notes_under, notes_with, rule_at, rule_with}
-use Rattle.visit_log.specs.Frame.{Task, Visiting}
+use Rattle.visit_log.specs.Frame.{Task, FrameView}
 use Rattle.visit_log.specs.Round.{IsMade, node_in}
 use Rattle.visit_log.specs.Sound.{IsListed, IsNoteOf, IsSoundChild}
 use Rattle.visit_log.specs.Visit.{path_at, path_with}
@@ -100,7 +100,7 @@ tag_within task Defender b key path children s (Some child) is about sound found
         (known.note says.note (only_note child.note says.note says.alone)).within
 
 -- The note that is made is about the visit's position, and holds on the path above it.
-pub made_holds : (task : Task) (f : Visiting) (path : List Key) (note : Derivation) → IsListed task (path_at task f.place path) f → IsMade task f note
+pub made_holds : (task : Task) (f : FrameView) (path : List Key) (note : Derivation) → IsListed task (path_at task f.place path) f → IsMade task f note
     → IsNoteOf task f.place.position path note
 made_holds task f path (derived s under) listed_f made = record {
   valid = made.valid;

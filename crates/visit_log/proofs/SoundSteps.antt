@@ -18,7 +18,7 @@ use Rattle.std.specs.Option.{option_map}
 use Rattle.visit_log.proofs.SoundChildren.{moves_set, moves_staled, new_sound, next_off, of_child, staled_sound, told_sound, unsolved_off, visited_sound}
 use Rattle.visit_log.proofs.SoundNotes.{made_holds, tag_empty}
 use Rattle.visit_log.specs.Children.{AreChildren, AreMoves, IsNewChild, move_to, reaches}
-use Rattle.visit_log.specs.Frame.{Place, Task, Visiting, attacker_in, choose, no_limits, opened, root, with_children, one_and_one}
+use Rattle.visit_log.specs.Frame.{Place, Task, FrameView, attacker_in, choose, no_limits, opened, root, with_children, one_and_one}
 use Rattle.visit_log.specs.Machine.{Begins, GoesOn, IsPlayed, Makes, MayShowAt, Opens, Returns, Sees, Settles, State, at_stage, entry_of, keep, one_claim, one_unit, path_of, place_by, position_by, rest_of, start, wind, FitsAt, LeadsAt, ask_leave, ask_look, asks_at, root_entry, starve, starve_at, starve_winding}
 use Rattle.visit_log.specs.Round.{Solves, Choice, GivesUp, GoesDown, MayShow, Sight, Tells, came_back, looked, node_in, own, staled, told, visited}
 use Rattle.visit_log.specs.Sound.{AreSound, IsAnswer, IsLookedAt, IsNoteOf, IsPlaced, IsSound, IsSoundAt, IsSoundChild, IsSoundEntry, IsSoundPlace, IsSoundVisit, IsSoundRequest}
@@ -30,17 +30,17 @@ use Rattle.visit_log.specs.declared.parts.Stage.{Stage}
 use Rattle.visit_log.specs.declared.parts.Stage.TheVariants.{Claiming, Drawing, Entering, Leaving, Looking, Polling, Posting, Winding}
 use Rattle.visit_log.specs.declared.words.WorkEnd.{WorkEnd}
 use Rattle.visit_log.specs.declared.words.WorkEnd.TheVariants.{NoMemory, NoRoom, Posted, Spent, Stopped}
-use Rattle.notes.specs.declared.words.Claim.TheVariants.{NoRoom as Full, Room}
+use Rattle.notes.specs.declared.words.RoomAnswer.TheVariants.{NoRoom as Full, Room}
 use Rattle.notes.specs.declared.words.Draw.TheVariants.{Done, Go, Spent as AllDrawn}
 use Rattle.notes.specs.declared.words.Update.TheVariants.{Nothing}
 use Rattle.visit_log.specs.Run.{Told, Dark, Starved, Happening, Happens, Runs}
-use Rattle.visit_log.specs.declared.words.Answer.{Answer}
-use Rattle.visit_log.specs.declared.words.Answer.TheVariants.{Claim as Claimed, Draw as Drew, Enter as Entered, Leave as LeftIt, Look as Looked, Poll as Polled, Post as PostedIt}
+use Rattle.visit_log.specs.declared.words.Reply.{Reply}
+use Rattle.visit_log.specs.declared.words.Reply.TheVariants.{Claim as Claimed, Draw as Drew, Enter as Entered, Leave as LeftIt, Look as Looked, Poll as Polled, Post as PostedIt}
 
 -- 1. WHAT COMES NEXT.
 
 -- A visit that goes on to another child.
-choose_sound : (task : Task) (f : Visiting) (fs : List Visiting) (place : ℕ) → IsSoundVisit task f fs → IsSoundVisit task (choose f place) fs
+choose_sound : (task : Task) (f : FrameView) (fs : List FrameView) (place : ℕ) → IsSoundVisit task f fs → IsSoundVisit task (choose f place) fs
 choose_sound task f fs place sound = record {
   in_range = sound.in_range;
   placed = sound.placed;
@@ -57,19 +57,19 @@ root_stays numbers range reached =
     true≢false (sym reached ∙ c)
 
 -- Whatever a sound visit does next, the worker stays sound.
-settles_sound : (task : Task) (f next : Visiting) (fs : List Visiting) (stage : Stage) → AreSound task (f ∷ fs) → Settles task f stage next
+settles_sound : (task : Task) (f next : FrameView) (fs : List FrameView) (stage : Stage) → AreSound task (f ∷ fs) → Settles task f stage next
     → IsSoundAt task stage (next ∷ fs)
 settles_sound task f next fs (Looking place) sound settles =
     let at = next_off task f (path_of task (f ∷ fs)) place settles.0.0 sound.0.listed.children settles.0.1 in
-    subst (λ (g : Visiting). AreSound task (g ∷ fs) × IsLookedAt g place) (sym settles.1) (sound, at)
+    subst (λ (g : FrameView). AreSound task (g ∷ fs) × IsLookedAt g place) (sym settles.1) (sound, at)
 settles_sound task f next fs Claiming sound settles =
-    subst (λ (g : Visiting). AreSound task (g ∷ fs) × Solves task g) (sym settles.1) (sound, settles.0)
+    subst (λ (g : FrameView). AreSound task (g ∷ fs) × Solves task g) (sym settles.1) (sound, settles.0)
 settles_sound task f next fs (Leaving (Open numbers)) sound settles =
     let gives : GivesUp task f = settles.0 in
-    subst (λ (g : Visiting). IsSoundAt task (Leaving (Open numbers)) (g ∷ fs)) (sym settles.2)
+    subst (λ (g : FrameView). IsSoundAt task (Leaving (Open numbers)) (g ∷ fs)) (sym settles.2)
     (over fs sound (subst IsOpen (sym settles.1) gives.in_range))
   where
-    over : (gs : List Visiting) → AreSound task (f ∷ gs) → IsOpen numbers → IsSoundAt task (Leaving (Open numbers)) (f ∷ gs)
+    over : (gs : List FrameView) → AreSound task (f ∷ gs) → IsOpen numbers → IsSoundAt task (Leaving (Open numbers)) (f ∷ gs)
     over [] are range =
         let gives : GivesUp task f = settles.0 in
         let limits : f.place.limits ≡ no_limits = ap (λ (p : Place). p.limits) are.0.placed in
@@ -86,7 +86,7 @@ settles_sound task f next fs (Polling entry) sound settles =
       in_range = goes.in_range;
       placed = (choice.child, goes.there, refl, refl, off);
     } in
-    subst (λ (g : Visiting). AreSound task (g ∷ fs) × IsSoundEntry task (g ∷ fs) entry) (sym settles.3)
+    subst (λ (g : FrameView). AreSound task (g ∷ fs) × IsSoundEntry task (g ∷ fs) entry) (sym settles.3)
     ((choose_sound task f fs choice.place sound.0, sound.1), subst (IsSoundEntry task (down ∷ fs)) (sym settles.2) begins)
 settles_sound task f next fs (Leaving (Solved note)) sound settles = absurd settles
 settles_sound task f next fs (Drawing entry) sound settles = absurd settles
@@ -95,7 +95,7 @@ settles_sound task f next fs (Posting posted) sound settles = absurd settles
 settles_sound task f next fs (Winding end) sound settles = absurd settles
 
 -- So is the state to which it goes on.
-goes_on_sound : (task : Task) (s : State) (f : Visiting) (fs : List Visiting) (t : State) → AreSound task (f ∷ fs) → GoesOn task s f fs t
+goes_on_sound : (task : Task) (s : State) (f : FrameView) (fs : List FrameView) (t : State) → AreSound task (f ∷ fs) → GoesOn task s f fs t
     → IsSound task t
 goes_on_sound task s f fs t sound goes =
     subst (IsSoundAt task t.stage) (sym (ap (λ (u : State). u.frames) goes.is)) (settles_sound task f goes.next fs t.stage sound goes.settles)
@@ -111,12 +111,12 @@ winds task s t end is = winding task t end (ap (λ (u : State). u.stage) is)
 -- 2. WHERE AN ANSWER LEADS.
 
 -- A visit begins at a sound place.
-place_sound : (task : Task) (fs : List Visiting) (entry : Entry) → AreSound task fs → IsSoundEntry task fs entry
+place_sound : (task : Task) (fs : List FrameView) (entry : Entry) → AreSound task fs → IsSoundEntry task fs entry
     → IsPlayed (attacker_in task) (position_by task fs entry.by) → IsSoundPlace task fs (place_by task fs entry)
 place_sound task fs entry sound begins played =
     record { played = played; key = key_is fs (place_by task fs entry) sound begins.placed; in_range = begins.in_range; placed = begins.placed }
   where
-    key_is : (gs : List Visiting) (p : Place) → AreSound task gs → IsPlaced task gs p → p.key.0 ≡ key_of p.position
+    key_is : (gs : List FrameView) (p : Place) → AreSound task gs → IsPlaced task gs p → p.key.0 ≡ key_of p.position
     key_is [] p are placed = subst (λ (q : Place). q.key.0 ≡ key_of q.position) (sym placed) refl
     key_is (g ∷ gs) p are placed =
         let P = IsSoundChild task g.place.position (path_of task (g ∷ gs)) in
@@ -131,7 +131,7 @@ begins_sound task s entry t sound entry_is (inl begins) =
 begins_sound task s entry t sound entry_is (inr lost) = winds task (one_unit s) t NoMemory lost
 
 -- A visit whose successors are listed is sound.
-pub opened_sound : (task : Task) (f : Visiting) (fs : List Visiting) (kept : Kept) (children : List Child) → IsSoundPlace task fs f.place
+pub opened_sound : (task : Task) (f : FrameView) (fs : List FrameView) (kept : Kept) (children : List Child) → IsSoundPlace task fs f.place
     → AreChildren (attacker_in task) f.place.position (path_of task (f ∷ fs)) children → IsSoundVisit task (opened f.place kept children) fs
 opened_sound task f fs kept children place are = record {
   in_range = place.in_range;
@@ -147,7 +147,7 @@ opened_sound task f fs kept children place are = record {
 }
 
 -- A position is opened soundly.
-opens_sound : (task : Task) (s : State) (fs : List Visiting) (kept : Kept) (t : State) → IsSoundAt task Entering fs → Opens task s fs kept t
+opens_sound : (task : Task) (s : State) (fs : List FrameView) (kept : Kept) (t : State) → IsSoundAt task Entering fs → Opens task s fs kept t
     → IsSound task t
 opens_sound task s [] kept t sound opens = absurd opens
 opens_sound task s (f ∷ fs) kept t sound (inl opens) =
@@ -155,7 +155,7 @@ opens_sound task s (f ∷ fs) kept t sound (inl opens) =
 opens_sound task s (f ∷ fs) kept t sound (inr lost) = winds task (at_stage s Entering (keep f kept ∷ fs)) t NoMemory lost
 
 -- A visit with other children of the same moves.
-with_sound : (task : Task) (f : Visiting) (fs : List Visiting) (children : List Child) → IsSoundVisit task f fs
+with_sound : (task : Task) (f : FrameView) (fs : List FrameView) (children : List Child) → IsSoundVisit task f fs
     → map move_to children ≡ map move_to f.children → All (IsSoundChild task f.place.position (path_of task (f ∷ fs))) children
     → IsSoundVisit task (with_children f children) fs
 with_sound task f fs children sound same known = record {
@@ -170,7 +170,7 @@ with_sound task f fs children sound same known = record {
 }
 
 -- What is looked at is known soundly.
-pub looked_sound : (task : Task) (f : Visiting) (fs : List Visiting) (sight : Sight) → IsSoundVisit task f fs → IsLookedAt f sight.place
+pub looked_sound : (task : Task) (f : FrameView) (fs : List FrameView) (sight : Sight) → IsSoundVisit task f fs → IsLookedAt f sight.place
     → slice_get f.children sight.place ≡ Some sight.child → MayShow (attacker_in task) sight.child.key (path_of task (f ∷ fs)) sight.seen
     → Tells (attacker_in task) f.place.position sight.child.by sight.seen sight.start → IsSoundVisit task (looked f sight) fs
 looked_sound task f fs sight sound at there may tells =
@@ -190,7 +190,7 @@ looked_sound task f fs sight sound at there may tells =
     told_by child (Shown note) start = refl
 
 -- So is the worker that was told what it looks at.
-sees_sound : (task : Task) (s : State) (place : ℕ) (fs : List Visiting) (seen : Seen) (t : State) → IsSoundAt task (Looking place) fs
+sees_sound : (task : Task) (s : State) (place : ℕ) (fs : List FrameView) (seen : Seen) (t : State) → IsSoundAt task (Looking place) fs
     → MayShowAt task fs place seen → Sees task s place fs seen t → IsSound task t
 sees_sound task s place [] seen t sound may sees = absurd sees
 sees_sound task s place (f ∷ fs) seen t sound may sees =
@@ -208,7 +208,7 @@ sees_sound task s place (f ∷ fs) seen t sound may sees =
 makes_sound : (task : Task) (s t : State) → IsSoundAt task Claiming s.frames → Makes task s s.frames t → IsSound task t
 makes_sound task s t sound makes = by_frames s.frames refl sound makes
   where
-    by_frames : (fs : List Visiting) → s.frames ≡ fs → IsSoundAt task Claiming fs → Makes task s fs t → IsSound task t
+    by_frames : (fs : List FrameView) → s.frames ≡ fs → IsSoundAt task Claiming fs → Makes task s fs t → IsSound task t
     by_frames [] is are made = absurd made
     by_frames (f ∷ fs) is are (inl made) =
         subst (IsSound task) (sym made.2) (subst (IsSoundAt task (Leaving (Solved made.0))) (sym is)
@@ -216,7 +216,7 @@ makes_sound task s t sound makes = by_frames s.frames refl sound makes
     by_frames (f ∷ fs) is are (inr refused) = winds task (one_claim s) t refused.0 refused.2
 
 -- A visit is sound after that of a child.
-pub back_sound : (task : Task) (f : Visiting) (gs : List Visiting) (g : Visiting) (child : Child) (left : Left) → IsSoundVisit task f (g ∷ gs)
+pub back_sound : (task : Task) (f : FrameView) (gs : List FrameView) (g : FrameView) (child : Child) (left : Left) → IsSoundVisit task f (g ∷ gs)
     → IsSoundVisit task g gs → slice_get g.children g.chosen ≡ Some child
     → ((note : Derivation) → left ≡ Solved note → IsNoteOf task f.place.position (path_of task (g ∷ gs)) note)
     → IsSoundVisit task (came_back g g.chosen child left) gs
@@ -243,7 +243,7 @@ back_sound task f gs g child left above sound there solved =
     visited_by (Solved note) = refl
 
 -- A worker that has left a position is sound.
-returns_sound : (task : Task) (s : State) (fs : List Visiting) (left : Left) (t : State) → IsSoundAt task (Leaving left) fs
+returns_sound : (task : Task) (s : State) (fs : List FrameView) (left : Left) (t : State) → IsSoundAt task (Leaving left) fs
     → Returns task s (rest_of fs) left t → IsSound task t
 returns_sound task s [] left t sound returns = absurd (nowhere left sound)
   where
@@ -272,7 +272,7 @@ returns_sound task s (f ∷ g ∷ gs) (Solved note) t sound returns =
     ) returns.2
 
 -- Where a fitting answer leads a sound worker, it is sound.
-leads_sound : (task : Task) (s : State) (stage : Stage) (answer : Answer) (t : State) → IsSoundAt task stage s.frames → FitsAt task s stage answer
+leads_sound : (task : Task) (s : State) (stage : Stage) (answer : Reply) (t : State) → IsSoundAt task stage s.frames → FitsAt task s stage answer
     → LeadsAt task s stage answer t → IsSound task t
 leads_sound task s (Polling entry) (Polled true) t sound fits leads = winds task s t Stopped leads
 leads_sound task s (Polling entry) (Polled false) t sound fits leads = subst (IsSound task) (sym leads) sound
@@ -292,7 +292,7 @@ leads_sound task s stage answer t sound fits leads = absurd leads
 starved_sound : (task : Task) (s t : State) → t ≡ starve s → IsSound task t
 starved_sound task s t is = subst (IsSound task) (sym is) (by_stage s.stage)
   where
-    by_frames : (end : WorkEnd) (fs : List Visiting) → IsSound task (starve_winding s end fs)
+    by_frames : (end : WorkEnd) (fs : List FrameView) → IsSound task (starve_winding s end fs)
     by_frames end [] = tt
     by_frames end (f ∷ fs) = tt
 
@@ -335,12 +335,12 @@ pub reached_sound : (task : Task) (happenings : List Happening) (s : State) → 
 reached_sound task happenings s runs = runs_sound task happenings (start task) s (start_sound task) runs
 
 -- What is left by the way is promised nothing.
-leave_nothing : (task : Task) (fs : List Visiting) (end : WorkEnd) → IsSoundRequest task (ask_leave fs Nothing end)
+leave_nothing : (task : Task) (fs : List FrameView) (end : WorkEnd) → IsSoundRequest task (ask_leave fs Nothing end)
 leave_nothing task [] end = tt
 leave_nothing task (f ∷ fs) end = tt
 
 -- What a sound worker asks is sound.
-pub asks_sound : (task : Task) (stage : Stage) (fs : List Visiting) → IsSoundAt task stage fs → IsSoundRequest task (asks_at stage fs)
+pub asks_sound : (task : Task) (stage : Stage) (fs : List FrameView) → IsSoundAt task stage fs → IsSoundRequest task (asks_at stage fs)
 asks_sound task (Polling entry) fs sound = tt
 asks_sound task (Drawing entry) fs sound = tt
 asks_sound task Entering [] sound = tt

@@ -5,7 +5,7 @@ use Rattle.board_core.specs.declared.keys.Key.{Key}
 use Rattle.notes.specs.Derivation.{Derivation, derived, highest}
 use Rattle.notes.specs.declared.words.Draw.{Draw}
 use Rattle.notes.specs.declared.words.Draw.TheVariants.{Go, Done, Spent as AllDrawn}
-use Rattle.notes.specs.declared.words.Claim.TheVariants.{Room, NoRoom as Full}
+use Rattle.notes.specs.declared.words.RoomAnswer.TheVariants.{Room, NoRoom as Full}
 use Rattle.notes.specs.declared.words.Kept.{Kept}
 use Rattle.notes.specs.declared.words.Seen.{Seen}
 use Rattle.notes.specs.declared.words.Update.TheVariants.{Numbers as Count, Note as Noted, Nothing}
@@ -20,12 +20,12 @@ use Rattle.visit_log.specs.declared.words.WorkEnd.{WorkEnd}
 use Rattle.visit_log.specs.declared.words.WorkEnd.TheVariants.{Posted, Spent, NoRoom, NoMemory, Stopped}
 use Rattle.visit_log.specs.declared.words.Request.{Request}
 use Rattle.visit_log.specs.declared.words.Request.TheVariants.{Post}
-use Rattle.visit_log.specs.declared.words.Answer.{Answer}
-use Rattle.visit_log.specs.declared.words.Answer.TheVariants.{Poll as Polled, Draw as Drew, Claim as Claimed, Look as Looked, Enter as Entered, Leave as LeftIt, Post as PostedIt}
-use Rattle.visit_log.specs.Frame.{Task, attacker_in, Place, Visiting, root, begun, opened, choose}
+use Rattle.visit_log.specs.declared.words.Reply.{Reply}
+use Rattle.visit_log.specs.declared.words.Reply.TheVariants.{Poll as Polled, Draw as Drew, Claim as Claimed, Look as Looked, Enter as Entered, Leave as LeftIt, Post as PostedIt}
+use Rattle.visit_log.specs.Frame.{Task, attacker_in, Place, FrameView, root, begun, opened, choose}
 use Rattle.visit_log.specs.Children.{notes_under}
 use Rattle.visit_log.specs.Round.{node_in, own, Solves, GivesUp, LooksNext, GoesDown, child_place, Sight, looked, IsMade, MayShow, Tells, IsSight, came_back}
-use Rattle.visit_log.specs.Visit.{Event, Visit, Unpolled, Halted, Undrawn, Refused, Unentered, Unlisted, nothing_yet, and_look, and_visit, Tail, Cut, Blind, Unclaimed, Unmade, Made, Passed, Ending, Winds, Ends, ending, after_child, known_after, polled, drew, entered, claimed, leave, drawn_on, entered_on, visit_on, tail_on, doings_on, tail_ending, EndsOpen, IsVisit, IsTail, EndsLog, IsVisitLog}
+use Rattle.visit_log.specs.Visit.{Exchange, Visit, Unpolled, Halted, Undrawn, Refused, Unentered, Unlisted, nothing_yet, and_look, and_visit, Tail, Cut, Blind, Unclaimed, Unmade, Made, Passed, Ending, Winds, Ends, ending, after_child, known_after, polled, drew, entered, claimed, leave, drawn_on, entered_on, visit_on, tail_on, doings_on, tail_ending, EndsOpen, IsVisit, IsTail, EndsLog, IsVisitLog}
 use Rattle.visit_log.specs.Machine.{State, at_stage, one_unit, one_claim, MayShowAt, Begins, path_of, place_by, start, entered_ones, wind, starve, starve_at, starve_winding, Settles, GoesOn, Opens, Makes, Returns, LeadsAt, FitsAt, keep, asks, asks_at, ask_look, update_by, end_at}
 use Rattle.visit_log.specs.Run.{Happening, Told, Dark, Starved, IsLooking, Happens, Runs, event, events, IsBegunLog}
 use Rattle.visit_log.specs.Laws.{LogsBegin, LogsAreWhole}
@@ -34,16 +34,16 @@ use Rattle.visit_log.proofs.Waiting.{Below, Here, Over, over_by, over_as, over_r
 -- 1. WHERE IT STANDS.
 
 -- A worker that winds up: once all is left, it is the log of a visit of the problem's position that winds up.
-abbrev pub WindsUp : Task → WorkEnd → List Visiting → List Event → Type 0
+abbrev pub WindsUp : Task → WorkEnd → List FrameView → List Exchange → Type 0
 WindsUp task end fs log = (reason : WorkEnd) × ((end ≡ reason) ⊎ (end ≡ NoMemory)) × Over task [] (root task) [] (Winds reason) (log ++ leaves fs)
 
 -- By its stage: which visits go on, and how the log came about.
-abbrev pub StandsAt : Task → Stage → List Visiting → List Event → Type 0
+abbrev pub StandsAt : Task → Stage → List FrameView → List Exchange → Type 0
 StandsAt task (Polling entry) fs log = Below task fs (place_by task fs entry) log
-StandsAt task (Drawing entry) fs log = (before : List Event) × Below task fs (place_by task fs entry) before × (log ≡ before ++ polled false ∷ [])
+StandsAt task (Drawing entry) fs log = (before : List Exchange) × Below task fs (place_by task fs entry) before × (log ≡ before ++ polled false ∷ [])
 StandsAt task Entering [] log = ⊥
 StandsAt task Entering (f ∷ fs) log =
-    (before : List Event) × (unit : ℕ) × Below task fs f.place before × (f ≡ begun f.place) × (log ≡ drawn_on before unit)
+    (before : List Exchange) × (unit : ℕ) × Below task fs f.place before × (f ≡ begun f.place) × (log ≡ drawn_on before unit)
 StandsAt task (Looking place) [] log = ⊥
 StandsAt task (Looking place) (f ∷ fs) log = Here task f fs log × ((child : Child) × LooksNext task f place child)
 StandsAt task Claiming [] log = ⊥
@@ -51,7 +51,7 @@ StandsAt task Claiming (f ∷ fs) log = Here task f fs log × Solves task f
 StandsAt task (Leaving left) [] log = ⊥
 StandsAt task (Leaving (Open numbers)) (f ∷ fs) log = Here task f fs log × GivesUp task f × (numbers ≡ own task f)
 StandsAt task (Leaving (Solved note)) (f ∷ fs) log =
-    (before : List Event) × (room : ℕ) × Here task f fs before × Solves task f × IsMade task f note × (log ≡ before ++ claimed (Room room) ∷ [])
+    (before : List Exchange) × (room : ℕ) × Here task f fs before × Solves task f × IsMade task f note × (log ≡ before ++ claimed (Room room) ∷ [])
 StandsAt task (Posting None) fs log = ⊥
 StandsAt task (Posting (Some note)) [] log = Over task [] (root task) [] (Ends (Solved note)) log
 StandsAt task (Posting (Some note)) (f ∷ fs) log = ⊥
@@ -59,13 +59,13 @@ StandsAt task (Winding end) [] log = IsVisitLog task log end
 StandsAt task (Winding end) (f ∷ fs) log = WindsUp task end (f ∷ fs) log
 
 -- The worker stands in the state after the log.
-abbrev pub Stands : Task → State → List Event → Type 0
+abbrev pub Stands : Task → State → List Exchange → Type 0
 Stands task s log = StandsAt task s.stage s.frames log
 
 -- 2. WINDING UP.
 
 -- A worker that winds up and has left everything has ended.
-winding : (task : Task) (end : WorkEnd) (fs : List Visiting) (log : List Event) → WindsUp task end fs log → StandsAt task (Winding end) fs log
+winding : (task : Task) (end : WorkEnd) (fs : List FrameView) (log : List Exchange) → WindsUp task end fs log → StandsAt task (Winding end) fs log
 winding task end [] log (reason, ends, over) = record {
   visit = over.visit;
   is_visit = over.is;
@@ -74,73 +74,73 @@ winding task end [] log (reason, ends, over) = record {
 winding task end (f ∷ fs) log w = w
 
 -- A visit over these winds up, and these are still to be left.
-wound : (task : Task) (fs : List Visiting) (p : Place) (before log : List Event) (end : WorkEnd) → Below task fs p before
-    → Over task (path_of task fs) p before (Winds end) log → (gs : List Visiting) (written : List Event) → log ++ leaves fs ≡ written ++ leaves gs
+wound : (task : Task) (fs : List FrameView) (p : Place) (before log : List Exchange) (end : WorkEnd) → Below task fs p before
+    → Over task (path_of task fs) p before (Winds end) log → (gs : List FrameView) (written : List Exchange) → log ++ leaves fs ≡ written ++ leaves gs
     → StandsAt task (Winding end) gs written
 wound task fs p before log end below over gs written same =
     winding task end gs written
     (end, inl refl, over_as task [] (root task) [] (Winds end) (Winds end) (log ++ leaves fs) (written ++ leaves gs) (close task fs p before log end below over) refl same)
 
 -- A visit that has entered nothing winds up.
-wound_early : (task : Task) (fs : List Visiting) (p : Place) (before : List Event) (end : WorkEnd) (visit : Visit) → Below task fs p before
+wound_early : (task : Task) (fs : List FrameView) (p : Place) (before : List Exchange) (end : WorkEnd) (visit : Visit) → Below task fs p before
     → IsVisit task (path_of task fs) p visit → ending task p visit ≡ Winds end → StandsAt task (Winding end) (entered_ones fs) (visit_on task before p visit)
 wound_early task fs p before end visit below is ends =
     wound task fs p before (visit_on task before p visit) end below (record { visit = visit; is = is; end = ends; log_is = refl }) (entered_ones fs)
-    (visit_on task before p visit) (ap (λ (more : List Event). visit_on task before p visit ++ more) (sym (leaves_below task fs p before below)))
+    (visit_on task before p visit) (ap (λ (more : List Exchange). visit_on task before p visit ++ more) (sym (leaves_below task fs p before below)))
 
 -- The visit in its middle winds up by this tail, which leaves its position in the end.
-cut_with : (task : Task) (f : Visiting) (fs : List Visiting) (log : List Event) (end : WorkEnd) (tail : Tail) (written : List Event) → Here task f fs log
+cut_with : (task : Task) (f : FrameView) (fs : List FrameView) (log : List Exchange) (end : WorkEnd) (tail : Tail) (written : List Exchange) → Here task f fs log
     → IsTail task (path_of task (f ∷ fs)) f tail → tail_ending task f tail ≡ Winds end → tail_on task log f tail ≡ written ++ leave f Nothing ∷ []
     → StandsAt task (Winding end) (entered_ones (f ∷ fs)) written
 cut_with task f fs log end tail written a is ends writes =
     let over = over_by (Below task fs f.place) task f.place (path_of task fs) f log a tail is in
-    let with_leave : List Event = written ++ leave f Nothing ∷ [] in
+    let with_leave : List Exchange = written ++ leave f Nothing ∷ [] in
     wound task fs f.place a.before with_leave end a.below
     (over_as task (path_of task fs) f.place a.before (tail_ending task f tail) (Winds end) (tail_on task log f tail) with_leave over ends writes)
     (entered_ones (f ∷ fs)) written
-    (append_assoc written (leave f Nothing ∷ []) (leaves fs) ∙ ap (λ (more : List Event). written ++ more) (sym (leaves_here task f fs log a)))
+    (append_assoc written (leave f Nothing ∷ []) (leaves fs) ∙ ap (λ (more : List Exchange). written ++ more) (sym (leaves_here task f fs log a)))
 
 -- It is cut off.
-cut_here : (task : Task) (f : Visiting) (fs : List Visiting) (log : List Event) → Here task f fs log
+cut_here : (task : Task) (f : FrameView) (fs : List FrameView) (log : List Exchange) → Here task f fs log
     → StandsAt task (Winding NoMemory) (entered_ones (f ∷ fs)) log
 cut_here task f fs log a = cut_with task f fs log NoMemory Cut log a tt refl refl
 
 -- 3. WHAT IT DOES NEXT.
 
 -- What the innermost visit does next, as it stands now.
-settled : (task : Task) (stage : Stage) (f next : Visiting) (fs : List Visiting) (log : List Event) → Here task f fs log → Settles task f stage next
+settled : (task : Task) (stage : Stage) (f next : FrameView) (fs : List FrameView) (log : List Exchange) → Here task f fs log → Settles task f stage next
     → StandsAt task stage (next ∷ fs) log
-settled task (Looking place) f next fs log here (looks, same) = subst (λ (g : Visiting). StandsAt task (Looking place) (g ∷ fs) log) (sym same) (here, looks)
-settled task Claiming f next fs log here (solves, same) = subst (λ (g : Visiting). StandsAt task Claiming (g ∷ fs) log) (sym same) (here, solves)
+settled task (Looking place) f next fs log here (looks, same) = subst (λ (g : FrameView). StandsAt task (Looking place) (g ∷ fs) log) (sym same) (here, looks)
+settled task Claiming f next fs log here (solves, same) = subst (λ (g : FrameView). StandsAt task Claiming (g ∷ fs) log) (sym same) (here, solves)
 settled task (Leaving (Open numbers)) f next fs log here (gives, is, same) =
-    subst (λ (g : Visiting). StandsAt task (Leaving (Open numbers)) (g ∷ fs) log) (sym same) (here, gives, is)
+    subst (λ (g : FrameView). StandsAt task (Leaving (Open numbers)) (g ∷ fs) log) (sym same) (here, gives, is)
 settled task (Polling entry) f next fs log here (choice, goes, is, same) =
-    subst (λ (g : Visiting). Below task (g ∷ fs) (place_by task (g ∷ fs) entry) log) (sym same)
+    subst (λ (g : FrameView). Below task (g ∷ fs) (place_by task (g ∷ fs) entry) log) (sym same)
     (subst (λ (e : Entry). Below task (choose f choice.place ∷ fs) (place_by task (choose f choice.place ∷ fs) e) log) (sym is)
     (f, choice, here, goes, refl, refl))
 settled task stage f next fs log here s = absurd s
 
 -- The innermost visit goes on.
-goes_on : (task : Task) (s : State) (f : Visiting) (fs : List Visiting) (t : State) (log : List Event) → Here task f fs log → GoesOn task s f fs t
+goes_on : (task : Task) (s : State) (f : FrameView) (fs : List FrameView) (t : State) (log : List Exchange) → Here task f fs log → GoesOn task s f fs t
     → Stands task t log
 goes_on task s f fs t log here on =
-    subst (λ (gs : List Visiting). StandsAt task t.stage gs log) (sym (ap (λ (z : State). z.frames) on.is)) (settled task t.stage f on.next fs log here on.settles)
+    subst (λ (gs : List FrameView). StandsAt task t.stage gs log) (sym (ap (λ (z : State). z.frames) on.is)) (settled task t.stage f on.next fs log here on.settles)
 
 -- The visit of a child that the innermost one waited for has left its position.
-comes_back : (task : Task) (g : Visiting) (gs : List Visiting) (p : Place) (before : List Event) (left : Left) (child : Child) (log : List Event)
+comes_back : (task : Task) (g : FrameView) (gs : List FrameView) (p : Place) (before : List Exchange) (left : Left) (child : Child) (log : List Exchange)
     → Below task (g ∷ gs) p before → Over task (path_of task (g ∷ gs)) p before (Ends left) log → slice_get g.children g.chosen ≡ Some child
     → Here task (came_back g g.chosen child left) gs log
 comes_back task g gs p before left child log (h, choice, a, goes, at, is) over there =
     let path : List Key = path_of task (g ∷ gs) in
     let v : Visit = over.visit in
     let q : Place = child_place task h choice in
-    let now : Visiting = known_after task (opened g.place a.kept a.children) a.doings in
-    let so_far : List Event = doings_on task (entered_on a.before a.unit g.place a.kept) (opened g.place a.kept a.children) a.doings in
+    let now : FrameView = known_after task (opened g.place a.kept a.children) a.doings in
+    let so_far : List Exchange = doings_on task (entered_on a.before a.unit g.place a.kept) (opened g.place a.kept a.children) a.doings in
     let visit : IsVisit task path q v = subst (λ (z : Place). IsVisit task path z v) at over.is in
     let ends : ending task q v ≡ Ends left = subst (λ (z : Place). ending task z v ≡ Ends left) at over.end in
-    let next = subst (λ (z : Visiting). GoesDown task z choice × IsVisit task path (child_place task z choice) v × EndsOpen (ending task (child_place task z choice) v))
+    let next = subst (λ (z : FrameView). GoesDown task z choice × IsVisit task path (child_place task z choice) v × EndsOpen (ending task (child_place task z choice) v))
     a.is (goes, visit, subst EndsOpen (sym ends) tt) in
-    let chosen : slice_get h.children choice.place ≡ Some child = subst (λ (z : Visiting). slice_get z.children z.chosen ≡ Some child) is there in
+    let chosen : slice_get h.children choice.place ≡ Some child = subst (λ (z : FrameView). slice_get z.children z.chosen ≡ Some child) is there in
     let both : Some child ≡ Some choice.child = sym chosen ∙ goes.there in
     let same : child ≡ choice.child = cc in
     record {
@@ -152,15 +152,15 @@ comes_back task g gs p before left child log (h, choice, a, goes, at, is) over t
       doings = and_visit a.doings choice v;
       listed = a.listed;
       done = (a.done, next.0, next.1, next.2);
-      is = ap₂ (λ (z : Visiting) (one : Child). came_back z z.chosen one left) is same
-          ∙ (ap (λ (ended : Ending). after_child h choice ended) (sym ends) ∙ ap (λ (z : Visiting). after_child z choice (ending task (child_place task z choice) v)) a.is);
+      is = ap₂ (λ (z : FrameView) (one : Child). came_back z z.chosen one left) is same
+          ∙ (ap (λ (ended : Ending). after_child h choice ended) (sym ends) ∙ ap (λ (z : FrameView). after_child z choice (ending task (child_place task z choice) v)) a.is);
       log_is = sym over.log_is
-          ∙ (ap₂ (λ (events : List Event) (z : Place). visit_on task events z v) a.log_is at
-          ∙ ap (λ (z : Visiting). visit_on task so_far (child_place task z choice) v) a.is);
+          ∙ (ap₂ (λ (events : List Exchange) (z : Place). visit_on task events z v) a.log_is at
+          ∙ ap (λ (z : FrameView). visit_on task so_far (child_place task z choice) v) a.is);
     }
 
 -- One more look.
-looks_on : (task : Task) (f : Visiting) (fs : List Visiting) (place : ℕ) (seen : Seen) (log : List Event) (sight : Sight) → Here task f fs log
+looks_on : (task : Task) (f : FrameView) (fs : List FrameView) (place : ℕ) (seen : Seen) (log : List Exchange) (sight : Sight) → Here task f fs log
     → ((child : Child) × LooksNext task f place child) → MayShowAt task (f ∷ fs) place seen → sight.place ≡ place → sight.seen ≡ seen
     → slice_get f.children place ≡ Some sight.child → Tells (attacker_in task) f.place.position sight.child.by seen sight.start
     → Here task (looked f sight) fs (log ++ (ask_look (slice_get f.children place), Some (Looked seen)) ∷ [])
@@ -183,48 +183,48 @@ looks_on task f fs place seen log sight a (child, looks) may at told there tells
       children = a.children;
       doings = and_look a.doings sight;
       listed = a.listed;
-      done = (a.done, subst (λ (z : Visiting). IsSight task path z sight) a.is is);
-      is = ap (λ (z : Visiting). looked z sight) a.is;
-      log_is = ap₂ (λ (events : List Event) (e : Event). events ++ e ∷ []) a.log_is
+      done = (a.done, subst (λ (z : FrameView). IsSight task path z sight) a.is is);
+      is = ap (λ (z : FrameView). looked z sight) a.is;
+      log_is = ap₂ (λ (events : List Exchange) (e : Exchange). events ++ e ∷ []) a.log_is
           (ap₂ (λ (one : Option Child) (z : Seen). (ask_look one, Some (Looked z))) there (sym told));
     }
 
 -- 4. WHERE AN ANSWER LEADS.
 
 -- A state by its fields.
-abbrev the_state : Stage → List Visiting → ℕ → ℕ → State
+abbrev the_state : Stage → List FrameView → ℕ → ℕ → State
 the_state stage fs visits claims = record { stage = stage; frames = fs; visits = visits; claims = claims }
 
 -- A state is another.
-as_state : (task : Task) (s t : State) (log : List Event) → t ≡ s → Stands task s log → Stands task t log
+as_state : (task : Task) (s t : State) (log : List Exchange) → t ≡ s → Stands task s log → Stands task t log
 as_state task s t log e h = subst (λ (z : State). Stands task z log) (sym e) h
 
 -- A log is another.
-as_log : (task : Task) (s : State) (log written : List Event) → log ≡ written → Stands task s log → Stands task s written
-as_log task s log written e h = subst (λ (z : List Event). Stands task s z) e h
+as_log : (task : Task) (s : State) (log written : List Exchange) → log ≡ written → Stands task s log → Stands task s written
+as_log task s log written e h = subst (λ (z : List Exchange). Stands task s z) e h
 
 -- A unit is drawn: the visit begins, or there is no memory for it.
-begins : (task : Task) (s t : State) (entry : Entry) (unit : ℕ) (log : List Event) → StandsAt task (Drawing entry) s.frames log → Begins task s entry t
+begins : (task : Task) (s t : State) (entry : Entry) (unit : ℕ) (log : List Exchange) → StandsAt task (Drawing entry) s.frames log → Begins task s entry t
     → Stands task t (log ++ drew (Go unit) ∷ [])
 begins task s t entry unit log (before, below, same) (inl (played, is)) =
     as_state task (at_stage (one_unit s) Entering (begun (place_by task s.frames entry) ∷ s.frames)) t (log ++ drew (Go unit) ∷ []) is
-    (before, unit, below, refl, ap (λ (z : List Event). z ++ drew (Go unit) ∷ []) same)
+    (before, unit, below, refl, ap (λ (z : List Exchange). z ++ drew (Go unit) ∷ []) same)
 begins task s t entry unit log (before, below, same) (inr is) =
     as_state task (wind (one_unit s) NoMemory) t (log ++ drew (Go unit) ∷ []) is
-    (as_log task (wind (one_unit s) NoMemory) (drawn_on before unit) (log ++ drew (Go unit) ∷ []) (ap (λ (z : List Event). z ++ drew (Go unit) ∷ []) (sym same))
+    (as_log task (wind (one_unit s) NoMemory) (drawn_on before unit) (log ++ drew (Go unit) ∷ []) (ap (λ (z : List Exchange). z ++ drew (Go unit) ∷ []) (sym same))
     (wound_early task s.frames (place_by task s.frames entry) before NoMemory (Unentered unit) below tt refl))
 
 -- No unit is drawn.
-refused : (task : Task) (s t : State) (entry : Entry) (draw : Draw) (end : WorkEnd) (log : List Event) → StandsAt task (Drawing entry) s.frames log
+refused : (task : Task) (s t : State) (entry : Entry) (draw : Draw) (end : WorkEnd) (log : List Exchange) → StandsAt task (Drawing entry) s.frames log
     → IsVisit task (path_of task s.frames) (place_by task s.frames entry) (Refused draw)
     → ending task (place_by task s.frames entry) (Refused draw) ≡ Winds end → t ≡ wind s end → Stands task t (log ++ drew draw ∷ [])
 refused task s t entry draw end log (before, below, same) visit ends is =
     as_state task (wind s end) t (log ++ drew draw ∷ []) is
-    (as_log task (wind s end) ((before ++ polled false ∷ []) ++ drew draw ∷ []) (log ++ drew draw ∷ []) (ap (λ (z : List Event). z ++ drew draw ∷ []) (sym same))
+    (as_log task (wind s end) ((before ++ polled false ∷ []) ++ drew draw ∷ []) (log ++ drew draw ∷ []) (ap (λ (z : List Exchange). z ++ drew draw ∷ []) (sym same))
     (wound_early task s.frames (place_by task s.frames entry) before end (Refused draw) below visit ends))
 
 -- The innermost position is entered: its successors are listed, or there is no memory for them.
-opens : (task : Task) (s t : State) (f : Visiting) (fs : List Visiting) (kept : Kept) (log : List Event) → StandsAt task Entering (f ∷ fs) log
+opens : (task : Task) (s t : State) (f : FrameView) (fs : List FrameView) (kept : Kept) (log : List Exchange) → StandsAt task Entering (f ∷ fs) log
     → Opens task s (f ∷ fs) kept t → Stands task t (log ++ entered f.place kept ∷ [])
 opens task s t f fs kept log (before, unit, below, is, same) (inl (children, listed, on)) =
     goes_on task s (opened f.place kept children) fs t (log ++ entered f.place kept ∷ []) (record {
@@ -237,19 +237,19 @@ opens task s t f fs kept log (before, unit, below, is, same) (inl (children, lis
       listed = listed;
       done = tt;
       is = refl;
-      log_is = ap (λ (z : List Event). z ++ entered f.place kept ∷ []) same;
+      log_is = ap (λ (z : List Exchange). z ++ entered f.place kept ∷ []) same;
     }) on
 opens task s t f fs kept log (before, unit, below, is, same) (inr winds) =
-    let one : List Event = leave (opened f.place kept []) Nothing ∷ [] in
-    let behind : List Event = entered_on before unit f.place kept in
+    let one : List Exchange = leave (opened f.place kept []) Nothing ∷ [] in
+    let behind : List Exchange = entered_on before unit f.place kept in
     as_state task (wind (at_stage s Entering (keep f kept ∷ fs)) NoMemory) t (log ++ entered f.place kept ∷ []) winds
     (wound task fs f.place before (behind ++ one) NoMemory below (record { visit = Unlisted unit kept; is = tt; end = refl; log_is = refl })
     (entered_ones (keep f kept ∷ fs)) (log ++ entered f.place kept ∷ [])
     (append_assoc behind one (leaves fs)
-    ∙ ap₂ (λ (z more : List Event). (z ++ entered f.place kept ∷ []) ++ more) (sym same) (sym (leaves_unlisted f.place kept fs))))
+    ∙ ap₂ (λ (z more : List Exchange). (z ++ entered f.place kept ∷ []) ++ more) (sym same) (sym (leaves_unlisted f.place kept fs))))
 
 -- Room was claimed: the note is made, or it isn't.
-makes : (task : Task) (s t : State) (f : Visiting) (fs : List Visiting) (room : ℕ) (log : List Event) → s.frames ≡ f ∷ fs → StandsAt task Claiming (f ∷ fs) log
+makes : (task : Task) (s t : State) (f : FrameView) (fs : List FrameView) (room : ℕ) (log : List Exchange) → s.frames ≡ f ∷ fs → StandsAt task Claiming (f ∷ fs) log
     → Makes task s (f ∷ fs) t → Stands task t (log ++ claimed (Room room) ∷ [])
 makes task s t f fs room log there (here, solves) (inl (note, made, is)) =
     as_state task (at_stage (one_claim s) (Leaving (Solved note)) s.frames) t (log ++ claimed (Room room) ∷ []) is
@@ -259,59 +259,59 @@ makes task s t f fs room log there (here, solves) (inr (end, refusal, is)) =
     (rw there (cut_with task f fs log end (Unmade room end) (log ++ claimed (Room room) ∷ []) here (solves, refusal) refl refl))
 
 -- The innermost position was left, solved, and nothing waits for it.
-left_last : (task : Task) (s t : State) (f : Visiting) (note : Derivation) (before log : List Event) → Below task [] f.place before
+left_last : (task : Task) (s t : State) (f : FrameView) (note : Derivation) (before log : List Exchange) → Below task [] f.place before
     → Over task [] f.place before (Ends (Solved note)) log → Returns task s [] (Solved note) t → Stands task t log
 left_last task s t f note before log below over is =
     as_state task (at_stage s (Posting (Some note)) []) t log is (over_root task f.place before (Ends (Solved note)) log below over)
 
 -- The innermost position was left, and this visit has waited for it.
-left_next : (task : Task) (s t : State) (g : Visiting) (gs : List Visiting) (p : Place) (left : Left) (before log : List Event) → Below task (g ∷ gs) p before
+left_next : (task : Task) (s t : State) (g : FrameView) (gs : List FrameView) (p : Place) (left : Left) (before log : List Exchange) → Below task (g ∷ gs) p before
     → Over task (path_of task (g ∷ gs)) p before (Ends left) log → Returns task s (g ∷ gs) left t → Stands task t log
 left_next task s t g gs p left before log below over (child, there, on) =
     goes_on task s (came_back g g.chosen child left) gs t log (comes_back task g gs p before left child log below over there) on
 
 -- The innermost position was left, solved.
-left_solved : (task : Task) (s t : State) (f : Visiting) (fs : List Visiting) (note : Derivation) (before log : List Event) → Below task fs f.place before
+left_solved : (task : Task) (s t : State) (f : FrameView) (fs : List FrameView) (note : Derivation) (before log : List Exchange) → Below task fs f.place before
     → Over task (path_of task fs) f.place before (Ends (Solved note)) log → Returns task s fs (Solved note) t → Stands task t log
 left_solved task s t f [] note before log below over returns = left_last task s t f note before log below over returns
 left_solved task s t f (g ∷ gs) note before log below over returns = left_next task s t g gs f.place (Solved note) before log below over returns
 
 -- The innermost position was left with its numbers: so another visit has waited for it.
-left_open : (task : Task) (s t : State) (f : Visiting) (fs : List Visiting) (numbers : Numbers) (before log : List Event) → Below task fs f.place before
+left_open : (task : Task) (s t : State) (f : FrameView) (fs : List FrameView) (numbers : Numbers) (before log : List Exchange) → Below task fs f.place before
     → Over task (path_of task fs) f.place before (Ends (Open numbers)) log → Returns task s fs (Open numbers) t → Stands task t log
 left_open task s t f [] numbers before log below over returns = absurd returns
 left_open task s t f (g ∷ gs) numbers before log below over returns = left_next task s t g gs f.place (Open numbers) before log below over returns
 
 -- The innermost position is left.
-leaves_it : (task : Task) (s t : State) (f : Visiting) (fs : List Visiting) (left : Left) (log : List Event) → StandsAt task (Leaving left) (f ∷ fs) log
+leaves_it : (task : Task) (s t : State) (f : FrameView) (fs : List FrameView) (left : Left) (log : List Exchange) → StandsAt task (Leaving left) (f ∷ fs) log
     → Returns task s fs left t → Stands task t (log ++ leave f (update_by left) ∷ [])
 leaves_it task s t f fs (Solved note) log (before, room, here, solves, made, same) returns =
-    let written : List Event = (before ++ claimed (Room room) ∷ []) ++ leave f (Noted note) ∷ [] in
-    let now : List Event = log ++ leave f (Noted note) ∷ [] in
-    let e : written ≡ now = ap (λ (z : List Event). z ++ leave f (Noted note) ∷ []) (sym same) in
+    let written : List Exchange = (before ++ claimed (Room room) ∷ []) ++ leave f (Noted note) ∷ [] in
+    let now : List Exchange = log ++ leave f (Noted note) ∷ [] in
+    let e : written ≡ now = ap (λ (z : List Exchange). z ++ leave f (Noted note) ∷ []) (sym same) in
     left_solved task s t f fs note here.before now here.below
     (over_as task (path_of task fs) f.place here.before (Ends (Solved note)) (Ends (Solved note)) written now
     (over_by (Below task fs f.place) task f.place (path_of task fs) f before here (Made room note) (solves, made)) refl e) returns
 leaves_it task s t f fs (Open numbers) log (here, gives, same) returns =
-    let written : List Event = log ++ leave f (Count (own task f)) ∷ [] in
-    let now : List Event = log ++ leave f (Count numbers) ∷ [] in
+    let written : List Exchange = log ++ leave f (Count (own task f)) ∷ [] in
+    let now : List Exchange = log ++ leave f (Count numbers) ∷ [] in
     let e : written ≡ now = ap (λ (z : Numbers). log ++ leave f (Count z) ∷ []) (sym same) in
     left_open task s t f fs numbers here.before now here.below
     (over_as task (path_of task fs) f.place here.before (Ends (Open (own task f))) (Ends (Open numbers)) written now
     (over_by (Below task fs f.place) task f.place (path_of task fs) f log here Passed gives) (ap (λ (z : Numbers). Ends (Open z)) (sym same)) e) returns
 
 -- The note is posted.
-posted : (task : Task) (note : Derivation) (log : List Event) → StandsAt task (Posting (Some note)) [] log
+posted : (task : Task) (note : Derivation) (log : List Exchange) → StandsAt task (Posting (Some note)) [] log
     → StandsAt task (Winding Posted) [] (log ++ (Post note, Some PostedIt) ∷ [])
 posted task note log over = record {
   visit = over.visit;
   is_visit = over.is;
   ends = subst (λ (z : Ending). EndsLog z (visit_on task [] (root task) over.visit) (log ++ (Post note, Some PostedIt) ∷ []) Posted) (sym over.end)
-      (inl (ap (λ (z : List Event). z ++ (Post note, Some PostedIt) ∷ []) (sym over.log_is), refl));
+      (inl (ap (λ (z : List Exchange). z ++ (Post note, Some PostedIt) ∷ []) (sym over.log_is), refl));
 }
 
 -- The innermost position is left in winding up.
-unwinds : (task : Task) (end : WorkEnd) (f : Visiting) (fs : List Visiting) (log : List Event) → WindsUp task end (f ∷ fs) log
+unwinds : (task : Task) (end : WorkEnd) (f : FrameView) (fs : List FrameView) (log : List Exchange) → WindsUp task end (f ∷ fs) log
     → StandsAt task (Winding end) fs (log ++ leave f Nothing ∷ [])
 unwinds task end f fs log (reason, ends, over) =
     winding task end fs (log ++ leave f Nothing ∷ []) (
@@ -322,7 +322,7 @@ unwinds task end f fs log (reason, ends, over) =
     )
 
 -- An answer comes.
-told_of : (task : Task) (stage : Stage) (fs : List Visiting) (visits claims : ℕ) (answer : Answer) (t : State) (log : List Event) → StandsAt task stage fs log
+told_of : (task : Task) (stage : Stage) (fs : List FrameView) (visits claims : ℕ) (answer : Reply) (t : State) (log : List Exchange) → StandsAt task stage fs log
     → FitsAt task (the_state stage fs visits claims) stage answer → LeadsAt task (the_state stage fs visits claims) stage answer t
     → Stands task t (log ++ (asks_at stage fs, Some answer) ∷ [])
 told_of task (Polling entry) fs visits claims (Polled true) t log h fits leads =
@@ -359,24 +359,24 @@ told_of task (Winding end) (f ∷ fs) visits claims LeftIt t log h fits leads =
 told_of task stage fs visits claims answer t log h fits leads = absurd fits
 
 -- A note that is made isn't too high.
-made_low : (task : Task) (f : Visiting) (note : Derivation) → IsMade task f note → highest (notes_under (node_in task f) f.children) + 1 ≤ 4096
+made_low : (task : Task) (f : FrameView) (note : Derivation) → IsMade task f note → highest (notes_under (node_in task f) f.children) + 1 ≤ 4096
 made_low task f (derived step notes) made =
     let valid = made.valid.1 in
     let same = ap highest made.under in
     omega (arith, valid.height, valid.low, same)
 
 -- It is starved.
-starving : (task : Task) (stage : Stage) (fs : List Visiting) (visits claims : ℕ) (log : List Event) → StandsAt task stage fs log
+starving : (task : Task) (stage : Stage) (fs : List FrameView) (visits claims : ℕ) (log : List Exchange) → StandsAt task stage fs log
     → Stands task (starve_at (the_state stage fs visits claims) stage) log
 starving task (Polling entry) fs visits claims log h = wound_early task fs (place_by task fs entry) log NoMemory Unpolled h tt refl
 starving task (Drawing entry) fs visits claims log (before, below, same) =
-    subst (λ (z : List Event). StandsAt task (Winding NoMemory) (entered_ones fs) z) (sym same)
+    subst (λ (z : List Exchange). StandsAt task (Winding NoMemory) (entered_ones fs) z) (sym same)
     (wound_early task fs (place_by task fs entry) before NoMemory Undrawn below tt refl)
 starving task Entering [] visits claims log h = absurd h
 starving task Entering (f ∷ fs) visits claims log (before, unit, below, is, same) =
-    subst (λ (z : Visiting). StandsAt task (Winding NoMemory) (entered_ones (z ∷ fs)) log) (sym is)
+    subst (λ (z : FrameView). StandsAt task (Winding NoMemory) (entered_ones (z ∷ fs)) log) (sym is)
     (wound task fs f.place before (drawn_on before unit) NoMemory below (record { visit = Unentered unit; is = tt; end = refl; log_is = refl })
-    (entered_ones (begun f.place ∷ fs)) log (ap₂ (λ (z more : List Event). z ++ more) (sym same) (sym (leaves_begun f.place fs))))
+    (entered_ones (begun f.place ∷ fs)) log (ap₂ (λ (z more : List Exchange). z ++ more) (sym same) (sym (leaves_begun f.place fs))))
 starving task (Looking place) [] visits claims log h = absurd h
 starving task (Looking place) (f ∷ fs) visits claims log (here, looks) = cut_here task f fs log here
 starving task Claiming [] visits claims log h = absurd h
@@ -385,7 +385,7 @@ starving task (Leaving left) [] visits claims log h = absurd h
 starving task (Leaving (Open numbers)) (f ∷ fs) visits claims log (here, gives, same) = cut_here task f fs log here
 starving task (Leaving (Solved note)) (f ∷ fs) visits claims log (before, room, here, solves, made, same) =
     cut_with task f fs before NoMemory (Unmade room NoMemory) log here (solves, made_low task f note made) refl
-    (ap (λ (z : List Event). z ++ leave f Nothing ∷ []) (sym same))
+    (ap (λ (z : List Exchange). z ++ leave f Nothing ∷ []) (sym same))
 starving task (Posting None) fs visits claims log h = absurd h
 starving task (Posting (Some note)) (f ∷ fs) visits claims log h = absurd h
 starving task (Posting (Some note)) [] visits claims log over = record {
@@ -397,11 +397,11 @@ starving task (Winding end) [] visits claims log h = h
 starving task (Winding end) (f ∷ fs) visits claims log (reason, ends, over) = (reason, inr refl, over)
 
 -- A look is refused memory.
-dark : (task : Task) (stage : Stage) (fs : List Visiting) (visits claims : ℕ) (log : List Event) → StandsAt task stage fs log → IsLooking stage
+dark : (task : Task) (stage : Stage) (fs : List FrameView) (visits claims : ℕ) (log : List Exchange) → StandsAt task stage fs log → IsLooking stage
     → Stands task (starve_at (the_state stage fs visits claims) stage) (log ++ (asks_at stage fs, None) ∷ [])
 dark task (Looking place) [] visits claims log h looking = absurd h
 dark task (Looking place) (f ∷ fs) visits claims log (here, (child, looks)) looking =
-    let written : List Event = log ++ (ask_look (slice_get f.children place), None) ∷ [] in
+    let written : List Exchange = log ++ (ask_look (slice_get f.children place), None) ∷ [] in
     cut_with task f fs log NoMemory (Blind place child) written here looks refl
     (ap (λ (one : Option Child). (log ++ (ask_look one, None) ∷ []) ++ leave f Nothing ∷ []) (sym looks.there))
 dark task stage fs visits claims log h looking = absurd looking
@@ -409,7 +409,7 @@ dark task stage fs visits claims log h looking = absurd looking
 -- 5. WHATEVER HAPPENS.
 
 -- Something happens to the worker.
-stands_on : (task : Task) (s : State) (happening : Happening) (t : State) (log : List Event) → Stands task s log → Happens task s happening t
+stands_on : (task : Task) (s : State) (happening : Happening) (t : State) (log : List Exchange) → Stands task s log → Happens task s happening t
     → Stands task t (log ++ event happening)
 stands_on task s (Told request answer) t log h (is, fits, leads) =
     subst (λ (z : Request). Stands task t (log ++ (z, Some answer) ∷ [])) (sym is) (told_of task s.stage s.frames s.visits s.claims answer t log h fits leads)
@@ -420,7 +420,7 @@ stands_on task s Starved t log h starved =
     as_log task t log (log ++ []) (sym (append-nil log)) (as_state task (starve s) t log starved (starving task s.stage s.frames s.visits s.claims log h))
 
 -- A worker that stands where it does by its log still does after all that happens.
-pub stands_after : (task : Task) (happenings : List Happening) (s t : State) (log : List Event) → Stands task s log → Runs task s happenings t
+pub stands_after : (task : Task) (happenings : List Happening) (s t : State) (log : List Exchange) → Stands task s log → Runs task s happenings t
     → Stands task t (log ++ events happenings)
 stands_after task [] s t log h runs = as_log task t log (log ++ []) (sym (append-nil log)) (as_state task s t log (sym runs) h)
 stands_after task (happening ∷ happenings) s t log h (u, happens, runs) =
@@ -428,8 +428,8 @@ stands_after task (happening ∷ happenings) s t log h (u, happens, runs) =
     (stands_after task happenings u t (log ++ event happening) (stands_on task s happening u log h happens) runs)
 
 -- A worker that winds up is at the beginning of a visit log: what is left is to leave all positions.
-begun_winding : (task : Task) (end : WorkEnd) (fs : List Visiting) (log : List Event) → StandsAt task (Winding end) fs log → IsBegunLog task log
-begun_winding task end [] log h = record { rest = []; end = end; whole = subst (λ (z : List Event). IsVisitLog task z end) (sym (append-nil log)) h }
+begun_winding : (task : Task) (end : WorkEnd) (fs : List FrameView) (log : List Exchange) → StandsAt task (Winding end) fs log → IsBegunLog task log
+begun_winding task end [] log h = record { rest = []; end = end; whole = subst (λ (z : List Exchange). IsVisitLog task z end) (sym (append-nil log)) h }
 begun_winding task end (f ∷ fs) log (reason, ends, over) = record {
   rest = leaves (f ∷ fs);
   end = end;
@@ -451,12 +451,12 @@ winds_starved s (Leaving left) = (NoMemory, refl)
 winds_starved s (Posting posted) = (NoMemory, refl)
 winds_starved s (Winding end) = by_frames s.frames
   where
-    by_frames : (fs : List Visiting) → (reason : WorkEnd) × ((starve_winding s end fs).stage ≡ Winding reason)
+    by_frames : (fs : List FrameView) → (reason : WorkEnd) × ((starve_winding s end fs).stage ≡ Winding reason)
     by_frames [] = (end, refl)
     by_frames (f ∷ fs) = (NoMemory, refl)
 
 -- Wherever a worker stands, its log is the beginning of a visit log: the one that it would write if it were starved now.
-begun_stands : (task : Task) (s : State) (log : List Event) → Stands task s log → IsBegunLog task log
+begun_stands : (task : Task) (s : State) (log : List Exchange) → Stands task s log → IsBegunLog task log
 begun_stands task s log h =
     let winds = winds_starved s s.stage in
     begun_winding task winds.0 (starve s).frames log
@@ -467,7 +467,7 @@ pub begun_log : LogsBegin
 begun_log task happenings s runs = begun_stands task s (events happenings) (stands_after task happenings (start task) s [] (refl, refl) runs)
 
 -- A worker that has ended stands at the end of a visit log.
-whole_at : (task : Task) (stage : Stage) (fs : List Visiting) (end : WorkEnd) (log : List Event) → StandsAt task stage fs log → end_at stage fs ≡ Some end
+whole_at : (task : Task) (stage : Stage) (fs : List FrameView) (end : WorkEnd) (log : List Exchange) → StandsAt task stage fs log → end_at stage fs ≡ Some end
     → IsVisitLog task log end
 whole_at task (Winding reason) [] end log h ended =
     let same : reason ≡ end = cc in

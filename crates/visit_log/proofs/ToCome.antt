@@ -16,7 +16,7 @@ use Rattle.notes.specs.declared.words.Kept.{Kept}
 use Rattle.notes.specs.declared.words.Seen.{Seen}
 use Rattle.notes.specs.declared.words.Seen.TheVariants.{New, Open as Known, Solved as Shown}
 use Rattle.notes.specs.declared.words.Draw.TheVariants.{Go, Done, Spent as AllDrawn}
-use Rattle.notes.specs.declared.words.Claim.TheVariants.{Room, NoRoom as Full}
+use Rattle.notes.specs.declared.words.RoomAnswer.TheVariants.{Room, NoRoom as Full}
 use Rattle.visit_log.specs.declared.parts.Child.{Child}
 use Rattle.visit_log.specs.declared.parts.Entry.{Entry}
 use Rattle.visit_log.specs.declared.parts.Left.{Left}
@@ -25,9 +25,9 @@ use Rattle.visit_log.specs.declared.parts.Stage.{Stage}
 use Rattle.visit_log.specs.declared.parts.Stage.TheVariants.{Polling, Drawing, Entering, Looking, Claiming, Leaving, Posting, Winding}
 use Rattle.visit_log.specs.declared.words.WorkEnd.{WorkEnd}
 use Rattle.visit_log.specs.declared.words.WorkEnd.TheVariants.{NoMemory}
-use Rattle.visit_log.specs.declared.words.Answer.{Answer}
-use Rattle.visit_log.specs.declared.words.Answer.TheVariants.{Poll as Polled, Draw as Drew, Claim as Claimed, Look as Looked, Enter as Entered, Leave as LeftIt, Post as PostedIt}
-use Rattle.visit_log.specs.Frame.{Task, attacker_in, Visiting, opened}
+use Rattle.visit_log.specs.declared.words.Reply.{Reply}
+use Rattle.visit_log.specs.declared.words.Reply.TheVariants.{Poll as Polled, Draw as Drew, Claim as Claimed, Look as Looked, Enter as Entered, Leave as LeftIt, Post as PostedIt}
+use Rattle.visit_log.specs.Frame.{Task, attacker_in, FrameView, opened}
 use Rattle.visit_log.specs.Children.{AreMoves, move_to, is_fresh}
 use Rattle.visit_log.specs.Round.{Sight, told, looked, staled, visited, came_back, node_in}
 use Rattle.visit_log.specs.Machine.{State, at_stage, wind, starve_at, Settles, GoesOn, Begins, Opens, Sees, Makes, Returns, keep, one_unit, one_claim, rest_of, IsMore, LeadsAt, FitsAt}
@@ -78,24 +78,24 @@ told_fresh child New start = refl
 told_fresh child (Known numbers below) start = refl
 told_fresh child (Shown note) start = refl
 
-looked_less : (f : Visiting) (sight : Sight) (place : ℕ) → sight.place ≡ place → IsLookedAt f place
+looked_less : (f : FrameView) (sight : Sight) (place : ℕ) → sight.place ≡ place → IsLookedAt f place
     → unseen (looked f sight).children + 1 ≡ unseen f.children
 looked_less f sight place e at =
     counts_less is_unseen f.children sight.place at.child (told sight.child sight.seen sight.start)
     (ap (λ (i : ℕ). slice_get f.children i) e ∙ at.there) (ap not at.unseen) (told_fresh sight.child sight.seen sight.start)
 
-back_length : (g : Visiting) (place : ℕ) (child : Child) (left : Left) → length (came_back g place child left).children ≡ length g.children
+back_length : (g : FrameView) (place : ℕ) (child : Child) (left : Left) → length (came_back g place child left).children ≡ length g.children
 back_length g place child left = length-set (map staled g.children) place (visited child left) ∙ length-map g.children staled
 
 -- 3. WHAT AN ANSWER LEAVES TO COME.
 
 -- what is still to come at a stage, with these visits going on, after so many units
-abbrev comes : Stage → List Visiting → ℕ → ℕ
+abbrev comes : Stage → List FrameView → ℕ → ℕ
 comes st fs visits = 30000 * (MOST_EXPANSIONS - visits) + 13776 * length fs + cost st fs
 
-settles_cost : (task : Task) (f : Visiting) (st : Stage) (g : Visiting) (fs : List Visiting) → Settles task f st g
+settles_cost : (task : Task) (f : FrameView) (st : Stage) (g : FrameView) (fs : List FrameView) → Settles task f st g
     → cost st (g ∷ fs) ≤ 3 + unseen f.children
-settles_cost task f (Looking place) g fs h = let e = ap (λ (z : Visiting). unseen z.children) h.1 in omega (arith, e)
+settles_cost task f (Looking place) g fs h = let e = ap (λ (z : FrameView). unseen z.children) h.1 in omega (arith, e)
 settles_cost task f Claiming g fs h = omega arith
 settles_cost task f (Leaving (Open numbers)) g fs h = omega arith
 settles_cost task f (Polling entry) g fs h = omega arith
@@ -105,7 +105,7 @@ settles_cost task f Entering g fs h = absurd h
 settles_cost task f (Posting posted) g fs h = absurd h
 settles_cost task f (Winding end) g fs h = absurd h
 
-goes_on : (task : Task) (s t : State) (f : Visiting) (fs : List Visiting) → GoesOn task s f fs t
+goes_on : (task : Task) (s t : State) (f : FrameView) (fs : List FrameView) → GoesOn task s f fs t
     → to_come t ≤ 30000 * (MOST_EXPANSIONS - s.visits) + 13776 * suc (length fs) + (3 + unseen f.children)
 goes_on task s t f fs on = let e = ap to_come on.is in let c = settles_cost task f t.stage on.next fs on.settles in omega (arith, e, c)
 
@@ -119,7 +119,7 @@ begins task s t entry under h = elim h [
   | inr lost ↦ (let w = winds (one_unit s) t NoMemory lost in omega (arith, w, under))
 ]
 
-opens : OrdersWithin → (task : Task) (s t : State) (fs : List Visiting) (kept : Kept) → Opens task s fs kept t → to_come t < comes Entering fs s.visits
+opens : OrdersWithin → (task : Task) (s t : State) (fs : List FrameView) (kept : Kept) → Opens task s fs kept t → to_come t < comes Entering fs s.visits
 opens within task s t [] kept h = absurd h
 opens within task s t (f ∷ fs) kept h = elim h [
   | inl listed ↦ (
@@ -130,14 +130,14 @@ opens within task s t (f ∷ fs) kept h = elim h [
   | inr lost ↦ (let w = winds (at_stage s Entering (keep f kept ∷ fs)) t NoMemory lost in omega (arith, w))
 ]
 
-sees : (task : Task) (s t : State) (place : ℕ) (fs : List Visiting) (seen : Seen) → IsSoundAt task (Looking place) fs → Sees task s place fs seen t
+sees : (task : Task) (s t : State) (place : ℕ) (fs : List FrameView) (seen : Seen) → IsSoundAt task (Looking place) fs → Sees task s place fs seen t
     → to_come t < comes (Looking place) fs s.visits
 sees task s t place [] seen sound h = absurd h
 sees task s t place (f ∷ fs) seen sound h =
     let on = goes_on task s t (looked f h.0) fs h.5 in
     omega (arith, on, looked_less f h.0 place h.1 sound.1)
 
-makes : (task : Task) (s t : State) (fs : List Visiting) → Makes task s fs t → to_come t < comes Claiming s.frames s.visits
+makes : (task : Task) (s t : State) (fs : List FrameView) → Makes task s fs t → to_come t < comes Claiming s.frames s.visits
 makes task s t [] h = absurd h
 makes task s t (f ∷ fs) h = elim h [
   | inl made ↦ (let e = ap to_come made.2 in omega (arith, e))
@@ -145,7 +145,7 @@ makes task s t (f ∷ fs) h = elim h [
 ]
 
 -- the visit of a child is over: the visit below goes on
-comes_back : OrdersWithin → (task : Task) (s t : State) (g : Visiting) (gs : List Visiting) (left : Left) → IsSoundVisit task g gs
+comes_back : OrdersWithin → (task : Task) (s t : State) (g : FrameView) (gs : List FrameView) (left : Left) → IsSoundVisit task g gs
     → (child : Child) → GoesOn task s (came_back g g.chosen child left) gs t → to_come t < comes (Leaving left) (g ∷ g ∷ gs) s.visits
 comes_back within task s t g gs left sound child h =
     let back = came_back g g.chosen child left in
@@ -153,7 +153,7 @@ comes_back within task s t g gs left sound child h =
     let most = children_length within (node_in task g) (attacker_in task) g.place.position g.children sound.listed.moves in
     omega (arith, on, unseen_length back.children, back_length g g.chosen child left, most)
 
-returns : OrdersWithin → (task : Task) (s t : State) (fs : List Visiting) (left : Left) → IsSoundAt task (Leaving left) fs
+returns : OrdersWithin → (task : Task) (s t : State) (fs : List FrameView) (left : Left) → IsSoundAt task (Leaving left) fs
     → Returns task s (rest_of fs) left t → to_come t < comes (Leaving left) fs s.visits
 returns within task s t [] left sound h = absurd sound
 returns within task s t (f ∷ []) (Solved note) sound h = let e = ap to_come h in omega (arith, e)
@@ -161,12 +161,12 @@ returns within task s t (f ∷ []) (Open numbers) sound h = absurd h
 returns within task s t (f ∷ g ∷ gs) (Solved note) sound h = comes_back within task s t g gs (Solved note) sound.0.1.0 h.0 h.2
 returns within task s t (f ∷ g ∷ gs) (Open numbers) sound h = comes_back within task s t g gs (Open numbers) sound.0.1.0 h.0 h.2
 
-unwinds : (s t : State) (fs : List Visiting) (end : WorkEnd) → IsMore fs → t ≡ at_stage s (Winding end) (rest_of fs)
+unwinds : (s t : State) (fs : List FrameView) (end : WorkEnd) → IsMore fs → t ≡ at_stage s (Winding end) (rest_of fs)
     → to_come t < comes (Winding end) fs s.visits
 unwinds s t [] end more e = absurd more
 unwinds s t (f ∷ fs) end more e = let same = ap to_come e in omega (arith, same)
 
-answers : OrdersWithin → (task : Task) (s t : State) (st : Stage) (answer : Answer) → IsSoundAt task st s.frames → FitsAt task s st answer
+answers : OrdersWithin → (task : Task) (s t : State) (st : Stage) (answer : Reply) → IsSoundAt task st s.frames → FitsAt task s st answer
     → LeadsAt task s st answer t → to_come t < comes st s.frames s.visits
 answers within task s t (Polling entry) (Polled true) sound fits h = let w = winds s t _ h in omega (arith, w)
 answers within task s t (Polling entry) (Polled false) sound fits h = let e = ap to_come h in omega (arith, e)

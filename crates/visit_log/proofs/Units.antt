@@ -7,16 +7,16 @@ use Rattle.notes.specs.declared.words.Kept.{Kept}
 use Rattle.notes.specs.declared.words.Kept.TheVariants.{Slot, Unkept}
 use Rattle.notes.specs.declared.words.Seen.{Seen}
 use Rattle.notes.specs.declared.words.Draw.TheVariants.{Go, Done, Spent as AllDrawn}
-use Rattle.notes.specs.declared.words.Claim.TheVariants.{Room, NoRoom as Full}
+use Rattle.notes.specs.declared.words.RoomAnswer.TheVariants.{Room, NoRoom as Full}
 use Rattle.visit_log.specs.declared.parts.Left.{Left}
 use Rattle.visit_log.specs.declared.parts.Left.TheVariants.{Solved, Open}
 use Rattle.visit_log.specs.declared.parts.Stage.{Stage}
 use Rattle.visit_log.specs.declared.parts.Stage.TheVariants.{Polling, Drawing, Entering, Looking, Claiming, Leaving, Posting, Winding}
 use Rattle.visit_log.specs.declared.words.WorkEnd.{WorkEnd}
 use Rattle.visit_log.specs.declared.words.WorkEnd.TheVariants.{NoMemory}
-use Rattle.visit_log.specs.declared.words.Answer.{Answer}
-use Rattle.visit_log.specs.declared.words.Answer.TheVariants.{Poll as Polled, Draw as Drew, Claim as Claimed, Look as Looked, Enter as Entered, Leave as LeftIt, Post as PostedIt}
-use Rattle.visit_log.specs.Frame.{Task, Visiting}
+use Rattle.visit_log.specs.declared.words.Reply.{Reply}
+use Rattle.visit_log.specs.declared.words.Reply.TheVariants.{Poll as Polled, Draw as Drew, Claim as Claimed, Look as Looked, Enter as Entered, Leave as LeftIt, Post as PostedIt}
+use Rattle.visit_log.specs.Frame.{Task, FrameView}
 use Rattle.visit_log.specs.Machine.{State, at_stage, start, bare, entered_ones, wind, starve_at, starve_winding, GoesOn, Opens, Sees, Makes, Returns, keep, one_unit, one_claim, rest_of, LeadsAt, FitsAt}
 use Rattle.visit_log.specs.Run.{Happening, Told, Dark, Starved, Happens, Runs}
 use Rattle.visit_log.specs.Counts.{slots_in, own_size}
@@ -25,7 +25,7 @@ use Rattle.visit_log.specs.Laws.{WorkersAreCounted}
 -- 1. LENGTHS.
 
 -- No more visits are wound up than were going on.
-pub length-entered : (fs : List Visiting) → length (entered_ones fs) ≤ length fs
+pub length-entered : (fs : List FrameView) → length (entered_ones fs) ≤ length fs
 length-entered [] = omega arith
 length-entered (f ∷ fs) = by_kept (is_some f.kept)
   where
@@ -34,7 +34,7 @@ length-entered (f ∷ fs) = by_kept (is_some f.kept)
     by_kept false = omega (arith, length-map fs bare)
 
 -- no more slots are entered than visits are going on
-size_length : (fs : List Visiting) → own_size fs ≤ length fs
+size_length : (fs : List FrameView) → own_size fs ≤ length fs
 size_length [] = omega arith
 size_length (f ∷ fs) = let one = by_kept f.kept in omega (arith, one, size_length fs)
   where
@@ -43,14 +43,14 @@ size_length (f ∷ fs) = let one = by_kept f.kept in omega (arith, one, size_len
     by_kept (Some Unkept) = omega arith
     by_kept (Some (Slot number)) = omega arith
 
-rest_length : (fs : List Visiting) → length (rest_of fs) ≤ length fs
+rest_length : (fs : List FrameView) → length (rest_of fs) ≤ length fs
 rest_length [] = omega arith
 rest_length (f ∷ fs) = omega arith
 
 -- 2. THE UNITS COVER IT. Each visit that is going on may still ask for room, but for one that has asked already.
 
 -- how many visits may still ask for room
-abbrev unclaimed : Stage → List Visiting → ℕ
+abbrev unclaimed : Stage → List FrameView → ℕ
 unclaimed (Leaving (Solved note)) fs = length (rest_of fs)
 unclaimed (Leaving (Open numbers)) fs = length fs
 unclaimed (Polling entry) fs = length fs
@@ -61,7 +61,7 @@ unclaimed Claiming fs = length fs
 unclaimed (Posting posted) fs = 0
 unclaimed (Winding end) fs = 0
 
-unclaimed_length : (st : Stage) (fs : List Visiting) → unclaimed st fs ≤ length fs
+unclaimed_length : (st : Stage) (fs : List FrameView) → unclaimed st fs ≤ length fs
 unclaimed_length (Leaving (Solved note)) fs = rest_length fs
 unclaimed_length (Leaving (Open numbers)) fs = omega arith
 unclaimed_length (Polling entry) fs = omega arith
@@ -73,7 +73,7 @@ unclaimed_length (Posting posted) fs = omega arith
 unclaimed_length (Winding end) fs = omega arith
 
 -- the units cover the visits that are going on, and the room that was asked for and may still be
-record IsCovered (st : Stage) (fs : List Visiting) (units room : ℕ) : Type 0 where
+record IsCovered (st : Stage) (fs : List FrameView) (units room : ℕ) : Type 0 where
   pub frames : length fs ≤ units
   pub claims : room + unclaimed st fs ≤ units
   pub most : units ≤ MOST_EXPANSIONS
@@ -87,12 +87,12 @@ winds_covered : (s t : State) (end : WorkEnd) → length s.frames ≤ s.visits �
 winds_covered s t end frames claims most e = let fewer = length-entered s.frames in
     subst Covers (sym e) (record { frames = omega (arith, fewer, frames); claims = omega (arith, claims); most = most })
 
-goes_covered : (task : Task) (s t : State) (f : Visiting) (fs : List Visiting) → s.claims + suc (length fs) ≤ s.visits → s.visits ≤ MOST_EXPANSIONS
+goes_covered : (task : Task) (s t : State) (f : FrameView) (fs : List FrameView) → s.claims + suc (length fs) ≤ s.visits → s.visits ≤ MOST_EXPANSIONS
     → GoesOn task s f fs t → Covers t
 goes_covered task s t f fs claims most on = let fewer = unclaimed_length t.stage (on.next ∷ fs) in
     subst Covers (sym on.is) (record { frames = omega (arith, claims); claims = omega (arith, fewer, claims); most = most })
 
-opens_covered : (task : Task) (s t : State) (fs : List Visiting) (kept : Kept) → s.claims + length fs ≤ s.visits → s.visits ≤ MOST_EXPANSIONS
+opens_covered : (task : Task) (s t : State) (fs : List FrameView) (kept : Kept) → s.claims + length fs ≤ s.visits → s.visits ≤ MOST_EXPANSIONS
     → Opens task s fs kept t → Covers t
 opens_covered task s t [] kept claims most h = absurd h
 opens_covered task s t (f ∷ fs) kept claims most h = elim h [
@@ -100,23 +100,23 @@ opens_covered task s t (f ∷ fs) kept claims most h = elim h [
   | inr lost ↦ winds_covered (at_stage s Entering (keep f kept ∷ fs)) t NoMemory (omega (arith, claims)) (omega (arith, claims)) most lost
 ]
 
-sees_covered : (task : Task) (s t : State) (place : ℕ) (fs : List Visiting) (seen : Seen) → s.claims + length fs ≤ s.visits → s.visits ≤ MOST_EXPANSIONS
+sees_covered : (task : Task) (s t : State) (place : ℕ) (fs : List FrameView) (seen : Seen) → s.claims + length fs ≤ s.visits → s.visits ≤ MOST_EXPANSIONS
     → Sees task s place fs seen t → Covers t
 sees_covered task s t place [] seen claims most h = absurd h
 sees_covered task s t place (f ∷ fs) seen claims most h = goes_covered task s t _ fs claims most h.5
 
-makes_covered : (task : Task) (s t : State) (fs : List Visiting) → fs ≡ s.frames → s.claims + length fs ≤ s.visits → s.visits ≤ MOST_EXPANSIONS
+makes_covered : (task : Task) (s t : State) (fs : List FrameView) → fs ≡ s.frames → s.claims + length fs ≤ s.visits → s.visits ≤ MOST_EXPANSIONS
     → Makes task s fs t → Covers t
 makes_covered task s t [] e claims most h = absurd h
 makes_covered task s t (f ∷ fs) e claims most h =
     let all = ap length e in
-    let rest = ap (λ (z : List Visiting). length (rest_of z)) e in
+    let rest = ap (λ (z : List FrameView). length (rest_of z)) e in
     elim h [
       | inl made ↦ subst Covers (sym made.2) (record { frames = omega (arith, all, claims); claims = omega (arith, rest, claims); most = most })
       | inr refused ↦ winds_covered (one_claim s) t _ (omega (arith, all, claims)) (omega (arith, claims)) most refused.2
     ]
 
-returns_covered : (task : Task) (s t : State) (fs : List Visiting) (left : Left) → s.claims + length fs ≤ s.visits → s.visits ≤ MOST_EXPANSIONS
+returns_covered : (task : Task) (s t : State) (fs : List FrameView) (left : Left) → s.claims + length fs ≤ s.visits → s.visits ≤ MOST_EXPANSIONS
     → Returns task s fs left t → Covers t
 returns_covered task s t [] (Solved note) claims most h =
     subst Covers (sym h) (record { frames = omega arith; claims = omega (arith, claims); most = most })
@@ -124,7 +124,7 @@ returns_covered task s t [] (Open numbers) claims most h = absurd h
 returns_covered task s t (g ∷ gs) (Solved note) claims most h = goes_covered task s t _ gs claims most h.2
 returns_covered task s t (g ∷ gs) (Open numbers) claims most h = goes_covered task s t _ gs claims most h.2
 
-answers_covered : (task : Task) (s t : State) (st : Stage) (answer : Answer) → IsCovered st s.frames s.visits s.claims → FitsAt task s st answer
+answers_covered : (task : Task) (s t : State) (st : Stage) (answer : Reply) → IsCovered st s.frames s.visits s.claims → FitsAt task s st answer
     → LeadsAt task s st answer t → Covers t
 answers_covered task s t (Polling entry) (Polled true) c fits h =
     winds_covered s t _ c.frames (omega (arith, c.claims)) c.most h
@@ -155,7 +155,7 @@ answers_covered task s t st answer c fits h = absurd h
 starve_covered : (s : State) (st : Stage) → IsCovered st s.frames s.visits s.claims → Covers (starve_at s st)
 starve_covered s (Winding end) c = by_frames s.frames c.frames
   where
-    by_frames : (fs : List Visiting) → length fs ≤ s.visits → Covers (starve_winding s end fs)
+    by_frames : (fs : List FrameView) → length fs ≤ s.visits → Covers (starve_winding s end fs)
     by_frames [] frames = record { frames = frames; claims = c.claims; most = c.most }
     by_frames (f ∷ fs) frames = record { frames = frames; claims = c.claims; most = c.most }
 starve_covered s (Polling entry) c = winds_covered s _ NoMemory c.frames (omega (arith, c.claims)) c.most refl

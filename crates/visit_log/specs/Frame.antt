@@ -45,7 +45,7 @@ pub record Place : Type 0 where
 
 -- A visit that is going on: what it is of, what entering it was answered (none before that), the successors, in the order of moves (none
 -- before they are listed), and at which place, from 0, the one stands that is being visited, or was last.
-pub record Visiting : Type 0 where
+pub record FrameView : Type 0 where
   pub place : Place
   pub kept : Option Kept
   pub children : List Child
@@ -68,17 +68,17 @@ abbrev pub root : Task → Place
 root task = record { position = task.problem; key = the_key task.problem; limits = no_limits; numbers = one_and_one }
 
 -- A visit before its position is entered.
-abbrev pub begun : Place → Visiting
+abbrev pub begun : Place → FrameView
 begun p = record { place = p; kept = None; children = []; chosen = 0 }
 
 -- A visit whose position is entered and whose successors are listed.
-abbrev pub opened : Place → Kept → List Child → Visiting
+abbrev pub opened : Place → Kept → List Child → FrameView
 opened p kept children = record { place = p; kept = Some kept; children = children; chosen = 0 }
 
 -- The visit with other children.
-abbrev pub with_children : Visiting → List Child → Visiting
+abbrev pub with_children : FrameView → List Child → FrameView
 with_children f children = record { place = f.place; kept = f.kept; children = children; chosen = f.chosen }
 
 -- The visit that goes on to the child at a place.
-abbrev pub choose : Visiting → ℕ → Visiting
+abbrev pub choose : FrameView → ℕ → FrameView
 choose f place = record { place = f.place; kept = f.kept; children = f.children; chosen = place }

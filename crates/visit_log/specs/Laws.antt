@@ -5,19 +5,19 @@ use Rattle.board_core.specs.declared.keys.Key.{Key}
 use Rattle.notes.specs.Derivation.{Derivation}
 use Rattle.notes.specs.declared.words.Kept.{Kept}
 use Rattle.notes.specs.declared.words.Draw.TheVariants.{Done, Spent as AllDrawn}
-use Rattle.notes.specs.declared.words.Claim.TheVariants.{NoRoom as Full}
+use Rattle.notes.specs.declared.words.RoomAnswer.TheVariants.{NoRoom as Full}
 use Rattle.visit_log.specs.declared.parts.Child.{Child}
 use Rattle.visit_log.specs.declared.parts.Left.{Left}
 use Rattle.visit_log.specs.declared.parts.Left.TheVariants.{Solved}
 use Rattle.visit_log.specs.declared.words.WorkEnd.{WorkEnd}
 use Rattle.visit_log.specs.declared.words.WorkEnd.TheVariants.{Posted, Spent, NoRoom, TooHigh, NoMemory, Stopped}
 use Rattle.visit_log.specs.declared.words.Request.TheVariants.{Post, End}
-use Rattle.visit_log.specs.declared.words.Answer.{Answer}
-use Rattle.visit_log.specs.declared.words.Answer.TheVariants.{Post as PostedIt}
-use Rattle.visit_log.specs.Frame.{Task, attacker_in, Visiting, opened}
+use Rattle.visit_log.specs.declared.words.Reply.{Reply}
+use Rattle.visit_log.specs.declared.words.Reply.TheVariants.{Post as PostedIt}
+use Rattle.visit_log.specs.Frame.{Task, attacker_in, FrameView, opened}
 use Rattle.visit_log.specs.Children.{AreChildren}
 use Rattle.visit_log.specs.Round.{MayShow, Tells, Sight, looked, came_back}
-use Rattle.visit_log.specs.Visit.{Event, IsVisitLog, polled, drew, claimed}
+use Rattle.visit_log.specs.Visit.{Exchange, IsVisitLog, polled, drew, claimed}
 use Rattle.visit_log.specs.Unmade.{EndsTooHigh}
 use Rattle.visit_log.specs.Machine.{State, start, asks, starve, end_of, path_of, Fits, LeadsTo}
 use Rattle.visit_log.specs.Run.{Happening, Runs, Happens, event, events, IsBegunLog}
@@ -35,11 +35,11 @@ LogsAreWhole = (task : Task) (happenings : List Happening) (s : State) (end : Wo
 
 -- A law: in a visit log each Leave leaves what was entered last and not left yet, and at its end everything is left.
 abbrev pub LogsAreBrackets : Type 0
-LogsAreBrackets = (task : Task) (log : List Event) (end : WorkEnd) → IsVisitLog task log end → AreBrackets [] log []
+LogsAreBrackets = (task : Task) (log : List Exchange) (end : WorkEnd) → IsVisitLog task log end → AreBrackets [] log []
 
 -- A law: room is asked for at most once a visit; so no more often in a visit log than units are given.
 abbrev pub OneClaimAVisit : Type 0
-OneClaimAVisit = (task : Task) (log : List Event) (end : WorkEnd) → IsVisitLog task log end → count_by asks_room log ≤ count_by gives_unit log
+OneClaimAVisit = (task : Task) (log : List Exchange) (end : WorkEnd) → IsVisitLog task log end → count_by asks_room log ≤ count_by gives_unit log
 
 -- A law: wherever a worker stands, what it knows is sound.
 abbrev pub WorkersAreSound : Type 0
@@ -55,22 +55,22 @@ AsksSound = (task : Task) (s : State) → IsTask task → IsSound task s → IsS
 
 -- A law: an event changes a sound worker's own slots by what it enters and leaves.
 abbrev pub SlotsMove : Type 0
-SlotsMove = (task : Task) (s t : State) (answer : Answer) (key : Key) (slot : ℕ) → IsSound task s
+SlotsMove = (task : Task) (s t : State) (answer : Reply) (key : Key) (slot : ℕ) → IsSound task s
     → Fits task s answer → LeadsTo task s answer t
     → own_slots t.frames key slot + leaves (asks s, Some answer) key slot ≡ own_slots s.frames key slot + enters (asks s, Some answer) key slot
 
 -- A law: and their number.
 abbrev pub SizesMove : Type 0
-SizesMove = (task : Task) (s t : State) (answer : Answer) → IsSound task s → Fits task s answer → LeadsTo task s answer t
+SizesMove = (task : Task) (s t : State) (answer : Reply) → IsSound task s → Fits task s answer → LeadsTo task s answer t
     → own_size t.frames + leaves_some (asks s, Some answer) ≡ own_size s.frames + enters_some (asks s, Some answer)
 
 -- A law: what a worker asks to leave is its own.
 abbrev pub LeavesOwn : Type 0
-LeavesOwn = (s : State) (answer : Answer) (key : Key) (slot : ℕ) → leaves (asks s, Some answer) key slot ≤ own_slots s.frames key slot
+LeavesOwn = (s : State) (answer : Reply) (key : Key) (slot : ℕ) → leaves (asks s, Some answer) key slot ≤ own_slots s.frames key slot
 
 -- A law: and it has entered a slot where it asks to leave one.
 abbrev pub LeavesSome : Type 0
-LeavesSome = (s : State) (answer : Answer) → leaves_some (asks s, Some answer) ≤ own_size s.frames
+LeavesSome = (s : State) (answer : Reply) → leaves_some (asks s, Some answer) ≤ own_size s.frames
 
 -- A law: starving changes no slots, units or room.
 pub record IsLeftAlone (s t : State) : Type 0 where
@@ -85,7 +85,7 @@ StarvingMovesNothing = (s : State) → IsLeftAlone s (starve s)
 
 -- A law: units and room are counted by the answers that give them.
 abbrev pub UnitsMove : Type 0
-UnitsMove = (task : Task) (s t : State) (answer : Answer) → Fits task s answer → LeadsTo task s answer t
+UnitsMove = (task : Task) (s t : State) (answer : Reply) → Fits task s answer → LeadsTo task s answer t
     → (t.visits ≡ s.visits + units_in answer) × (t.claims ≡ s.claims + rooms_in answer)
 
 -- What is counted of a worker: it has no more visits going on, and no more slots, than units, and no more room than units, of which there are at
@@ -107,18 +107,18 @@ LessToCome = (task : Task) (s t : State) (happening : Happening) → IsTask task
 
 -- A law: a visit of a sound place whose successors are listed anew is sound.
 abbrev pub OpenedIsSound : Type 0
-OpenedIsSound = (task : Task) (f : Visiting) (fs : List Visiting) (kept : Kept) (children : List Child) → IsSoundPlace task fs f.place
+OpenedIsSound = (task : Task) (f : FrameView) (fs : List FrameView) (kept : Kept) (children : List Child) → IsSoundPlace task fs f.place
     → AreChildren (attacker_in task) f.place.position (path_of task (f ∷ fs)) children → IsSoundVisit task (opened f.place kept children) fs
 
 -- A law: a look at a child that isn't on the path leaves a visit sound.
 abbrev pub LookedIsSound : Type 0
-LookedIsSound = (task : Task) (f : Visiting) (fs : List Visiting) (sight : Sight) → IsSoundVisit task f fs → IsLookedAt f sight.place
+LookedIsSound = (task : Task) (f : FrameView) (fs : List FrameView) (sight : Sight) → IsSoundVisit task f fs → IsLookedAt f sight.place
     → slice_get f.children sight.place ≡ Some sight.child → MayShow (attacker_in task) sight.child.key (path_of task (f ∷ fs)) sight.seen
     → Tells (attacker_in task) f.place.position sight.child.by sight.seen sight.start → IsSoundVisit task (looked f sight) fs
 
 -- A law: what comes back from the visit of a child leaves the visit sound.
 abbrev pub BackIsSound : Type 0
-BackIsSound = (task : Task) (f g : Visiting) (gs : List Visiting) (child : Child) (left : Left) → IsSoundVisit task f (g ∷ gs)
+BackIsSound = (task : Task) (f g : FrameView) (gs : List FrameView) (child : Child) (left : Left) → IsSoundVisit task f (g ∷ gs)
     → IsSoundVisit task g gs → slice_get g.children g.chosen ≡ Some child
     → ((note : Derivation) → left ≡ Solved note → IsNoteOf task f.place.position (path_of task (g ∷ gs)) note)
     → IsSoundVisit task (came_back g g.chosen child left) gs
@@ -135,7 +135,7 @@ AsksItsEnd = (task : Task) (happenings : List Happening) (s : State) (end : Work
 
 -- Why a worker of the task ends so, by its log. Posted: it posted, or a draw was answered done. Spent, NoRoom: a draw, a claim was answered so. Stopped:
 -- a poll was true. TooHigh: a note, for which it was given room, would have been too high. Want of memory needs no cause.
-abbrev pub HasCause : Task → WorkEnd → List Event → Type 0
+abbrev pub HasCause : Task → WorkEnd → List Exchange → Type 0
 HasCause task Posted log = ((note : Derivation) × Contains log (Post note, Some PostedIt)) ⊎ Contains log (drew Done)
 HasCause task Spent log = Contains log (drew AllDrawn)
 HasCause task NoRoom log = Contains log (claimed Full)
@@ -145,7 +145,7 @@ HasCause task Stopped log = Contains log (polled true)
 
 -- A law: each end of a visit log has its cause.
 abbrev pub EndsHaveCauses : Type 0
-EndsHaveCauses = (task : Task) (log : List Event) (end : WorkEnd) → IsVisitLog task log end → HasCause task end log
+EndsHaveCauses = (task : Task) (log : List Exchange) (end : WorkEnd) → IsVisitLog task log end → HasCause task end log
 
 -- No key stands twice on the path.
 abbrev pub NoRepeats : List Key → Type 0

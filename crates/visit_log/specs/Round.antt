@@ -28,26 +28,26 @@ use Rattle.visit_log.specs.declared.parts.Left.{Left}
 use Rattle.visit_log.specs.declared.parts.Left.TheVariants.{Solved, Open}
 use Rattle.visit_log.specs.declared.words.WorkEnd.{WorkEnd}
 use Rattle.visit_log.specs.declared.words.WorkEnd.TheVariants.{Posted, Spent, NoRoom, TooHigh, NoMemory, Stopped}
-use Rattle.visit_log.specs.Frame.{Task, attacker_in, node_at, Place, Visiting, with_children}
+use Rattle.visit_log.specs.Frame.{Task, attacker_in, node_at, Place, FrameView, with_children}
 use Rattle.visit_log.specs.Children.{is_solved, rule_at, notes_under, counted, own_numbers, reaches, first_due}
 
 -- Whose move it is in a visit.
-abbrev pub node_in : Task → Visiting → Node
+abbrev pub node_in : Task → FrameView → Node
 node_in task f = node_at (attacker_in task) f.place.position
 
 -- The numbers of the visit's node.
-abbrev pub own : Task → Visiting → Numbers
+abbrev pub own : Task → FrameView → Numbers
 own task f = own_numbers (node_in task f) f.children
 
 -- 1. WHAT COMES NEXT.
 
 -- No child is due, and the node is solved on the path.
-pub record Solves (task : Task) (f : Visiting) : Type 0 where
+pub record Solves (task : Task) (f : FrameView) : Type 0 where
   pub none_due : first_due f.children ≡ None
   pub solved : is_solved (node_in task f) f.children ≡ true
 
 -- No child is due, the node isn't solved, and one of its numbers has come to its threshold. They are both from 1 to the cap.
-pub record GivesUp (task : Task) (f : Visiting) : Type 0 where
+pub record GivesUp (task : Task) (f : FrameView) : Type 0 where
   pub none_due : first_due f.children ≡ None
   pub unsolved : is_solved (node_in task f) f.children ≡ false
   pub reached : reaches (own task f) f.place.limits ≡ true
@@ -55,14 +55,14 @@ pub record GivesUp (task : Task) (f : Visiting) : Type 0 where
 
 -- No child is due, the node isn't solved, its numbers are below their thresholds, and the worker selects the child at this place, beside this
 -- second best number.
-pub record Selects (task : Task) (f : Visiting) (place second : ℕ) : Type 0 where
+pub record Selects (task : Task) (f : FrameView) (place second : ℕ) : Type 0 where
   pub none_due : first_due f.children ≡ None
   pub unsolved : is_solved (node_in task f) f.children ≡ false
   pub below : reaches (own task f) f.place.limits ≡ false
   pub selected : IsSelected (node_in task f) (counted (node_in task f) f.children) task.worker place second
 
 -- The child at the place is looked at next: it is the first that is due; or it is selected, and this round hasn't looked at it.
-pub record LooksNext (task : Task) (f : Visiting) (place : ℕ) (child : Child) : Type 0 where
+pub record LooksNext (task : Task) (f : FrameView) (place : ℕ) (child : Child) : Type 0 where
   pub there : slice_get f.children place ≡ Some child
   pub next : (first_due f.children ≡ Some place) ⊎ ((child.look ≡ Stale) × ((second : ℕ) × Selects task f place second))
 
@@ -73,14 +73,14 @@ pub record Choice : Type 0 where
   pub second : ℕ
 
 -- The child is visited next: it is selected, and this round has looked at it. Its numbers are both from 1 to the cap.
-pub record GoesDown (task : Task) (f : Visiting) (choice : Choice) : Type 0 where
+pub record GoesDown (task : Task) (f : FrameView) (choice : Choice) : Type 0 where
   pub there : slice_get f.children choice.place ≡ Some choice.child
   pub selects : Selects task f choice.place choice.second
   pub fresh : choice.child.look ≡ Fresh
   pub in_range : IsOpen choice.child.numbers
 
 -- What a child is visited with: its position, its thresholds, and its numbers as they were seen last.
-abbrev pub child_place : Task → Visiting → Choice → Place
+abbrev pub child_place : Task → FrameView → Choice → Place
 child_place task f choice = record {
   position = after f.place.position choice.child.by;
   key = choice.child.key;
@@ -123,7 +123,7 @@ told child (Known numbers below) start = record child { look = Fresh; numbers = 
 told child (Shown note) start = record child { look = Fresh; note = Some note }
 
 -- The visit after a look.
-abbrev pub looked : Visiting → Sight → Visiting
+abbrev pub looked : FrameView → Sight → FrameView
 looked f sight = with_children f (slice_set f.children sight.place (told sight.child sight.seen sight.start))
 
 -- What a look tells of the position behind a move: where it is new, the numbers with which it begins; a note is about it.
@@ -133,7 +133,7 @@ Tells attacker b by (Known numbers below) start = Unit {0}
 Tells attacker b by (Shown note) start = position_of note ≡ after b by
 
 -- The look is the one that comes next, and what was told may be told.
-pub record IsSight (task : Task) (path : List Key) (f : Visiting) (sight : Sight) : Type 0 where
+pub record IsSight (task : Task) (path : List Key) (f : FrameView) (sight : Sight) : Type 0 where
   pub next : LooksNext task f sight.place sight.child
   pub may : MayShow (attacker_in task) sight.child.key path sight.seen
   pub tells : Tells (attacker_in task) f.place.position sight.child.by sight.seen sight.start
@@ -156,13 +156,13 @@ visited child (Open numbers) = record child { look = Due }
 visited child (Solved note) = record child { look = Stale; note = Some note }
 
 -- The visit after that of a child, which stood at the place: the next round begins.
-abbrev pub came_back : Visiting → ℕ → Child → Left → Visiting
+abbrev pub came_back : FrameView → ℕ → Child → Left → FrameView
 came_back f place child left = with_children f (slice_set (map staled f.children) place (visited child left))
 
 -- 4. THE NOTE OF A SOLVED NODE.
 
 -- The note is made of the children's notes, by the rule that solves the node, and is about its position.
-pub record IsMade (task : Task) (f : Visiting) (note : Derivation) : Type 0 where
+pub record IsMade (task : Task) (f : FrameView) (note : Derivation) : Type 0 where
   pub valid : IsValid note
   pub rule : rule_of note ≡ rule_at (node_in task f) f.children
   pub same_attacker : attacker_of note ≡ attacker_in task
@@ -170,7 +170,7 @@ pub record IsMade (task : Task) (f : Visiting) (note : Derivation) : Type 0 wher
   pub under : under_of note ≡ notes_under (node_in task f) f.children
 
 -- Why it isn't made: its height would be above 4,096; or it wouldn't, and there was no memory.
-abbrev pub IsRefusal : Task → Visiting → WorkEnd → Type 0
+abbrev pub IsRefusal : Task → FrameView → WorkEnd → Type 0
 IsRefusal task f TooHigh = 4096 < highest (notes_under (node_in task f) f.children) + 1
 IsRefusal task f NoMemory = highest (notes_under (node_in task f) f.children) + 1 ≤ 4096
 IsRefusal task f Posted = ⊥

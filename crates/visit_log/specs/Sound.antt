@@ -25,7 +25,7 @@ use Rattle.visit_log.specs.declared.parts.Stage.{Stage}
 use Rattle.visit_log.specs.declared.parts.Stage.TheVariants.{Polling, Drawing, Entering, Looking, Claiming, Leaving, Posting, Winding}
 use Rattle.visit_log.specs.declared.words.Request.{Request}
 use Rattle.visit_log.specs.declared.words.Request.TheVariants.{Poll, Draw as Draws, Claim as Claims, Look, Enter, Leave, Post, End}
-use Rattle.visit_log.specs.Frame.{Task, attacker_in, node_at, Place, Visiting, root, begun}
+use Rattle.visit_log.specs.Frame.{Task, attacker_in, node_at, Place, FrameView, root, begun}
 use Rattle.visit_log.specs.Children.{AreMoves, move_to, is_fresh}
 use Rattle.visit_log.specs.Round.{node_in, Solves}
 use Rattle.visit_log.specs.Machine.{State, path_of, place_by, IsPlayed}
@@ -59,44 +59,44 @@ pub record IsSoundChild (task : Task) (b : Board) (path : List Key) (child : Chi
   pub off_path : child.on_path ≡ false → node_at (attacker_in task) b ≡ Defender → ¬ Contains path child.key
 
 -- A place over these visits: the problem's own, where there is none; else that of the child that the innermost one goes down to.
-abbrev pub IsPlaced : Task → List Visiting → Place → Type 0
+abbrev pub IsPlaced : Task → List FrameView → Place → Type 0
 IsPlaced task [] p = p ≡ root task
 IsPlaced task (g ∷ gs) p =
     (child : Child) × (slice_get g.children g.chosen ≡ Some child) × (p.position ≡ after g.place.position child.by) × (p.key ≡ child.key)
     × (child.on_path ≡ false)
 
 -- The visit of a place is of a position as play leads to it, with that position's key, and is entered with numbers from 1 to the cap.
-pub record IsSoundPlace (task : Task) (fs : List Visiting) (p : Place) : Type 0 where
+pub record IsSoundPlace (task : Task) (fs : List FrameView) (p : Place) : Type 0 where
   pub played : IsPlayed (attacker_in task) p.position
   pub key : p.key.0 ≡ key_of p.position
   pub in_range : IsOpen p.numbers
   pub placed : IsPlaced task fs p
 
 -- The successors of the visit's position are listed, and what is known of them is sound on the path.
-pub record IsListed (task : Task) (path : List Key) (f : Visiting) : Type 0 where
+pub record IsListed (task : Task) (path : List Key) (f : FrameView) : Type 0 where
   pub played : IsPlayed (attacker_in task) f.place.position
   pub key : f.place.key.0 ≡ key_of f.place.position
   pub moves : AreMoves (node_in task f) (attacker_in task) f.place.position (map move_to f.children)
   pub children : All (IsSoundChild task f.place.position path) f.children
 
 -- A visit over others whose successors are listed.
-pub record IsSoundVisit (task : Task) (f : Visiting) (fs : List Visiting) : Type 0 where
+pub record IsSoundVisit (task : Task) (f : FrameView) (fs : List FrameView) : Type 0 where
   pub in_range : IsOpen f.place.numbers
   pub placed : IsPlaced task fs f.place
   pub listed : IsListed task (path_of task (f ∷ fs)) f
 
 -- Visits that go on, the innermost first.
-abbrev pub AreSound : Task → List Visiting → Type 0
+abbrev pub AreSound : Task → List FrameView → Type 0
 AreSound task [] = Unit {0}
 AreSound task (f ∷ fs) = IsSoundVisit task f fs × AreSound task fs
 
 -- The move of an entry is that of the child to which the innermost visit goes down; there is none for the problem's own position.
-abbrev pub IsMoveTo : List Visiting → Option Move → Type 0
+abbrev pub IsMoveTo : List FrameView → Option Move → Type 0
 IsMoveTo [] by = by ≡ None
 IsMoveTo (g ∷ gs) by = (child : Child) × (slice_get g.children g.chosen ≡ Some child) × (by ≡ Some child.by)
 
 -- The entry begins a visit over these.
-pub record IsSoundEntry (task : Task) (fs : List Visiting) (entry : Entry) : Type 0 where
+pub record IsSoundEntry (task : Task) (fs : List FrameView) (entry : Entry) : Type 0 where
   pub move : IsMoveTo fs entry.by
   pub in_range : IsOpen entry.numbers
   pub placed : IsPlaced task fs (place_by task fs entry)
@@ -109,14 +109,14 @@ pub record IsAnswer (task : Task) (note : Derivation) : Type 0 where
   pub same_attacker : attacker_of note ≡ attacker_in task
 
 -- The child at the place may be looked at: it isn't on the path, and this round hasn't looked at it yet.
-pub record IsLookedAt (f : Visiting) (place : ℕ) : Type 0 where
+pub record IsLookedAt (f : FrameView) (place : ℕ) : Type 0 where
   pub child : Child
   pub there : slice_get f.children place ≡ Some child
   pub off_path : child.on_path ≡ false
   pub unseen : is_fresh child.look ≡ false
 
 -- What holds at a stage, with these visits going on.
-abbrev pub IsSoundAt : Task → Stage → List Visiting → Type 0
+abbrev pub IsSoundAt : Task → Stage → List FrameView → Type 0
 IsSoundAt task (Polling entry) fs = AreSound task fs × IsSoundEntry task fs entry
 IsSoundAt task (Drawing entry) fs = AreSound task fs × IsSoundEntry task fs entry
 IsSoundAt task Entering [] = ⊥

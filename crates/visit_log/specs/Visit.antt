@@ -9,8 +9,8 @@ use Rattle.notes.specs.declared.words.Update.{Update}
 use Rattle.notes.specs.declared.words.Update.TheVariants.{Numbers as Count, Note as Noted, Nothing}
 use Rattle.notes.specs.declared.words.Draw.{Draw}
 use Rattle.notes.specs.declared.words.Draw.TheVariants.{Go, Done, Spent as AllDrawn}
-use Rattle.notes.specs.declared.words.Claim.{Claim}
-use Rattle.notes.specs.declared.words.Claim.TheVariants.{Room, NoRoom as Full}
+use Rattle.notes.specs.declared.words.RoomAnswer.{RoomAnswer}
+use Rattle.notes.specs.declared.words.RoomAnswer.TheVariants.{Room, NoRoom as Full}
 use Rattle.visit_log.specs.declared.parts.Child.{Child}
 use Rattle.visit_log.specs.declared.parts.Left.{Left}
 use Rattle.visit_log.specs.declared.parts.Left.TheVariants.{Solved, Open}
@@ -18,15 +18,15 @@ use Rattle.visit_log.specs.declared.words.WorkEnd.{WorkEnd}
 use Rattle.visit_log.specs.declared.words.WorkEnd.TheVariants.{Posted, Spent, NoRoom, NoMemory, Stopped}
 use Rattle.visit_log.specs.declared.words.Request.{Request}
 use Rattle.visit_log.specs.declared.words.Request.TheVariants.{Poll, Draw as Draws, Claim as Claims, Look, Enter, Leave, Post}
-use Rattle.visit_log.specs.declared.words.Answer.{Answer}
-use Rattle.visit_log.specs.declared.words.Answer.TheVariants.{Poll as Polled, Draw as Drew, Claim as Claimed, Look as Looked, Enter as Entered, Leave as LeftIt, Post as PostedIt}
-use Rattle.visit_log.specs.Frame.{Task, attacker_in, node_at, Place, Visiting, root, opened, choose}
+use Rattle.visit_log.specs.declared.words.Reply.{Reply}
+use Rattle.visit_log.specs.declared.words.Reply.TheVariants.{Poll as Polled, Draw as Drew, Claim as Claimed, Look as Looked, Enter as Entered, Leave as LeftIt, Post as PostedIt}
+use Rattle.visit_log.specs.Frame.{Task, attacker_in, node_at, Place, FrameView, root, opened, choose}
 use Rattle.visit_log.specs.Children.{AreChildren}
 use Rattle.visit_log.specs.Round.{own, Solves, GivesUp, LooksNext, Choice, GoesDown, child_place, Sight, looked, IsSight, came_back, IsMade, IsRefusal}
 
 -- A request with its answer; none where a look was refused memory.
-abbrev pub Event : Type 0
-Event = Request × Option Answer
+abbrev pub Exchange : Type 0
+Exchange = Request × Option Reply
 
 -- 1. THE TREE. Any visit may be cut off by want of memory; then it winds up.
 mutual
@@ -63,7 +63,7 @@ pub data Ending : Type 0 where
 -- 2. WHAT IS KNOWN.
 
 -- The visit after that of a child ended so.
-abbrev pub after_child : Visiting → Choice → Ending → Visiting
+abbrev pub after_child : FrameView → Choice → Ending → FrameView
 after_child f choice (Winds end) = choose f choice.place
 after_child f choice (Ends left) = came_back (choose f choice.place) choice.place choice.child left
 
@@ -82,14 +82,14 @@ abbrev mutual
   ending task p (Visited unit kept children doings tail) = tail_ending task (known_after task (opened p kept children) doings) tail
 
   -- What is known after these doings.
-  pub known_after : Task → Visiting → Doings → Visiting
+  pub known_after : Task → FrameView → Doings → FrameView
   known_after task f nothing_yet = f
   known_after task f (and_look doings sight) = looked (known_after task f doings) sight
   known_after task f (and_visit doings choice visit) =
       let g = known_after task f doings in
       after_child g choice (ending task (child_place task g choice) visit)
 
-  pub tail_ending : Task → Visiting → Tail → Ending
+  pub tail_ending : Task → FrameView → Tail → Ending
   tail_ending task f Cut = Winds NoMemory
   tail_ending task f (Blind place child) = Winds NoMemory
   tail_ending task f Unclaimed = Winds NoRoom
@@ -101,23 +101,23 @@ abbrev mutual
 -- 3. THE LOG.
 
 -- A poll.
-abbrev pub polled : Bool → Event
+abbrev pub polled : Bool → Exchange
 polled stop = (Poll, Some (Polled stop))
 
 -- A draw.
-abbrev pub drew : Draw → Event
+abbrev pub drew : Draw → Exchange
 drew draw = (Draws, Some (Drew draw))
 
 -- Entering a position.
-abbrev pub entered : Place → Kept → Event
+abbrev pub entered : Place → Kept → Exchange
 entered p kept = (Enter p.key p.numbers, Some (Entered kept))
 
 -- A look.
-abbrev pub looked_at : Sight → Event
+abbrev pub looked_at : Sight → Exchange
 looked_at sight = (Look sight.child.key, Some (Looked sight.seen))
 
 -- A claim.
-abbrev pub claimed : Claim → Event
+abbrev pub claimed : RoomAnswer → Exchange
 claimed claim = (Claims, Some (Claimed claim))
 
 -- What entering was answered.
@@ -126,21 +126,21 @@ kept_by None = Rattle.notes.specs.declared.words.Kept.TheVariants.Unkept
 kept_by (Some kept) = kept
 
 -- Leaving a position with this update.
-abbrev pub leave : Visiting → Update → Event
+abbrev pub leave : FrameView → Update → Exchange
 leave f update = (Leave (kept_by f.kept) f.place.key update, Some LeftIt)
 
 -- The log when a visit has drawn its unit.
-abbrev pub drawn_on : List Event → ℕ → List Event
+abbrev pub drawn_on : List Exchange → ℕ → List Exchange
 drawn_on log unit = (log ++ polled false ∷ []) ++ drew (Go unit) ∷ []
 
 -- The log when its position is entered.
-abbrev pub entered_on : List Event → ℕ → Place → Kept → List Event
+abbrev pub entered_on : List Exchange → ℕ → Place → Kept → List Exchange
 entered_on log unit p kept = drawn_on log unit ++ entered p kept ∷ []
 
 -- The log behind a visit, behind what was done in it, and behind its ending.
 abbrev mutual
   -- The log behind a visit.
-  pub visit_on : Task → List Event → Place → Visit → List Event
+  pub visit_on : Task → List Exchange → Place → Visit → List Exchange
   visit_on task log p Unpolled = log
   visit_on task log p Halted = log ++ polled true ∷ []
   visit_on task log p Undrawn = log ++ polled false ∷ []
@@ -151,13 +151,13 @@ abbrev mutual
       tail_on task (doings_on task (entered_on log unit p kept) (opened p kept children) doings)
       (known_after task (opened p kept children) doings) tail
 
-  pub doings_on : Task → List Event → Visiting → Doings → List Event
+  pub doings_on : Task → List Exchange → FrameView → Doings → List Exchange
   doings_on task log f nothing_yet = log
   doings_on task log f (and_look doings sight) = doings_on task log f doings ++ looked_at sight ∷ []
   doings_on task log f (and_visit doings choice visit) =
       visit_on task (doings_on task log f doings) (child_place task (known_after task f doings) choice) visit
 
-  pub tail_on : Task → List Event → Visiting → Tail → List Event
+  pub tail_on : Task → List Exchange → FrameView → Tail → List Exchange
   tail_on task log f Cut = log ++ leave f Nothing ∷ []
   tail_on task log f (Blind place child) = (log ++ (Look child.key, None) ∷ []) ++ leave f Nothing ∷ []
   tail_on task log f Unclaimed = (log ++ claimed Full ∷ []) ++ leave f Nothing ∷ []
@@ -204,7 +204,7 @@ abbrev mutual
       × IsTail task (path_at task p path) (known_after task (opened p kept children) doings) tail
 
   -- Each look is at the child that is looked at next, each visit is of the child that is visited next, and it leaves that child.
-  pub AreDone : Task → List Key → Visiting → Doings → Type 0
+  pub AreDone : Task → List Key → FrameView → Doings → Type 0
   AreDone task path f nothing_yet = Unit {0}
   AreDone task path f (and_look doings sight) = AreDone task path f doings × IsSight task path (known_after task f doings) sight
   AreDone task path f (and_visit doings choice visit) =
@@ -212,7 +212,7 @@ abbrev mutual
       AreDone task path f doings × GoesDown task g choice × IsVisit task path (child_place task g choice) visit
       × EndsOpen (ending task (child_place task g choice) visit)
 
-  pub IsTail : Task → List Key → Visiting → Tail → Type 0
+  pub IsTail : Task → List Key → FrameView → Tail → Type 0
   IsTail task path f Cut = Unit {0}
   IsTail task path f (Blind place child) = LooksNext task f place child
   IsTail task path f Unclaimed = Solves task f
@@ -226,14 +226,14 @@ abbrev mutual
 
 -- How the log of a search goes on behind the visit of the problem's position, by how that ended: a note is posted. Want of memory may come
 -- in between, while a worker winds up or before it posts, and then it is its end, whatever the end was to be.
-abbrev pub EndsLog : Ending → List Event → List Event → WorkEnd → Type 0
+abbrev pub EndsLog : Ending → List Exchange → List Exchange → WorkEnd → Type 0
 EndsLog (Winds reason) visit log end = (log ≡ visit) × ((end ≡ reason) ⊎ (end ≡ NoMemory))
 EndsLog (Ends (Solved note)) visit log end =
     ((log ≡ visit ++ (Post note, Some PostedIt) ∷ []) × (end ≡ Posted)) ⊎ ((log ≡ visit) × (end ≡ NoMemory))
 EndsLog (Ends (Open numbers)) visit log end = ⊥
 
 -- A visit log: all that a worker asks and is told in its search, to this end. It is the log of a visit of the problem's position.
-pub record IsVisitLog (task : Task) (log : List Event) (end : WorkEnd) : Type 0 where
+pub record IsVisitLog (task : Task) (log : List Exchange) (end : WorkEnd) : Type 0 where
   pub visit : Visit
   pub is_visit : IsVisit task [] (root task) visit
   pub ends : EndsLog (ending task (root task) visit) (visit_on task [] (root task) visit) log end

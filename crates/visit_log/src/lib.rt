@@ -18,4 +18,4 @@ pub use counted::count_laws;
 pub use parts::{Child, Entry, Left, Look, Stage};
 pub use sound::sound_laws;
 pub use visits::visit_laws;
-pub use words::{Answer, Request, WorkEnd};
+pub use words::{Reply, Request, WorkEnd};

@@ -1,6 +1,6 @@
 // What a worker asks, and what it is told.
 use board_core::Key;
-use notes::{Claim, Draw, Kept, Note, Seen, Update};
+use notes::{Draw, Kept, Note, RoomAnswer, Seen, Update};
 use pn_numbers::Numbers;
 
 /// How a worker ended.
@@ -28,7 +28,7 @@ pub enum Request {
     /// The next unit of work.
     Draw,
     /// Room for a note.
-    Claim,
+    RoomAnswer,
     /// What the table knows of the position of this key, on the worker's path.
     Look(Key),
     /// To enter a position in the table.
@@ -55,13 +55,13 @@ pub enum Request {
 
 /// What a worker is told, by its request.
 #[derive(Drop)]
-pub enum Answer {
+pub enum Reply {
     /// Whether it is to stop.
     Poll(bool),
     /// The unit, or that there is none for it.
     Draw(Draw),
     /// The room, or that there is none.
-    Claim(Claim),
+    RoomAnswer(RoomAnswer),
     /// What the table shows.
     Look(Seen),
     /// Where the entry is.

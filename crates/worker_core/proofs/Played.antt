@@ -13,7 +13,7 @@ use Rattle.shogi_rules.specs.Tsume.{IsProblem}
 use Rattle.pn_numbers.specs.declared.node.Node.{Node}
 use Rattle.pn_numbers.specs.declared.node.Node.TheVariants.{Attacker, Defender}
 use Rattle.visit_log.specs.declared.parts.Child.{Child}
-use Rattle.visit_log.specs.Frame.{Task, Visiting, attacker_in, node_of, node_at}
+use Rattle.visit_log.specs.Frame.{Task, FrameView, attacker_in, node_of, node_at}
 use Rattle.visit_log.specs.Children.{AreMoves, move_to}
 use Rattle.visit_log.specs.Machine.{IsPlayed, path_of}
 use Rattle.visit_log.specs.Sound.{IsListed, IsMoveTo, AreSound}
@@ -32,7 +32,7 @@ pub legal_of : (node : Node) (attacker : Side) (b : Board) (moves : List Move) (
 legal_of Attacker attacker b moves by are there = (are.sound by there).legal
 legal_of Defender attacker b moves by are there = (are.sound by there).legal
 
-pub child_legal : (task : Task) (path : List Key) (f : Visiting) (place : ℕ) (child : Child) (by : Move) → IsListed task path f
+pub child_legal : (task : Task) (path : List Key) (f : FrameView) (place : ℕ) (child : Child) (by : Move) → IsListed task path f
     → slice_get f.children place ≡ Some child → Some by ≡ Some child.by → IsLegal f.place.position by
 child_legal task path f place child by listed there is =
     subst (IsLegal f.place.position) (sym (same_Some by child.by is))
@@ -51,7 +51,7 @@ turned White Black e = absurd (cc)
 turned White White e = refl
 
 -- The position after the move is one as play leads to it.
-pub child_played : (task : Task) (path : List Key) (f : Visiting) (place : ℕ) (child : Child) (by : Move) (next : Board) → IsListed task path f
+pub child_played : (task : Task) (path : List Key) (f : FrameView) (place : ℕ) (child : Child) (by : Move) (next : Board) → IsListed task path f
     → slice_get f.children place ≡ Some child → Some by ≡ Some child.by → next ≡ after f.place.position by → next.side ≡ other f.place.position.side
     → IsQuiet next → ((side : Side) → kings_of next side ≡ kings_of f.place.position side) → IsKept next → IsPlayed (attacker_in task) next
 child_played task path f place child by next listed there is after_is turn quiet kings kept = record {
@@ -78,16 +78,16 @@ problem_played b kept is = record {
 }
 
 -- The innermost of sound visits is listed.
-pub top_listed : (task : Task) (frames : List Visiting) (f : Visiting) → AreSound task frames → Some f ≡ top_of frames
+pub top_listed : (task : Task) (frames : List FrameView) (f : FrameView) → AreSound task frames → Some f ≡ top_of frames
     → (path : List Key) × IsListed task path f
 top_listed task [] f sound is = absurd (cc)
 top_listed task (g ∷ gs) f sound is =
     let e : f ≡ g = same_Some f g is in
-    subst (λ (z : Visiting). (path : List Key) × IsListed task path z) (sym e) (path_of task (g ∷ gs), sound.0.listed)
+    subst (λ (z : FrameView). (path : List Key) × IsListed task path z) (sym e) (path_of task (g ∷ gs), sound.0.listed)
 
-pub top_child : (frames : List Visiting) (f : Visiting) (by : Move) → IsMoveTo frames (Some by) → Some f ≡ top_of frames
+pub top_child : (frames : List FrameView) (f : FrameView) (by : Move) → IsMoveTo frames (Some by) → Some f ≡ top_of frames
     → (child : Child) × (slice_get f.children f.chosen ≡ Some child) × (Some by ≡ Some child.by)
 top_child [] f by to is = absurd (cc)
 top_child (g ∷ gs) f by to is =
     let e : f ≡ g = same_Some f g is in
-    subst (λ (z : Visiting). (child : Child) × (slice_get z.children z.chosen ≡ Some child) × (Some by ≡ Some child.by)) (sym e) to
+    subst (λ (z : FrameView). (child : Child) × (slice_get z.children z.chosen ≡ Some child) × (Some by ≡ Some child.by)) (sym e) to

@@ -4,14 +4,14 @@ use Rattle.std.specs.Prelude.{Option, Some, None, slice_get}
 use Rattle.notes.specs.Derivation.{Derivation}
 use Rattle.visit_log.specs.declared.parts.Stage.{Stage}
 use Rattle.visit_log.specs.declared.parts.Stage.TheVariants.{Polling, Drawing, Entering, Looking, Claiming, Leaving, Posting, Winding}
-use Rattle.visit_log.specs.declared.words.Answer.{Answer}
-use Rattle.visit_log.specs.declared.words.Answer.TheVariants.{Poll as Polled, Draw as Drew, Claim as Claimed, Look as Looked, Enter as Entered, Leave as LeftIt, Post as PostedIt}
+use Rattle.visit_log.specs.declared.words.Reply.{Reply}
+use Rattle.visit_log.specs.declared.words.Reply.TheVariants.{Poll as Polled, Draw as Drew, Claim as Claimed, Look as Looked, Enter as Entered, Leave as LeftIt, Post as PostedIt}
 use Rattle.visit_log.specs.declared.words.WorkEnd.{WorkEnd}
-use Rattle.visit_log.specs.Frame.{Task, Visiting}
-use Rattle.visit_log.specs.Visit.{Event, IsVisitLog}
+use Rattle.visit_log.specs.Frame.{Task, FrameView}
+use Rattle.visit_log.specs.Visit.{Exchange, IsVisitLog}
 use Rattle.visit_log.specs.declared.parts.Child.{Child}
 use Rattle.visit_log.specs.Machine.{State, start, asks, asks_at, ask_look, asked, asked_at, starve, end_of, Fits, LeadsTo}
-use Rattle.visit_log.specs.Run.{Happening, Told, Dark, Starved, Happens, Runs, event, events, Leads, Standing, now_at, IsReached, IsBegunLog, IsLooking}
+use Rattle.visit_log.specs.Run.{Happening, Told, Dark, Starved, Happens, Runs, event, events, Leads, WorkerView, now_at, IsReached, IsBegunLog, IsLooking}
 use Rattle.visit_log.specs.Sound.{IsTask, IsSound, IsSoundAt}
 use Rattle.worker_core.specs.Machine.{IsCopy, is_poll, polls_at}
 use Rattle.visit_log.specs.Laws.{LogsBegin, LogsAreWhole, WorkersAreSound, WorkersAreCounted, IsCounted}
@@ -23,18 +23,18 @@ runs_snoc task (x ∷ xs) s t u h runs happens = (runs.0, runs.1, runs_snoc task
 
 events_snoc : (happenings : List Happening) (h : Happening) → events (happenings ++ h ∷ []) ≡ events happenings ++ event h
 events_snoc [] h = append-nil (event h)
-events_snoc (x ∷ xs) h = ap (λ (z : List Event). event x ++ z) (events_snoc xs h) ∙ sym (append_assoc (event x) (events xs) (event h))
+events_snoc (x ∷ xs) h = ap (λ (z : List Exchange). event x ++ z) (events_snoc xs h) ∙ sym (append_assoc (event x) (events xs) (event h))
 
 -- One thing more happens.
-pub leads_on : (task : Task) (log : List Event) (s u : State) (h : Happening) → Leads task log s → Happens task s h u → Leads task (log ++ event h) u
+pub leads_on : (task : Task) (log : List Exchange) (s u : State) (h : Happening) → Leads task log s → Happens task s h u → Leads task (log ++ event h) u
 leads_on task log s u h leads happens = record {
   happenings = leads.happenings ++ h ∷ [];
   runs = runs_snoc task leads.happenings (start task) s u h leads.runs happens;
-  logged = events_snoc leads.happenings h ∙ ap (λ (z : List Event). z ++ event h) leads.logged;
+  logged = events_snoc leads.happenings h ∙ ap (λ (z : List Exchange). z ++ event h) leads.logged;
 }
 
 -- That it was asked changes nothing that an answer sees.
-leads_by : (task : Task) (st : Stage) (fs : List Visiting) (v c : ℕ) (a : Answer) (t : State)
+leads_by : (task : Task) (st : Stage) (fs : List FrameView) (v c : ℕ) (a : Reply) (t : State)
     → LeadsTo task (asked (record { stage = st; frames = fs; visits = v; claims = c })) a t → LeadsTo task (record { stage = st; frames = fs; visits = v; claims = c }) a t
 leads_by task (Polling e) fs v c a t h = h
 leads_by task (Drawing e) fs v c a t h = h
@@ -51,10 +51,10 @@ leads_by task (Posting posted) fs v c (Entered kept) t h = h
 leads_by task (Posting posted) fs v c LeftIt t h = h
 leads_by task (Posting posted) fs v c PostedIt t h = h
 
-leads_asked : (task : Task) (s : State) (a : Answer) (t : State) → LeadsTo task (asked s) a t → LeadsTo task s a t
+leads_asked : (task : Task) (s : State) (a : Reply) (t : State) → LeadsTo task (asked s) a t → LeadsTo task s a t
 leads_asked task s a t h = leads_by task s.stage s.frames s.visits s.claims a t h
 
-fits_by : (task : Task) (st : Stage) (fs : List Visiting) (v c : ℕ) (a : Answer)
+fits_by : (task : Task) (st : Stage) (fs : List FrameView) (v c : ℕ) (a : Reply)
     → Fits task (asked (record { stage = st; frames = fs; visits = v; claims = c })) a → Fits task (record { stage = st; frames = fs; visits = v; claims = c }) a
 fits_by task (Polling e) fs v c a h = h
 fits_by task (Drawing e) fs v c a h = h
@@ -72,17 +72,17 @@ fits_by task (Posting posted) fs v c LeftIt h = h
 fits_by task (Posting posted) fs v c PostedIt h = h
 
 -- So an answer to what was asked happens to whoever asked it.
-pub told_happens : (task : Task) (s m u : State) (a : Answer) → m ≡ asked s → Fits task m a → LeadsTo task m a u → Happens task s (Told (asks s) a) u
+pub told_happens : (task : Task) (s m u : State) (a : Reply) → m ≡ asked s → Fits task m a → LeadsTo task m a u → Happens task s (Told (asks s) a) u
 told_happens task s m u a is fits to =
     (refl, fits_by task s.stage s.frames s.visits s.claims a (subst (λ (z : State). Fits task z a) is fits), leads_asked task s a u (subst (λ (z : State). LeadsTo task z a u) is to))
 
 -- And is told.
-pub told_leads : (task : Task) (log : List Event) (s m u : State) (a : Answer) → Leads task log s → m ≡ asked s → Fits task m a → LeadsTo task m a u
+pub told_leads : (task : Task) (log : List Exchange) (s m u : State) (a : Reply) → Leads task log s → m ≡ asked s → Fits task m a → LeadsTo task m a u
     → Leads task (log ++ (asks s, Some a) ∷ []) u
 told_leads task log s m u a leads is fits to =
     leads_on task log s u (Told (asks s) a) leads (told_happens task s m u a is fits to)
 
-sound_by : (task : Task) (st : Stage) (fs : List Visiting) → IsSoundAt task st fs → IsSoundAt task (asked_at st) fs
+sound_by : (task : Task) (st : Stage) (fs : List FrameView) → IsSoundAt task st fs → IsSoundAt task (asked_at st) fs
 sound_by task (Polling e) fs h = h
 sound_by task (Drawing e) fs h = h
 sound_by task Entering fs h = h
@@ -94,15 +94,15 @@ sound_by task (Posting None) fs h = h
 sound_by task (Posting (Some note)) fs h = h.0
 
 -- A worker that a log leads to is sound.
-pub leads_sound : (task : Task) (log : List Event) (s : State) → WorkersAreSound → IsTask task → Leads task log s → IsSound task s
+pub leads_sound : (task : Task) (log : List Exchange) (s : State) → WorkersAreSound → IsTask task → Leads task log s → IsSound task s
 leads_sound task log s law is leads = law task leads.happenings s is leads.runs
 
-pub reached_sound : (task : Task) (log : List Event) (s m : State) (waiting : Bool) → WorkersAreSound → IsTask task → Leads task log s
+pub reached_sound : (task : Task) (log : List Exchange) (s m : State) (waiting : Bool) → WorkersAreSound → IsTask task → Leads task log s
     → m ≡ now_at waiting s → IsSound task m
 reached_sound task log s m true law is leads now = subst (IsSound task) (sym now) (sound_by task s.stage s.frames (leads_sound task log s law is leads))
 reached_sound task log s m false law is leads now = subst (IsSound task) (sym now) (leads_sound task log s law is leads)
 
-starved_by : (st : Stage) (fs : List Visiting) (v c : ℕ) → starve (asked (record { stage = st; frames = fs; visits = v; claims = c })) ≡ starve (record { stage = st; frames = fs; visits = v; claims = c })
+starved_by : (st : Stage) (fs : List FrameView) (v c : ℕ) → starve (asked (record { stage = st; frames = fs; visits = v; claims = c })) ≡ starve (record { stage = st; frames = fs; visits = v; claims = c })
 starved_by (Polling e) fs v c = refl
 starved_by (Drawing e) fs v c = refl
 starved_by Entering fs v c = refl
@@ -118,12 +118,12 @@ starve_now true s = starved_by s.stage s.frames s.visits s.claims
 starve_now false s = refl
 
 -- Starving it leads by the same log to where it winds up.
-pub starved_leads : (task : Task) (log : List Event) (s m : State) (waiting : Bool) → Leads task log s → m ≡ now_at waiting s → Leads task log (starve m)
+pub starved_leads : (task : Task) (log : List Exchange) (s m : State) (waiting : Bool) → Leads task log s → m ≡ now_at waiting s → Leads task log (starve m)
 starved_leads task log s m waiting leads now =
-    subst (λ (z : List Event). Leads task z (starve m)) (append-nil log)
+    subst (λ (z : List Exchange). Leads task z (starve m)) (append-nil log)
     (subst (Leads task (log ++ [])) (sym (ap starve now ∙ starve_now waiting s)) (leads_on task log s (starve s) Starved leads refl))
 
-end_by : (st : Stage) (fs : List Visiting) (v c : ℕ) → end_of (asked (record { stage = st; frames = fs; visits = v; claims = c })) ≡ end_of (record { stage = st; frames = fs; visits = v; claims = c })
+end_by : (st : Stage) (fs : List FrameView) (v c : ℕ) → end_of (asked (record { stage = st; frames = fs; visits = v; claims = c })) ≡ end_of (record { stage = st; frames = fs; visits = v; claims = c })
 end_by (Polling e) fs v c = refl
 end_by (Drawing e) fs v c = refl
 end_by Entering fs v c = refl
@@ -138,23 +138,23 @@ end_now true s = end_by s.stage s.frames s.visits s.claims
 end_now false s = refl
 
 -- The log of a worker begins a visit log, and is one where it has ended.
-pub begins : (w : Standing) (log : List Event) → LogsBegin → IsReached w log → IsBegunLog w.task log
+pub begins : (w : WorkerView) (log : List Exchange) → LogsBegin → IsReached w log → IsBegunLog w.task log
 begins w log law reached =
     subst (IsBegunLog w.task) reached.leads.logged (law w.task reached.leads.happenings reached.state reached.leads.runs)
 
-pub is_whole : (w : Standing) (log : List Event) (end : WorkEnd) → LogsAreWhole → IsReached w log → end_of w.state ≡ Some end → IsVisitLog w.task log end
+pub is_whole : (w : WorkerView) (log : List Exchange) (end : WorkEnd) → LogsAreWhole → IsReached w log → end_of w.state ≡ Some end → IsVisitLog w.task log end
 is_whole w log end law reached ended =
-    subst (λ (z : List Event). IsVisitLog w.task z end) reached.leads.logged
+    subst (λ (z : List Exchange). IsVisitLog w.task z end) reached.leads.logged
     (law w.task reached.leads.happenings reached.state end reached.leads.runs (sym (end_now w.waiting reached.state) ∙ (ap end_of (sym reached.now) ∙ ended)))
 
-pub whole_by : (task : Task) (log : List Event) (s : State) (end : WorkEnd) → LogsAreWhole → Leads task log s → end_of s ≡ Some end → IsVisitLog task log end
-whole_by task log s end law leads ended = subst (λ (z : List Event). IsVisitLog task z end) leads.logged (law task leads.happenings s end leads.runs ended)
+pub whole_by : (task : Task) (log : List Exchange) (s : State) (end : WorkEnd) → LogsAreWhole → Leads task log s → end_of s ≡ Some end → IsVisitLog task log end
+whole_by task log s end law leads ended = subst (λ (z : List Exchange). IsVisitLog task z end) leads.logged (law task leads.happenings s end leads.runs ended)
 
 counted_now : (waiting : Bool) (s : State) → IsCounted s → IsCounted (now_at waiting s)
 counted_now true s is = record { slots = is.slots; frames = is.frames; claims = is.claims; most = is.most }
 counted_now false s is = is
 
-pub is_counted : (w : Standing) (log : List Event) → WorkersAreCounted → IsReached w log → IsCounted w.state
+pub is_counted : (w : WorkerView) (log : List Exchange) → WorkersAreCounted → IsReached w log → IsCounted w.state
 is_counted w log law reached =
     subst IsCounted (sym reached.now) (counted_now w.waiting reached.state (law w.task reached.leads.happenings reached.state reached.leads.runs))
 
@@ -163,17 +163,17 @@ pub fresh : (task : Task) → IsReached (record { task = task; state = start tas
 fresh task = record { state = start task; leads = record { happenings = []; runs = refl; logged = refl }; now = refl }
 
 -- A look that is refused memory stands in the log.
-pub dark_leads : (task : Task) (log : List Event) (s m : State) → Leads task log s → m ≡ asked s → IsLooking s.stage
+pub dark_leads : (task : Task) (log : List Exchange) (s m : State) → Leads task log s → m ≡ asked s → IsLooking s.stage
     → Leads task (log ++ (asks s, None) ∷ []) (starve m)
 dark_leads task log s m leads is looking =
     subst (Leads task (log ++ (asks s, None) ∷ [])) (sym (ap starve is ∙ starve_now true s)) (leads_on task log s (starve s) (Dark (asks s)) leads (refl, looking, refl))
 
 -- What a worker that waits counts moves as the answer says.
-pub happens_asked : (task : Task) (m u : State) (a : Answer) → Fits task m a → LeadsTo task m a u → Happens task m (Told (asks m) a) u
+pub happens_asked : (task : Task) (m u : State) (a : Reply) → Fits task m a → LeadsTo task m a u → Happens task m (Told (asks m) a) u
 happens_asked task m u a fits leads = (refl, fits, leads)
 
 -- A new request is made.
-pub asked_reached : (w : Standing) (log : List Event) → w.waiting ≡ false → IsReached w log
+pub asked_reached : (w : WorkerView) (log : List Exchange) → w.waiting ≡ false → IsReached w log
     → IsReached (record { task = w.task; state = asked w.state; waiting = true }) log
 asked_reached w log idle reached = record {
   state = reached.state;
@@ -182,15 +182,15 @@ asked_reached w log idle reached = record {
 }
 
 -- The state of a worker that doesn't wait is where its log leaves it.
-pub idle_leads : (w : Standing) (log : List Event) → w.waiting ≡ false → IsReached w log → Leads w.task log w.state
+pub idle_leads : (w : WorkerView) (log : List Exchange) → w.waiting ≡ false → IsReached w log → Leads w.task log w.state
 idle_leads w log idle reached =
     subst (Leads w.task log) (sym (reached.now ∙ ap (λ (b : Bool). now_at b reached.state) idle)) reached.leads
 
-pub waits_for : (w : Standing) (log : List Event) (reached : IsReached w log) → w.waiting ≡ true → w.state ≡ asked reached.state
+pub waits_for : (w : WorkerView) (log : List Exchange) (reached : IsReached w log) → w.waiting ≡ true → w.state ≡ asked reached.state
 waits_for w log reached waits = reached.now ∙ ap (λ (b : Bool). now_at b reached.state) waits
 
 -- A worker that winds up hands out no note.
-copy_by : (st : Stage) (fs : List Visiting) (v c : ℕ) (copy : Option Derivation) → IsCopy (starve (record { stage = st; frames = fs; visits = v; claims = c })).stage copy
+copy_by : (st : Stage) (fs : List FrameView) (v c : ℕ) (copy : Option Derivation) → IsCopy (starve (record { stage = st; frames = fs; visits = v; claims = c })).stage copy
 copy_by (Polling e) fs v c copy = tt
 copy_by (Drawing e) fs v c copy = tt
 copy_by Entering fs v c copy = tt
@@ -208,7 +208,7 @@ look_polls : (o : Option Child) → is_poll (ask_look o) ≡ false
 look_polls None = refl
 look_polls (Some child) = refl
 
-polls_by : (st : Stage) (fs : List Visiting) → polls_at st ≡ is_poll (asks_at st fs)
+polls_by : (st : Stage) (fs : List FrameView) → polls_at st ≡ is_poll (asks_at st fs)
 polls_by (Polling e) fs = refl
 polls_by (Drawing e) fs = refl
 polls_by Entering [] = refl

@@ -17,13 +17,13 @@ use Rattle.visit_log.specs.declared.words.WorkEnd.{WorkEnd}
 use Rattle.visit_log.specs.declared.words.WorkEnd.TheVariants.{NoMemory}
 use Rattle.visit_log.specs.declared.words.Request.{Request}
 use Rattle.visit_log.specs.declared.words.Request.TheVariants.{Draw as Draws, Claim as Claims, Look, Enter, Leave}
-use Rattle.visit_log.specs.declared.words.Answer.{Answer}
-use Rattle.visit_log.specs.declared.words.Answer.TheVariants.{Draw as Drew, Look as Looked, Leave as LeftIt}
-use Rattle.visit_log.specs.Frame.{Task, Visiting, attacker_in, task_for}
+use Rattle.visit_log.specs.declared.words.Reply.{Reply}
+use Rattle.visit_log.specs.declared.words.Reply.TheVariants.{Draw as Drew, Look as Looked, Leave as LeftIt}
+use Rattle.visit_log.specs.Frame.{Task, FrameView, attacker_in, task_for}
 use Rattle.visit_log.specs.Round.{MayShow}
-use Rattle.visit_log.specs.Visit.{Event, IsVisitLog}
+use Rattle.visit_log.specs.Visit.{Exchange, IsVisitLog}
 use Rattle.visit_log.specs.Machine.{State, asks, asked, asked_at, starve, end_of, path_of, Fits, LeadsTo}
-use Rattle.visit_log.specs.Run.{Leads, Standing, Happens, Told, Dark, IsReached, IsLooking, now_at}
+use Rattle.visit_log.specs.Run.{Leads, WorkerView, Happens, Told, Dark, IsReached, IsLooking, now_at}
 use Rattle.visit_log.specs.Sound.{IsSoundRequest, IsSoundUpdate, IsAnswer}
 use Rattle.visit_log.specs.Counts.{own_slots, own_size, slot_once, enters, leaves, enters_some, leaves_some, units_in, rooms_in, to_come}
 use Rattle.visit_log.specs.Laws.{IsLeftAlone, LeavesOwn}
@@ -32,11 +32,11 @@ use Rattle.worker_core.proofs.Reached.{starve_now}
 use Rattle.worker_core.proofs.TurnsStages.{enters_by_unit, Going, going_after, entering_at, looking_at, goes_on_asked, enters_few, MayAnswer, may_fits, asked_costs, asked_same, starves_less, starves_wind}
 
 -- A worker once it was asked.
-abbrev pub once_asked : Standing → Standing
+abbrev pub once_asked : WorkerView → WorkerView
 once_asked v = record { task = v.task; state = asked v.state; waiting = true }
 
 -- What one request over a port comes to.
-pub record Turned {P : Type 0} (turn : P → List Key → Request → Option Answer → P → Type 0) (book : P → Book) (before after : P) (v w : Standing) (event : Event) : Type 0 where
+pub record Turned {P : Type 0} (turn : P → List Key → Request → Option Reply → P → Type 0) (book : P → Book) (before after : P) (v w : WorkerView) (event : Exchange) : Type 0 where
   pub suits : Suits w (book after)
   pub went : WentBy turn before after v w (event ∷ [])
   pub others : KeepsOthers v w (book before) (book after)
@@ -45,11 +45,11 @@ pub record Turned {P : Type 0} (turn : P → List Key → Request → Option Ans
 -- 1. WHAT THE PORT ASKS OF THE WORKER.
 
 -- A unit or room is asked for where the port goes on.
-pub port_goes : (v : Standing) (book : Book) (q : Request) → Suits v book → q ≡ asks v.state → (q ≡ Draws) ⊎ (q ≡ Claims) → book.going ≡ true
+pub port_goes : (v : WorkerView) (book : Book) (q : Request) → Suits v book → q ≡ asks v.state → (q ≡ Draws) ⊎ (q ≡ Claims) → book.going ≡ true
 port_goes v book q suits e is = goes_on_asked book.going q v.state.stage v.state.frames suits.going e is
 
 -- There is room for the slot that it enters.
-pub few_slots : (v : Standing) (book : Book) (key : Key) (numbers : Numbers) → Suits v book → Enter key numbers ≡ asks v.state → book.size < MOST_EXPANSIONS
+pub few_slots : (v : WorkerView) (book : Book) (key : Key) (numbers : Numbers) → Suits v book → Enter key numbers ≡ asks v.state → book.size < MOST_EXPANSIONS
 few_slots v book key numbers suits e =
     let enters = entering_at key numbers v.state.stage v.state.frames e in
     let size = suits.size in
@@ -57,7 +57,7 @@ few_slots v book key numbers suits e =
     omega (arith, enters, size, most)
 
 -- What it leaves is held.
-pub left_held : LeavesOwn → (v : Standing) (book : Book) (kept : Kept) (key : Key) (update : Update) → Suits v book → Leave kept key update ≡ asks v.state
+pub left_held : LeavesOwn → (v : WorkerView) (book : Book) (kept : Kept) (key : Key) (update : Update) → Suits v book → Leave kept key update ≡ asks v.state
     → (other : Key) (slot : ℕ) → slot_once kept key other slot ≤ book.held other slot
 left_held law v book kept key update suits e other slot =
     let own : leaves (asks v.state, Some LeftIt) other slot ≤ own_slots v.state.frames other slot = law v.state LeftIt other slot in
@@ -67,12 +67,12 @@ left_held law v book kept key update suits e other slot =
     omega (arith, own, this, held)
 
 -- The update with which it leaves is one for the port's problem.
-pub left_sound : (v : Standing) (book : Book) (kept : Kept) (key : Key) (update : Update) → Suits v book → IsSoundRequest v.task (Leave kept key update)
+pub left_sound : (v : WorkerView) (book : Book) (kept : Kept) (key : Key) (update : Update) → Suits v book → IsSoundRequest v.task (Leave kept key update)
     → IsSoundUpdate book.problem.side key update
 left_sound v book kept key update suits sound = subst (λ (b : Board). IsSoundUpdate b.side key update) suits.problem sound
 
 -- The note that it posts answers the port's problem.
-pub post_sound : (v : Standing) (book : Book) (note : Derivation) → Suits v book → IsAnswer v.task note → IsAnswer (task_for book.problem 1) note
+pub post_sound : (v : WorkerView) (book : Book) (note : Derivation) → Suits v book → IsAnswer v.task note → IsAnswer (task_for book.problem 1) note
 post_sound v book note suits sound = record {
   valid = sound.valid;
   closed = sound.closed;
@@ -83,7 +83,7 @@ post_sound v book note suits sound = record {
 -- 2. WHICH ANSWERS MAY COME.
 
 -- A unit comes where the worker has fewer than a billion.
-pub unit_may : (v : Standing) (before after : Book) (draw : Draw) → Suits v before → IsBooked (Draws, Some (Drew draw)) before after
+pub unit_may : (v : WorkerView) (before after : Book) (draw : Draw) → Suits v before → IsBooked (Draws, Some (Drew draw)) before after
     → MayAnswer v.task v.state Draws (Drew draw)
 unit_may v before after (Go unit) suits booked =
     let more = booked.units in
@@ -94,15 +94,15 @@ unit_may v before after Done suits booked = tt
 unit_may v before after AllDrawn suits booked = tt
 
 -- What is shown may be shown on the worker's path.
-pub shown_may : (v : Standing) (book : Book) (key : Key) (path : List Key) (seen : Seen) → Suits v book → path ≡ path_of v.task (asked v.state).frames
+pub shown_may : (v : WorkerView) (book : Book) (key : Key) (path : List Key) (seen : Seen) → Suits v book → path ≡ path_of v.task (asked v.state).frames
     → MayShow book.problem.side key path seen → MayAnswer v.task v.state (Look key) (Looked seen)
 shown_may v book key path seen suits e may =
     subst (λ (p : List Key). MayShow (attacker_in v.task) key p seen) e (subst (λ (b : Board). MayShow b.side key path seen) (sym suits.problem) may)
 
 -- So it fits the worker that was asked.
-pub answer_fits : (v m : Standing) (q : Request) (a : Answer) → q ≡ asks v.state → m ≡ once_asked v → MayAnswer v.task v.state q a → Fits m.task m.state a
+pub answer_fits : (v m : WorkerView) (q : Request) (a : Reply) → q ≡ asks v.state → m ≡ once_asked v → MayAnswer v.task v.state q a → Fits m.task m.state a
 answer_fits v m q a e em may =
-    subst (λ (z : Standing). Fits z.task z.state a) (sym em) (may_fits v.task v.state a (subst (λ (z : Request). MayAnswer v.task v.state z a) e may))
+    subst (λ (z : WorkerView). Fits z.task z.state a) (sym em) (may_fits v.task v.state a (subst (λ (z : Request). MayAnswer v.task v.state z a) e may))
 
 -- 3. ONE REQUEST.
 
@@ -111,14 +111,14 @@ going_asked going st (inl goes) = inl goes
 going_asked going st (inr winding) = inr (winding.0, ap asked_at winding.1)
 
 -- What the port did for a path is done for the path of the worker that asked, where it is that.
-pub on_path : {P : Type 0} (turn : P → List Key → Request → Option Answer → P → Type 0) (pa pb : P) (q : Request) (a : Option Answer) (path : List Key) (v m : Standing)
+pub on_path : {P : Type 0} (turn : P → List Key → Request → Option Reply → P → Type 0) (pa pb : P) (q : Request) (a : Option Reply) (path : List Key) (v m : WorkerView)
     → path ≡ path_of m.task m.state.frames → m ≡ once_asked v → turn pa path q a pb → turn pa (path_of v.task v.state.frames) q a pb
-on_path {P} turn pa pb q a path v m e em t = subst (λ (z : List Key). turn pa z q a pb) (e ∙ ap (λ (z : Standing). path_of z.task z.state.frames) em) t
+on_path {P} turn pa pb q a path v m e em t = subst (λ (z : List Key). turn pa z q a pb) (e ∙ ap (λ (z : WorkerView). path_of z.task z.state.frames) em) t
 
 -- A request that was answered.
-pub turned_by : {P : Type 0} (turn : P → List Key → Request → Option Answer → P → Type 0) (book : P → Book) (pa pb : P) (v w m : Standing) (q : Request) (a : Answer)
+pub turned_by : {P : Type 0} (turn : P → List Key → Request → Option Reply → P → Type 0) (book : P → Book) (pa pb : P) (v w m : WorkerView) (q : Request) (a : Reply)
     → q ≡ asks v.state → m ≡ once_asked v → turn pa (path_of v.task v.state.frames) q (Some a) pb → IsBooked (q, Some a) (book pa) (book pb) → Suits v (book pa) → w.task ≡ m.task
-    → ((log : List Event) (s : State) → Leads m.task log s → m.state ≡ asked s → Leads m.task (log ++ (asks s, Some a) ∷ []) w.state)
+    → ((log : List Exchange) (s : State) → Leads m.task log s → m.state ≡ asked s → Leads m.task (log ++ (asks s, Some a) ∷ []) w.state)
     → ((s : State) → m.state ≡ asked s → Happens m.task s (Told (asks s) a) w.state) → LeadsTo m.task m.state a w.state
     → ((key : Key) (slot : ℕ) → own_slots w.state.frames key slot + leaves (asks m.state, Some a) key slot ≡ own_slots m.state.frames key slot + enters (asks m.state, Some a) key slot)
     → own_size w.state.frames + leaves_some (asks m.state, Some a) ≡ own_size m.state.frames + enters_some (asks m.state, Some a)
@@ -127,8 +127,8 @@ turned_by turn book pa pb v w m q a eq em t booked suits task log happens leads 
     let s : State = v.state in
     let b : Book = book pa in
     let d : Book = book pb in
-    let ms : m.state ≡ asked s = ap (λ (z : Standing). z.state) em in
-    let mt : m.task ≡ v.task = ap (λ (z : Standing). z.task) em in
+    let ms : m.state ≡ asked s = ap (λ (z : WorkerView). z.state) em in
+    let mt : m.task ≡ v.task = ap (λ (z : WorkerView). z.task) em in
     let wt : w.task ≡ v.task = task ∙ mt in
     let f1 : m.state.frames ≡ s.frames = ap (λ (z : State). z.frames) ms in
     let v1 : m.state.visits ≡ s.visits = ap (λ (z : State). z.visits) ms in
@@ -138,7 +138,7 @@ turned_by turn book pa pb v w m q a eq em t booked suits task log happens leads 
     λ k x.
     let move = slots k x in
     let same = asked_same s a k x in
-    let o : own_slots m.state.frames k x ≡ own_slots s.frames k x = ap (λ (z : List Visiting). own_slots z k x) f1 in
+    let o : own_slots m.state.frames k x ≡ own_slots s.frames k x = ap (λ (z : List FrameView). own_slots z k x) f1 in
     let i : enters (asks m.state, Some a) k x ≡ enters (q, Some a) k x =
     ap (λ (z : State). enters (asks z, Some a) k x) ms ∙ (same.0 ∙ ap (λ (z : Request). enters (z, Some a) k x) (sym eq)) in
     let l : leaves (asks m.state, Some a) k x ≡ leaves (q, Some a) k x =
@@ -185,25 +185,25 @@ turned_by turn book pa pb v w m q a eq em t booked suits task log happens leads 
     }
 
 -- A look that was refused memory.
-pub turned_dark : {P : Type 0} (turn : P → List Key → Request → Option Answer → P → Type 0) (book : P → Book) (pa pb : P) (v w m : Standing) (key : Key)
+pub turned_dark : {P : Type 0} (turn : P → List Key → Request → Option Reply → P → Type 0) (book : P → Book) (pa pb : P) (v w m : WorkerView) (key : Key)
     → Look key ≡ asks v.state → m ≡ once_asked v → turn pa (path_of v.task v.state.frames) (Look key) None pb → IsBooked (Look key, None) (book pa) (book pb) → Suits v (book pa)
     → w ≡ record { task = m.task; state = starve m.state; waiting = false }
-    → ((log : List Event) (s : State) → Leads m.task log s → m.state ≡ asked s → IsLooking s.stage → Leads m.task (log ++ (asks s, None) ∷ []) w.state)
+    → ((log : List Exchange) (s : State) → Leads m.task log s → m.state ≡ asked s → IsLooking s.stage → Leads m.task (log ++ (asks s, None) ∷ []) w.state)
     → IsLeftAlone m.state w.state → Turned turn book pa pb v w (Look key, None)
 turned_dark turn book pa pb v w m key eq em t booked suits ew dark alone =
     let s : State = v.state in
     let b : Book = book pa in
     let d : Book = book pb in
-    let ms : m.state ≡ asked s = ap (λ (z : Standing). z.state) em in
-    let mt : m.task ≡ v.task = ap (λ (z : Standing). z.task) em in
-    let wt : w.task ≡ v.task = ap (λ (z : Standing). z.task) ew ∙ mt in
-    let ws : w.state ≡ starve (asked s) = ap (λ (z : Standing). z.state) ew ∙ ap starve ms in
+    let ms : m.state ≡ asked s = ap (λ (z : WorkerView). z.state) em in
+    let mt : m.task ≡ v.task = ap (λ (z : WorkerView). z.task) em in
+    let wt : w.task ≡ v.task = ap (λ (z : WorkerView). z.task) ew ∙ mt in
+    let ws : w.state ≡ starve (asked s) = ap (λ (z : WorkerView). z.state) ew ∙ ap starve ms in
     let f1 : m.state.frames ≡ s.frames = ap (λ (z : State). z.frames) ms in
     let v1 : m.state.visits ≡ s.visits = ap (λ (z : State). z.visits) ms in
     let c1 : m.state.claims ≡ s.claims = ap (λ (z : State). z.claims) ms in
     let at : IsLooking s.stage = looking_at key s.stage s.frames eq in
     let own : (key : Key) (slot : ℕ) → own_slots w.state.frames key slot ≡ own_slots s.frames key slot =
-    λ k x. alone.slots k x ∙ ap (λ (z : List Visiting). own_slots z k x) f1 in
+    λ k x. alone.slots k x ∙ ap (λ (z : List FrameView). own_slots z k x) f1 in
     let size : own_size w.state.frames ≡ own_size s.frames = alone.size ∙ ap own_size f1 in
     let winds : w.state.stage ≡ Winding NoMemory = ap (λ (z : State). z.stage) ws ∙ starves_wind s at in
     let unit : entering w.state.stage ≡ 0 = ap entering winds in
@@ -246,37 +246,37 @@ turned_dark turn book pa pb v w m key eq em t booked suits ew dark alone =
 -- 4. MANY REQUESTS.
 
 -- No request was made.
-pub went_none : {P : Type 0} (turn : P → List Key → Request → Option Answer → P → Type 0) (p : P) (v : Standing) → WentBy turn p p v v []
+pub went_none : {P : Type 0} (turn : P → List Key → Request → Option Reply → P → Type 0) (p : P) (v : WorkerView) → WentBy turn p p v v []
 went_none turn p v = record {
   port = (refl, refl);
   task = refl;
-  log = λ l h. subst (λ (z : List Event). Leads v.task z v.state) (sym (append-nil l)) h;
+  log = λ l h. subst (λ (z : List Exchange). Leads v.task z v.state) (sym (append-nil l)) h;
 }
 
 -- What the port holds beside the worker's own slots is what it was.
-pub keeps_none : (v : Standing) (book : Book) → KeepsOthers v v book book
+pub keeps_none : (v : WorkerView) (book : Book) → KeepsOthers v v book book
 keeps_none v book = record { held = λ k x. refl; size = refl; units = refl; rooms = refl }
 
-went_then : {P : Type 0} (turn : P → List Key → Request → Option Answer → P → Type 0) (task : Task) (a m b : P) (s t u : State) (es fs : List Event)
+went_then : {P : Type 0} (turn : P → List Key → Request → Option Reply → P → Type 0) (task : Task) (a m b : P) (s t u : State) (es fs : List Exchange)
     → Went turn task a s es m t → Went turn task m t fs b u → Went turn task a s (es ++ fs) b u
 went_then {P} turn task a m b s t u [] fs h k =
     subst (λ (z : P). Went turn task z s fs b u) (sym h.0) (subst (λ (z : State). Went turn task m z fs b u) (sym h.1) k)
 went_then {P} turn task a m b s t u (e ∷ es) fs h k = (h.0, h.1, h.2, h.3, went_then turn task h.0 m b h.1 t u es fs h.4 k)
 
 -- One run goes on behind the other.
-pub went_on : {P : Type 0} (turn : P → List Key → Request → Option Answer → P → Type 0) (p0 p1 p2 : P) (w0 w1 w2 : Standing) (es fs : List Event)
+pub went_on : {P : Type 0} (turn : P → List Key → Request → Option Reply → P → Type 0) (p0 p1 p2 : P) (w0 w1 w2 : WorkerView) (es fs : List Exchange)
     → WentBy turn p0 p1 w0 w1 es → WentBy turn p1 p2 w1 w2 fs → WentBy turn p0 p2 w0 w2 (es ++ fs)
 went_on turn p0 p1 p2 w0 w1 w2 es fs one two = record {
   port = went_then turn w0.task p0 p1 p2 w0.state w1.state w2.state es fs one.port
       (subst (λ (z : Task). Went turn z p1 w1.state fs p2 w2.state) one.task two.port);
   task = two.task ∙ one.task;
-  log = λ l h. subst (λ (z : List Event). Leads w0.task z w2.state) (append_assoc l es fs)
+  log = λ l h. subst (λ (z : List Exchange). Leads w0.task z w2.state) (append_assoc l es fs)
       (subst (λ (z : Task). Leads z ((l ++ es) ++ fs) w2.state) one.task
       (two.log (l ++ es) (subst (λ (z : Task). Leads z (l ++ es) w1.state) (sym one.task) (one.log l h))));
 }
 
 -- And keeps what the other kept.
-pub keeps_on : (w0 w1 w2 : Standing) (b0 b1 b2 : Book) → KeepsOthers w0 w1 b0 b1 → KeepsOthers w1 w2 b1 b2 → KeepsOthers w0 w2 b0 b2
+pub keeps_on : (w0 w1 w2 : WorkerView) (b0 b1 b2 : Book) → KeepsOthers w0 w1 b0 b1 → KeepsOthers w1 w2 b1 b2 → KeepsOthers w0 w2 b0 b2
 keeps_on w0 w1 w2 b0 b1 b2 one two = record {
   held = λ k x. let h = one.held k x in let j = two.held k x in omega (arith, h, j);
   size = (let h = one.size in let j = two.size in omega (arith, h, j));
@@ -285,14 +285,14 @@ keeps_on w0 w1 w2 b0 b1 b2 one two = record {
 }
 
 -- A worker to which no request is open stands by each log that leads to it.
-pub reached_by : (w : Standing) (log : List Event) → w.waiting ≡ false → Leads w.task log w.state → IsReached w log
+pub reached_by : (w : WorkerView) (log : List Exchange) → w.waiting ≡ false → Leads w.task log w.state → IsReached w log
 reached_by w log idle leads = record { state = w.state; leads = leads; now = sym (ap (λ (b : Bool). now_at b w.state) idle) }
 
 -- So with what it was asked and told till it ended, each log before is a visit log.
-pub whole_on : {P : Type 0} (turn : P → List Key → Request → Option Answer → P → Type 0) (p0 p1 : P) (w0 w1 : Standing) (events : List Event) (end : WorkEnd)
+pub whole_on : {P : Type 0} (turn : P → List Key → Request → Option Reply → P → Type 0) (p0 p1 : P) (w0 w1 : WorkerView) (events : List Exchange) (end : WorkEnd)
     → WentBy turn p0 p1 w0 w1 events → w1.waiting ≡ false → end_of w1.state ≡ Some end
-    → ((log : List Event) (end : WorkEnd) → IsReached w1 log → end_of w1.state ≡ Some end → IsVisitLog w1.task log end)
-    → (log : List Event) → Leads w0.task log w0.state → IsVisitLog w0.task (log ++ events) end
+    → ((log : List Exchange) (end : WorkEnd) → IsReached w1 log → end_of w1.state ≡ Some end → IsVisitLog w1.task log end)
+    → (log : List Exchange) → Leads w0.task log w0.state → IsVisitLog w0.task (log ++ events) end
 whole_on turn p0 p1 w0 w1 events end went idle ended whole log leads =
     let on : Leads w0.task (log ++ events) w1.state = went.log log leads in
     let here : Leads w1.task (log ++ events) w1.state = subst (λ (z : Task). Leads z (log ++ events) w1.state) (sym went.task) on in

@@ -9,7 +9,7 @@ use Rattle.notes.specs.declared.words.Kept.{Kept}
 use Rattle.notes.specs.declared.words.Kept.TheVariants.{Slot, Unkept}
 use Rattle.notes.specs.declared.words.Seen.{Seen}
 use Rattle.notes.specs.declared.words.Draw.TheVariants.{Go, Done, Spent as AllDrawn}
-use Rattle.notes.specs.declared.words.Claim.TheVariants.{Room, NoRoom as Full}
+use Rattle.notes.specs.declared.words.RoomAnswer.TheVariants.{Room, NoRoom as Full}
 use Rattle.notes.specs.declared.words.Update.TheVariants.{Nothing}
 use Rattle.pn_numbers.specs.declared.numbers.Numbers.{Numbers}
 use Rattle.visit_log.specs.declared.parts.Child.{Child}
@@ -21,9 +21,9 @@ use Rattle.visit_log.specs.declared.words.WorkEnd.{WorkEnd}
 use Rattle.visit_log.specs.declared.words.WorkEnd.TheVariants.{Posted, Spent, NoRoom, NoMemory, Stopped}
 use Rattle.visit_log.specs.declared.words.Request.{Request}
 use Rattle.visit_log.specs.declared.words.Request.TheVariants.{Poll, Draw as Draws, Claim as Claims, Look, Enter, Leave, Post}
-use Rattle.visit_log.specs.declared.words.Answer.{Answer}
-use Rattle.visit_log.specs.declared.words.Answer.TheVariants.{Poll as Polled, Draw as Drew, Claim as Claimed, Look as Looked, Enter as Entered, Leave as LeftIt, Post as PostedIt}
-use Rattle.visit_log.specs.Frame.{Task, Visiting, attacker_in}
+use Rattle.visit_log.specs.declared.words.Reply.{Reply}
+use Rattle.visit_log.specs.declared.words.Reply.TheVariants.{Poll as Polled, Draw as Drew, Claim as Claimed, Look as Looked, Enter as Entered, Leave as LeftIt, Post as PostedIt}
+use Rattle.visit_log.specs.Frame.{Task, FrameView, attacker_in}
 use Rattle.visit_log.specs.Round.{MayShow}
 use Rattle.visit_log.specs.Machine.{State, at_stage, bare, entered_ones, wind, starve, Settles, Opens, Sees, Makes, Returns, LeadsAt, Fits, rest_of, path_of, asks, asks_at, ask_look, ask_leave, ask_post, asked, asked_at}
 use Rattle.visit_log.specs.Run.{IsLooking}
@@ -42,7 +42,7 @@ entering_one (Leaving left) = omega arith
 entering_one (Posting posted) = omega arith
 entering_one (Winding end) = omega arith
 
-settles_on : (task : Task) (f : Visiting) (st : Stage) (g : Visiting) → Settles task f st g → entering st ≡ 0
+settles_on : (task : Task) (f : FrameView) (st : Stage) (g : FrameView) → Settles task f st g → entering st ≡ 0
 settles_on task f (Polling e) g h = refl
 settles_on task f (Drawing e) g h = refl
 settles_on task f Entering g h = absurd h
@@ -55,28 +55,28 @@ settles_on task f (Winding end) g h = refl
 wound : (s t : State) (end : WorkEnd) → t ≡ wind s end → entering t.stage ≡ 0
 wound s t end e = ap (λ (z : State). entering z.stage) e
 
-opens_on : (task : Task) (s : State) (fs : List Visiting) (kept : Kept) (t : State) → Opens task s fs kept t → entering t.stage ≡ 0
+opens_on : (task : Task) (s : State) (fs : List FrameView) (kept : Kept) (t : State) → Opens task s fs kept t → entering t.stage ≡ 0
 opens_on task s [] kept t h = absurd h
 opens_on task s (f ∷ fs) kept t (inl listed) = settles_on task _ t.stage listed.2.next listed.2.settles
 opens_on task s (f ∷ fs) kept t (inr lost) = ap (λ (z : State). entering z.stage) lost
 
-sees_on : (task : Task) (s : State) (place : ℕ) (fs : List Visiting) (seen : Seen) (t : State) → Sees task s place fs seen t → entering t.stage ≡ 0
+sees_on : (task : Task) (s : State) (place : ℕ) (fs : List FrameView) (seen : Seen) (t : State) → Sees task s place fs seen t → entering t.stage ≡ 0
 sees_on task s place [] seen t h = absurd h
 sees_on task s place (f ∷ fs) seen t h = settles_on task _ t.stage h.5.next h.5.settles
 
-makes_on : (task : Task) (s : State) (fs : List Visiting) (t : State) → Makes task s fs t → entering t.stage ≡ 0
+makes_on : (task : Task) (s : State) (fs : List FrameView) (t : State) → Makes task s fs t → entering t.stage ≡ 0
 makes_on task s [] t h = absurd h
 makes_on task s (f ∷ fs) t (inl made) = ap (λ (z : State). entering z.stage) made.2
 makes_on task s (f ∷ fs) t (inr refused) = ap (λ (z : State). entering z.stage) refused.2
 
-returns_on : (task : Task) (s : State) (fs : List Visiting) (left : Left) (t : State) → Returns task s fs left t → entering t.stage ≡ 0
+returns_on : (task : Task) (s : State) (fs : List FrameView) (left : Left) (t : State) → Returns task s fs left t → entering t.stage ≡ 0
 returns_on task s [] (Solved note) t h = ap (λ (z : State). entering z.stage) h
 returns_on task s [] (Open numbers) t h = absurd h
 returns_on task s (g ∷ gs) (Solved note) t h = settles_on task _ t.stage h.2.next h.2.settles
 returns_on task s (g ∷ gs) (Open numbers) t h = settles_on task _ t.stage h.2.next h.2.settles
 
 -- Only a unit leads to entering.
-pub enters_by_unit : (task : Task) (s : State) (st : Stage) (a : Answer) (t : State) → LeadsAt task s st a t → entering t.stage ≤ units_in a
+pub enters_by_unit : (task : Task) (s : State) (st : Stage) (a : Reply) (t : State) → LeadsAt task s st a t → entering t.stage ≤ units_in a
 enters_by_unit task s (Polling e) (Polled true) t h = let z = wound s t Stopped h in omega (arith, z)
 enters_by_unit task s (Polling e) (Polled false) t h = let z : entering t.stage ≡ 0 = ap (λ (z : State). entering z.stage) h in omega (arith, z)
 enters_by_unit task s (Polling e) (Drew draw) t h = absurd h
@@ -145,7 +145,7 @@ abbrev pub Going : Bool → Stage → Type 0
 Going going st = (going ≡ true) ⊎ ((end : WorkEnd) × (st ≡ Winding end))
 
 -- An answer that nothing more is handed out makes the worker wind up.
-ends_wind : (task : Task) (s : State) (st : Stage) (a : Answer) (t : State) → LeadsAt task s st a t → ends_by (Some a) ≡ true
+ends_wind : (task : Task) (s : State) (st : Stage) (a : Reply) (t : State) → LeadsAt task s st a t → ends_by (Some a) ≡ true
     → (end : WorkEnd) × (t.stage ≡ Winding end)
 ends_wind task s st (Polled stop) t h e = absurd (cc)
 ends_wind task s st (Looked seen) t h e = absurd (cc)
@@ -180,7 +180,7 @@ ends_wind task s (Posting posted) (Claimed Full) t h e = absurd h
 ends_wind task s (Winding end) (Claimed Full) t h e = absurd h
 
 -- A worker that winds up goes on so.
-winds_on : (task : Task) (s : State) (end : WorkEnd) (a : Answer) (t : State) → LeadsAt task s (Winding end) a t → t.stage ≡ Winding end
+winds_on : (task : Task) (s : State) (end : WorkEnd) (a : Reply) (t : State) → LeadsAt task s (Winding end) a t → t.stage ≡ Winding end
 winds_on task s end (Polled stop) t h = absurd h
 winds_on task s end (Drew draw) t h = absurd h
 winds_on task s end (Claimed claim) t h = absurd h
@@ -190,7 +190,7 @@ winds_on task s end LeftIt t h = ap (λ (z : State). z.stage) h
 winds_on task s end PostedIt t h = absurd h
 
 -- So the port goes on after an answer, or the worker winds up.
-pub going_after : (task : Task) (s : State) (st : Stage) (a : Answer) (t : State) (before after : Bool) → LeadsAt task s st a t → Going before st
+pub going_after : (task : Task) (s : State) (st : Stage) (a : Reply) (t : State) (before after : Bool) → LeadsAt task s st a t → Going before st
     → after ≡ (if ends_by (Some a) then false else before) → Going after t.stage
 going_after task s st a t before after leads (inr winding) e =
     inr (winding.0, winds_on task s winding.0 a t (subst (λ (z : Stage). LeadsAt task s z a t) winding.1 leads))
@@ -207,7 +207,7 @@ looks_not_enters key numbers None e = cc
 looks_not_enters key numbers (Some child) e = cc
 
 -- Where it asks to enter, it is about to.
-pub entering_at : (key : Key) (numbers : Numbers) (st : Stage) (fs : List Visiting) → Enter key numbers ≡ asks_at st fs → entering st ≡ 1
+pub entering_at : (key : Key) (numbers : Numbers) (st : Stage) (fs : List FrameView) → Enter key numbers ≡ asks_at st fs → entering st ≡ 1
 entering_at key numbers (Polling e) fs e0 = absurd (cc)
 entering_at key numbers (Drawing e) fs e0 = absurd (cc)
 entering_at key numbers Entering [] e0 = absurd (cc)
@@ -223,7 +223,7 @@ entering_at key numbers (Winding end) [] e0 = absurd (cc)
 entering_at key numbers (Winding end) (f ∷ fs) e0 = absurd (cc)
 
 -- Where it asks to look, it does.
-pub looking_at : (key : Key) (st : Stage) (fs : List Visiting) → Look key ≡ asks_at st fs → IsLooking st
+pub looking_at : (key : Key) (st : Stage) (fs : List FrameView) → Look key ≡ asks_at st fs → IsLooking st
 looking_at key (Polling e) fs e0 = absurd (cc)
 looking_at key (Drawing e) fs e0 = absurd (cc)
 looking_at key Entering [] e0 = absurd (cc)
@@ -239,24 +239,24 @@ looking_at key (Winding end) [] e0 = absurd (cc)
 looking_at key (Winding end) (f ∷ fs) e0 = absurd (cc)
 
 -- Whoever winds up asks to leave, or for his end.
-winding_leaves : (q : Request) (end : WorkEnd) (fs : List Visiting) → q ≡ ask_leave fs Nothing end → (q ≡ Draws) ⊎ (q ≡ Claims) → ⊥
+winding_leaves : (q : Request) (end : WorkEnd) (fs : List FrameView) → q ≡ ask_leave fs Nothing end → (q ≡ Draws) ⊎ (q ≡ Claims) → ⊥
 winding_leaves q end [] e (inl is) = cc
 winding_leaves q end [] e (inr is) = cc
 winding_leaves q end (f ∷ fs) e (inl is) = cc
 winding_leaves q end (f ∷ fs) e (inr is) = cc
 
 -- So where a unit or room is asked for, the port goes on.
-pub goes_on_asked : (going : Bool) (q : Request) (st : Stage) (fs : List Visiting) → Going going st → q ≡ asks_at st fs → (q ≡ Draws) ⊎ (q ≡ Claims) → going ≡ true
+pub goes_on_asked : (going : Bool) (q : Request) (st : Stage) (fs : List FrameView) → Going going st → q ≡ asks_at st fs → (q ≡ Draws) ⊎ (q ≡ Claims) → going ≡ true
 goes_on_asked going q st fs (inl goes) e is = goes
 goes_on_asked going q st fs (inr winding) e is =
     absurd (winding_leaves q winding.0 fs (e ∙ ap (λ (z : Stage). asks_at z fs) winding.1) is)
 
-looks_enter_none : (a : Answer) (o : Option Child) → enters_some (ask_look o, Some a) ≤ 0
+looks_enter_none : (a : Reply) (o : Option Child) → enters_some (ask_look o, Some a) ≤ 0
 looks_enter_none a None = omega arith
 looks_enter_none a (Some child) = omega arith
 
 -- It enters something only where it is about to.
-pub enters_few : (a : Answer) (st : Stage) (fs : List Visiting) → enters_some (asks_at st fs, Some a) ≤ entering st
+pub enters_few : (a : Reply) (st : Stage) (fs : List FrameView) → enters_some (asks_at st fs, Some a) ≤ entering st
 enters_few a (Polling e) fs = omega arith
 enters_few a (Drawing e) fs = omega arith
 enters_few a Entering [] = omega arith
@@ -279,7 +279,7 @@ enters_few a (Winding end) [] = omega arith
 enters_few a (Winding end) (f ∷ fs) = omega arith
 
 -- What the answer to a request may be, by the request.
-abbrev pub MayAnswer : Task → State → Request → Answer → Type 0
+abbrev pub MayAnswer : Task → State → Request → Reply → Type 0
 MayAnswer task s Poll (Polled stop) = Unit {0}
 MayAnswer task s Draws (Drew (Go unit)) = s.visits < MOST_EXPANSIONS
 MayAnswer task s Draws (Drew Done) = Unit {0}
@@ -291,7 +291,7 @@ MayAnswer task s (Leave kept key update) LeftIt = Unit {0}
 MayAnswer task s (Post note) PostedIt = Unit {0}
 MayAnswer task s request answer = ⊥
 
-abbrev IsOther : Answer → Type 0
+abbrev IsOther : Reply → Type 0
 IsOther (Polled stop) = Unit {0}
 IsOther (Drew draw) = Unit {0}
 IsOther (Claimed claim) = Unit {0}
@@ -300,7 +300,7 @@ IsOther (Entered kept) = Unit {0}
 IsOther LeftIt = Unit {0}
 IsOther PostedIt = Unit {0}
 
-other_look : (task : Task) (o : Option Child) (s : State) (a : Answer) → IsOther a → MayAnswer task s (ask_look o) a → ⊥
+other_look : (task : Task) (o : Option Child) (s : State) (a : Reply) → IsOther a → MayAnswer task s (ask_look o) a → ⊥
 other_look task None s (Polled stop) is h = absurd h
 other_look task (Some child) s (Polled stop) is h = absurd h
 other_look task None s (Drew draw) is h = absurd h
@@ -315,7 +315,7 @@ other_look task (Some child) s LeftIt is h = absurd h
 other_look task None s PostedIt is h = absurd h
 other_look task (Some child) s PostedIt is h = absurd h
 
-may_fit : (task : Task) (st : Stage) (fs : List Visiting) (v c : ℕ) (a : Answer)
+may_fit : (task : Task) (st : Stage) (fs : List FrameView) (v c : ℕ) (a : Reply)
     → MayAnswer task (record { stage = st; frames = fs; visits = v; claims = c }) (asks_at st fs) a → Fits task (asked (record { stage = st; frames = fs; visits = v; claims = c })) a
 may_fit task (Polling e) fs v c (Polled stop) h = tt
 may_fit task (Polling e) fs v c (Drew draw) h = absurd h
@@ -383,7 +383,7 @@ may_fit task (Winding end) (f ∷ fs) v c LeftIt h = tt
 may_fit task (Winding end) (f ∷ fs) v c PostedIt h = absurd h
 
 -- Such an answer fits the worker that was asked.
-pub may_fits : (task : Task) (s : State) (a : Answer) → MayAnswer task s (asks s) a → Fits task (asked s) a
+pub may_fits : (task : Task) (s : State) (a : Reply) → MayAnswer task s (asks s) a → Fits task (asked s) a
 may_fits task s a h = may_fit task s.stage s.frames s.visits s.claims a h
 
 -- 4. WHAT CHANGES WHEN IT IS ASKED.
@@ -403,13 +403,13 @@ asked_costs s = by_stage s.stage
     by_stage (Winding end) = refl
 
 -- Both events enter and leave the same.
-abbrev pub IsSame : Request → Request → Answer → Key → ℕ → Type 0
+abbrev pub IsSame : Request → Request → Reply → Key → ℕ → Type 0
 IsSame q r a key slot =
     (enters (q, Some a) key slot ≡ enters (r, Some a) key slot) × (leaves (q, Some a) key slot ≡ leaves (r, Some a) key slot)
     × (enters_some (q, Some a) ≡ enters_some (r, Some a)) × (leaves_some (q, Some a) ≡ leaves_some (r, Some a))
 
 -- What it would ask once more enters and leaves what it asked does.
-pub asked_same : (s : State) (a : Answer) (key : Key) (slot : ℕ) → IsSame (asks (asked s)) (asks s) a key slot
+pub asked_same : (s : State) (a : Reply) (key : Key) (slot : ℕ) → IsSame (asks (asked s)) (asks s) a key slot
 asked_same s a key slot = by_stage s.stage
   where
     by_note : (note : Option Derivation) → IsSame (ask_post None) (ask_post note) a key slot
@@ -426,7 +426,7 @@ asked_same s a key slot = by_stage s.stage
     by_stage (Posting posted) = by_note posted
     by_stage (Winding end) = (refl, refl, refl, refl)
 
-length-entered : (fs : List Visiting) → length (entered_ones fs) ≤ length fs
+length-entered : (fs : List FrameView) → length (entered_ones fs) ≤ length fs
 length-entered [] = omega arith
 length-entered (f ∷ fs) = by_kept (is_some f.kept)
   where
@@ -434,7 +434,7 @@ length-entered (f ∷ fs) = by_kept (is_some f.kept)
     by_kept true = let n : length (map bare fs) ≡ length fs = length-map fs bare in omega (arith, n)
     by_kept false = let n : length (map bare fs) ≡ length fs = length-map fs bare in omega (arith, n)
 
-starved_less : (st : Stage) (fs : List Visiting) (v c : ℕ) → IsLooking st
+starved_less : (st : Stage) (fs : List FrameView) (v c : ℕ) → IsLooking st
     → to_come (starve (asked (record { stage = st; frames = fs; visits = v; claims = c }))) < to_come (record { stage = st; frames = fs; visits = v; claims = c })
 starved_less (Polling e) fs v c at = absurd at
 starved_less (Drawing e) fs v c at = absurd at
@@ -449,7 +449,7 @@ starved_less (Winding end) fs v c at = absurd at
 pub starves_less : (s : State) → IsLooking s.stage → to_come (starve (asked s)) < to_come s
 starves_less s at = starved_less s.stage s.frames s.visits s.claims at
 
-starved_wind : (st : Stage) (fs : List Visiting) (v c : ℕ) → IsLooking st
+starved_wind : (st : Stage) (fs : List FrameView) (v c : ℕ) → IsLooking st
     → (starve (asked (record { stage = st; frames = fs; visits = v; claims = c }))).stage ≡ Winding NoMemory
 starved_wind (Polling e) fs v c at = absurd at
 starved_wind (Drawing e) fs v c at = absurd at

@@ -10,7 +10,7 @@ use Rattle.visit_log.specs.declared.words.Request.TheVariants.{Poll}
 use Rattle.visit_log.specs.declared.parts.Left.TheVariants.{Solved}
 
 -- Whose search it is, and where it stands.
-pub record Machine : Type 0 where
+pub record CoreView : Type 0 where
   pub task : Task
   pub state : State
 

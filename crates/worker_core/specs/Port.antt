@@ -5,17 +5,17 @@ use Rattle.board_core.specs.Board.{Board}
 use Rattle.board_core.specs.declared.keys.Key.{Key}
 use Rattle.notes.specs.declared.words.Seen.{Seen}
 use Rattle.notes.specs.declared.words.Draw.TheVariants.{Done, Spent as AllDrawn}
-use Rattle.notes.specs.declared.words.Claim.TheVariants.{NoRoom as Full}
+use Rattle.notes.specs.declared.words.RoomAnswer.TheVariants.{NoRoom as Full}
 use Rattle.visit_log.specs.declared.words.Request.{Request}
-use Rattle.visit_log.specs.declared.words.Answer.{Answer}
-use Rattle.visit_log.specs.declared.words.Answer.TheVariants.{Draw as Drew, Claim as Claimed, Look as Looked}
+use Rattle.visit_log.specs.declared.words.Reply.{Reply}
+use Rattle.visit_log.specs.declared.words.Reply.TheVariants.{Draw as Drew, Claim as Claimed, Look as Looked}
 use Rattle.visit_log.specs.declared.parts.Stage.{Stage}
 use Rattle.visit_log.specs.declared.parts.Stage.TheVariants.{Entering, Winding}
 use Rattle.visit_log.specs.declared.words.WorkEnd.{WorkEnd}
-use Rattle.visit_log.specs.Visit.{Event}
+use Rattle.visit_log.specs.Visit.{Exchange}
 use Rattle.visit_log.specs.Frame.{Task}
 use Rattle.visit_log.specs.Machine.{State, path_of}
-use Rattle.visit_log.specs.Run.{Standing, Leads, Happens, Told, Dark}
+use Rattle.visit_log.specs.Run.{WorkerView, Leads, Happens, Told, Dark}
 use Rattle.visit_log.specs.Counts.{own_slots, own_size, enters, leaves, enters_some, leaves_some, units_in, rooms_in}
 
 -- What a port tells: the problem; how many units it gave; whether it goes on (it said neither that all is done or spent nor that there is no room);
@@ -29,24 +29,24 @@ pub record Book : Type 0 where
   pub rooms : ℕ
 
 -- How many units an event gives.
-abbrev pub units_by : Event → ℕ
+abbrev pub units_by : Exchange → ℕ
 units_by (request, Some answer) = units_in answer
 units_by (request, None) = 0
 
 -- How much room for notes it gives.
-abbrev pub rooms_by : Event → ℕ
+abbrev pub rooms_by : Exchange → ℕ
 rooms_by (request, Some answer) = rooms_in answer
 rooms_by (request, None) = 0
 
 -- Whether it says that nothing more is handed out.
-abbrev pub ends_by : Option Answer → Bool
+abbrev pub ends_by : Option Reply → Bool
 ends_by (Some (Drew Done)) = true
 ends_by (Some (Drew AllDrawn)) = true
 ends_by (Some (Claimed Full)) = true
 ends_by answer = false
 
 -- What an event changes in a port's book: what it enters, leaves and gives, and nothing else. At most a billion units are given.
-pub record IsBooked (event : Event) (before after : Book) : Type 0 where
+pub record IsBooked (event : Exchange) (before after : Book) : Type 0 where
   pub problem : after.problem ≡ before.problem
   pub units : after.units ≡ before.units + units_by event
   pub most : before.units ≤ MOST_EXPANSIONS → after.units ≤ MOST_EXPANSIONS
@@ -56,18 +56,18 @@ pub record IsBooked (event : Event) (before after : Book) : Type 0 where
   pub rooms : after.rooms ≡ before.rooms + rooms_by event
 
 -- The answer to a look; none where memory was wanting.
-abbrev pub shown : {E : Type 0} → Result Seen E → Option Answer
+abbrev pub shown : {E : Type 0} → Result Seen E → Option Reply
 shown (Ok seen) = Some (Looked seen)
 shown (Err error) = None
 
 -- A worker that stands in the one state makes this request, and the answer leads it to the other; a look may be refused memory.
-abbrev pub Goes : Task → State → Event → State → Type 0
+abbrev pub Goes : Task → State → Exchange → State → Type 0
 Goes task s (request, Some answer) t = Happens task s (Told request answer) t
 Goes task s (request, None) t = Happens task s (Dark request) t
 
 -- A worker and the port went by these requests and answers, one after the other: the port's step is that of a worker on this path, and the
 -- answer leads the worker on.
-abbrev pub Went : {P : Type 0} → (P → List Key → Request → Option Answer → P → Type 0) → Task → P → State → List Event → P → State → Type 0
+abbrev pub Went : {P : Type 0} → (P → List Key → Request → Option Reply → P → Type 0) → Task → P → State → List Exchange → P → State → Type 0
 Went turn task before s [] after t = (before ≡ after) × (s ≡ t)
 Went {P} turn task before s (event ∷ events) after t =
     (between : P) × (u : State) × turn before (path_of task s.frames) event.0 event.1 between × Goes task s event u
@@ -80,7 +80,7 @@ entering stage = 0
 
 -- What a worker needs of a port to run over it: both are of one problem; the port goes on, or the worker winds up; its own slots are held; and
 -- the port gave at least its units, at most a billion, and holds no more slots than it gave units, with the one that is about to be entered.
-pub record Suits (worker : Standing) (book : Book) : Type 0 where
+pub record Suits (worker : WorkerView) (book : Book) : Type 0 where
   pub problem : worker.task.problem ≡ book.problem
   pub going : (book.going ≡ true) ⊎ ((end : WorkEnd) × (worker.state.stage ≡ Winding end))
   pub held : (key : Key) (slot : ℕ) → own_slots worker.state.frames key slot ≤ book.held key slot
@@ -90,7 +90,7 @@ pub record Suits (worker : Standing) (book : Book) : Type 0 where
   pub most : book.units ≤ MOST_EXPANSIONS
 
 -- What the port holds beside the worker's own slots, and gave beside the worker's own units and room, stays as it was.
-pub record KeepsOthers (worker later : Standing) (before after : Book) : Type 0 where
+pub record KeepsOthers (worker later : WorkerView) (before after : Book) : Type 0 where
   pub held : (key : Key) (slot : ℕ) → after.held key slot + own_slots worker.state.frames key slot ≡ before.held key slot + own_slots later.state.frames key slot
   pub size : after.size + own_size worker.state.frames ≡ before.size + own_size later.state.frames
   pub units : after.units + worker.state.visits ≡ before.units + later.state.visits
@@ -98,7 +98,7 @@ pub record KeepsOthers (worker later : Standing) (before after : Book) : Type 0 
 
 -- The worker and the port went by one list of requests and answers: by whatever log the worker stood where it did, it stands where that log
 -- leaves it with these behind.
-pub record WentBy {P : Type 0} (turn : P → List Key → Request → Option Answer → P → Type 0) (before after : P) (worker later : Standing) (events : List Event) : Type 0 where
+pub record WentBy {P : Type 0} (turn : P → List Key → Request → Option Reply → P → Type 0) (before after : P) (worker later : WorkerView) (events : List Exchange) : Type 0 where
   pub port : Went turn worker.task before worker.state events after later.state
   pub task : later.task ≡ worker.task
-  pub log : (log : List Event) → Leads worker.task log worker.state → Leads worker.task (log ++ events) later.state
+  pub log : (log : List Exchange) → Leads worker.task log worker.state → Leads worker.task (log ++ events) later.state

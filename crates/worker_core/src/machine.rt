@@ -7,7 +7,7 @@ ghost use Rattle.notes.specs.declared.note.NoteEnd.TheVariants.{TooHigh as NoteH
 ghost use Rattle.visit_log.specs.declared.words.WorkEnd.TheVariants.{TooHigh, NoMemory};
 ghost use Rattle.visit_log.specs.declared.parts.Left.TheVariants.{Solved};
 ghost use Rattle.visit_log.specs.declared.parts.Stage.TheVariants.{Polling, Drawing, Entering, Looking, Claiming, Leaving, Posting, Winding};
-ghost use Rattle.visit_log.specs.declared.words.Answer.TheVariants.{Poll as Polled, Draw as Drew, Claim as Claimed, Look as Looked, Enter as Entered, Leave as LeftIt, Post as PostedIt};
+ghost use Rattle.visit_log.specs.declared.words.Reply.TheVariants.{Poll as Polled, Draw as Drew, Claim as Claimed, Look as Looked, Enter as Entered, Leave as LeftIt, Post as PostedIt};
 ghost use Rattle.visit_log.specs.Frame.{task_for, begun};
 ghost use Rattle.visit_log.specs.Round.{Solves, IsMade, IsRefusal};
 ghost use Rattle.visit_log.specs.Visit.{kept_by};
@@ -19,7 +19,7 @@ ghost use Rattle.worker_core.specs.Machine.{IsCopy, IsNotPosting, polls_at, look
 
 use crate::stack::Stack;
 use board_core::key;
-use notes::{Claim, Draw, Kept, Note, NoteEnd, Seen, Update};
+use notes::{Draw, Kept, Note, NoteEnd, RoomAnswer, Seen, Update};
 use path_tags::Path;
 use pn_numbers::{INFINITE, Numbers};
 use shogi_rules::Problem;
@@ -27,7 +27,7 @@ use std::alloc::Global;
 use std::marker::Model;
 use std::mem;
 use visit_frame::Frame;
-use visit_log::{Answer, Entry, Left, Request, Stage, WorkEnd, sound_laws};
+use visit_log::{Entry, Left, Reply, Request, Stage, WorkEnd, sound_laws};
 
 // What a worker does next, its visits, and what it was given.
 #[derive(Drop)]
@@ -41,9 +41,9 @@ pub(crate) struct Core {
 impl Model for Core {
     ghost use Rattle.std.specs.Coded.{codes};
     ghost use Rattle.notes.specs.contracts.note.Note as facts;
-    ghost use Rattle.worker_core.specs.Machine.{Machine};
+    ghost use Rattle.worker_core.specs.Machine.{CoreView};
 
-    ghost Value = { Machine };
+    ghost Value = { CoreView };
 
     ghost coded = { Prim.hlevel (codes, facts.the_row.coded) };
 
@@ -58,7 +58,7 @@ impl Core {
     ghost use Rattle.visit_log.specs.declared.words.WorkEnd.TheVariants.{TooHigh, NoMemory};
     ghost use Rattle.visit_log.specs.declared.parts.Left.TheVariants.{Solved};
     ghost use Rattle.visit_log.specs.declared.parts.Stage.TheVariants.{Polling, Drawing, Entering, Looking, Claiming, Leaving, Posting, Winding};
-    ghost use Rattle.visit_log.specs.declared.words.Answer.TheVariants.{Poll as Polled, Draw as Drew, Claim as Claimed, Look as Looked, Enter as Entered, Leave as LeftIt, Post as PostedIt};
+    ghost use Rattle.visit_log.specs.declared.words.Reply.TheVariants.{Poll as Polled, Draw as Drew, Claim as Claimed, Look as Looked, Enter as Entered, Leave as LeftIt, Post as PostedIt};
     ghost use Rattle.visit_log.specs.Frame.{task_for, begun};
     ghost use Rattle.visit_log.specs.Round.{Solves, IsMade, IsRefusal};
     ghost use Rattle.visit_log.specs.Machine.{start, wind, starve, asks, asks_at, asked, end_of, at_stage, path_of, Fits, FitsAt, GoesOn, LeadsTo, LeadsAt};
@@ -163,7 +163,7 @@ impl Core {
     }
 
     // The copy of the note that goes out with the Leave, where one was made.
-    fn claimed(&mut self, alloc: Global, claim: Claim) -> Option<Note>
+    fn claimed(&mut self, alloc: Global, claim: RoomAnswer) -> Option<Note>
         requires sound { HasOver (λ f fs. IsSoundVisit self.old.task f fs × Solves self.old.task f) self.old.state.frames }
         requires few { self.old.state.claims ≤ MOST_EXPANSIONS }
         ensures task { self.new.task ≡ self.old.task }
@@ -171,11 +171,11 @@ impl Core {
         ensures copy { IsCopy self.new.state.stage result }
     {
         match claim {
-            Claim::NoRoom => {
+            RoomAnswer::NoRoom => {
                 self.wind(WorkEnd::NoRoom);
                 None
             }
-            Claim::Room(_) => {
+            RoomAnswer::Room(_) => {
                 self.claims += 1;
                 match self.made(alloc) {
                     Ok((note, copy)) => {
@@ -254,7 +254,7 @@ impl Core {
     }
 
     /// Takes the answer in. The note that comes out is the copy for the Leave, where one was made.
-    pub(crate) fn advance(&mut self, alloc: Global, answer: Answer) -> Option<Note>
+    pub(crate) fn advance(&mut self, alloc: Global, answer: Reply) -> Option<Note>
         requires sound { IsSound self.old.task self.old.state }
         requires fits { Fits self.old.task self.old.state answer }
         requires counted { IsCounted self.old.state }
@@ -263,34 +263,34 @@ impl Core {
         ensures copy { IsCopy self.new.state.stage result }
     {
         match answer {
-            Answer::Poll(stop) => {
+            Reply::Poll(stop) => {
                 if let Stage::Polling(entry) = self.stage {
                     self.polled(entry, stop);
                 }
                 None
             }
-            Answer::Draw(draw) => {
+            Reply::Draw(draw) => {
                 if let Stage::Drawing(entry) = self.stage {
                     self.drew(alloc, entry, draw);
                 }
                 None
             }
-            Answer::Claim(claim) => self.claimed(alloc, claim),
-            Answer::Look(seen) => {
+            Reply::Claim(claim) => self.claimed(alloc, claim),
+            Reply::Look(seen) => {
                 if let Stage::Looking(place) = self.stage {
                     self.looked(place, seen);
                 }
                 None
             }
-            Answer::Enter(kept) => {
+            Reply::Enter(kept) => {
                 self.entered(alloc, kept);
                 None
             }
-            Answer::Leave => {
+            Reply::Leave => {
                 self.leave();
                 None
             }
-            Answer::Post => {
+            Reply::Post => {
                 self.wind(WorkEnd::Posted);
                 None
             }

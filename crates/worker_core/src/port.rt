@@ -3,7 +3,7 @@ ghost use Rattle.std.specs.Prelude.{◌≡◌, ◌<◌, ◌≤◌, ℕ, true, If
 ghost use Rattle.search_limits.specs.declared.expansions.TheConstants.{MOST_EXPANSIONS};
 
 use board_core::Key;
-use notes::{Claim, Draw, Kept, Note, Seen, Update};
+use notes::{Draw, Kept, Note, RoomAnswer, Seen, Update};
 use path_tags::Path;
 use pn_numbers::Numbers;
 use std::alloc::AllocError;
@@ -19,8 +19,8 @@ pub trait Port {
     ghost use Rattle.pn_numbers.specs.Numbers.{IsOpen};
     ghost use Rattle.visit_log.specs.declared.words.Request.{Request};
     ghost use Rattle.visit_log.specs.declared.words.Request.TheVariants.{Poll, Draw as Draws, Claim as Claims, Look, Enter, Leave, Post};
-    ghost use Rattle.visit_log.specs.declared.words.Answer.{Answer};
-    ghost use Rattle.visit_log.specs.declared.words.Answer.TheVariants.{Poll as Polled, Draw as Drew, Claim as Claimed, Enter as Entered, Leave as LeftIt, Post as PostedIt};
+    ghost use Rattle.visit_log.specs.declared.words.Reply.{Reply};
+    ghost use Rattle.visit_log.specs.declared.words.Reply.TheVariants.{Poll as Polled, Draw as Drew, Claim as Claimed, Enter as Entered, Leave as LeftIt, Post as PostedIt};
     ghost use Rattle.visit_log.specs.Frame.{task_for};
     ghost use Rattle.visit_log.specs.Round.{MayShow};
     ghost use Rattle.visit_log.specs.Sound.{IsSoundUpdate, IsAnswer};
@@ -32,7 +32,7 @@ pub trait Port {
 
     /// From one state to the next, by a request of a worker on this path (the keys of the attacker's positions that it is visiting) and its
     /// answer (none where a look was refused memory).
-    ghost turn: { Self → List Key → Request → Option Answer → Self → Type 0 };
+    ghost turn: { Self → List Key → Request → Option Reply → Self → Type 0 };
 
     /// Whether the worker is to stop.
     fn poll(&mut self) -> bool
@@ -46,7 +46,7 @@ pub trait Port {
         ensures book { IsBooked (Draws, Some (Drew result)) (book self.old) (book self.new) };
 
     /// Room for a note. It isn't asked once nothing more is handed out.
-    fn claim(&mut self) -> Claim
+    fn claim(&mut self) -> RoomAnswer
         requires { (book self.old).going ≡ true }
         ensures turn { (path : List Key) → turn self.old path Claims (Some (Claimed result)) self.new }
         ensures book { IsBooked (Claims, Some (Claimed result)) (book self.old) (book self.new) };

@@ -5,7 +5,7 @@ ghost use Rattle.shogi_rules.specs.Rules.{after};
 ghost use Rattle.notes.specs.Derivation.{highest};
 ghost use Rattle.notes.specs.declared.note.NoteEnd.TheVariants.{TooHigh, NoMemory};
 ghost use Rattle.visit_log.specs.declared.parts.Child.{Child};
-ghost use Rattle.visit_log.specs.Frame.{Visiting, attacker_in, begun, task_for};
+ghost use Rattle.visit_log.specs.Frame.{FrameView, attacker_in, begun, task_for};
 ghost use Rattle.visit_log.specs.Children.{AreChildren, is_solved, notes_under};
 ghost use Rattle.visit_log.specs.Round.{node_in, MayShow, Sight, Tells, looked, came_back, IsMade};
 ghost use Rattle.visit_log.specs.Machine.{keep, bare, Settles, IsPlayed, path_of, place_by, position_by, entered_ones, rest_of};
@@ -38,9 +38,9 @@ impl Model for Stack {
     ghost use Rattle.notes.specs.contracts.note.Note as facts;
     ghost use Rattle.visit_log.specs.Frame.{task_for};
     ghost use Rattle.visit_log.specs.Machine.{path_of};
-    ghost use Rattle.worker_core.specs.Stack.{Pile};
+    ghost use Rattle.worker_core.specs.Stack.{StackView};
 
-    ghost Value = { Pile };
+    ghost Value = { StackView };
 
     ghost coded = { Prim.hlevel (codes, facts.the_row.coded) };
 
@@ -75,7 +75,7 @@ impl Stack {
     ghost use Rattle.notes.specs.Derivation.{highest};
     ghost use Rattle.notes.specs.declared.note.NoteEnd.TheVariants.{TooHigh, NoMemory};
     ghost use Rattle.visit_log.specs.declared.parts.Child.{Child};
-    ghost use Rattle.visit_log.specs.Frame.{Visiting, attacker_in, begun, task_for};
+    ghost use Rattle.visit_log.specs.Frame.{FrameView, attacker_in, begun, task_for};
     ghost use Rattle.visit_log.specs.Children.{AreChildren, is_solved, notes_under};
     ghost use Rattle.visit_log.specs.Round.{node_in, MayShow, Sight, Tells, looked, came_back, IsMade};
     ghost use Rattle.visit_log.specs.Machine.{keep, bare, Settles, IsPlayed, path_of, place_by, position_by, entered_ones, rest_of};
@@ -212,7 +212,7 @@ impl Stack {
 
     /// The innermost position's successors are listed. Errors: want of memory alone, and then nothing changes.
     pub(crate) fn list(&mut self, alloc: Global) -> Result<(), AllocError>
-        requires { HasTop (λ f. (fs : List Visiting) × IsSoundPlace self.old.task fs f.place) self.old.frames }
+        requires { HasTop (λ f. (fs : List FrameView) × IsSoundPlace self.old.task fs f.place) self.old.frames }
         ensures task { self.new.task ≡ self.old.task }
         ensures listed { OnOk result (ChangesTop (λ f g. AreChildren (attacker_in self.old.task) f.place.position (path_of self.old.task self.old.frames) g.children × (g ≡ record { place = f.place; kept = f.kept; children = g.children; chosen = 0 })) self.old.frames self.new.frames) }
         ensures unchanged { OnErr result (self.new ≡ self.old) }

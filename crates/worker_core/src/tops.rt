@@ -2,7 +2,7 @@
 ghost use Rattle.std.specs.Prelude.{◌≡◌, ◌<◌, ◌+◌, ◌∷◌, [], ℕ, List, Option, Some, None, OnOk, OnErr, IsSome, slice_get, option_copied, reverse, length, map};
 ghost use Rattle.board_core.specs.declared.keys.Key.{Key};
 ghost use Rattle.visit_log.specs.declared.parts.Child.{Child};
-ghost use Rattle.visit_log.specs.Frame.{Task, Visiting, task_for};
+ghost use Rattle.visit_log.specs.Frame.{Task, FrameView, task_for};
 ghost use Rattle.visit_log.specs.Children.{AreChildren};
 ghost use Rattle.visit_log.specs.Round.{MayShow, Sight, Tells, looked, came_back};
 ghost use Rattle.visit_log.specs.Machine.{keep, bare, Settles, path_of};
@@ -52,7 +52,7 @@ pub(crate) fn list_top(
     path: &Path,
 ) -> Result<(), AllocError>
     requires some { 0 < length frames.old }
-    requires placed { HasTop (λ f. (task : Task) × (fs : List Visiting) × IsSoundPlace task fs f.place) (reverse frames.old) }
+    requires placed { HasTop (λ f. (task : Task) × (fs : List FrameView) × IsSoundPlace task fs f.place) (reverse frames.old) }
     ensures listed { OnOk result (ChangesTop (λ f g. AreChildren problem.now.position.side f.place.position path.now g.children × (g ≡ record { place = f.place; kept = f.kept; children = g.children; chosen = 0 })) (reverse frames.old) (reverse frames.new)) }
     ensures unchanged { OnErr result (frames.new ≡ frames.old) }
     ensures path { (task : Task) → path_of task (reverse frames.new) ≡ path_of task (reverse frames.old) }

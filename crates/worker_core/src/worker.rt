@@ -7,7 +7,7 @@ use path_tags::Path;
 use shogi_rules::Problem;
 use std::alloc::Global;
 use std::marker::Model;
-use visit_log::{Answer, Request, WorkEnd, count_laws, sound_laws, visit_laws};
+use visit_log::{Reply, Request, WorkEnd, count_laws, sound_laws, visit_laws};
 
 /// A worker in the search of a problem. It is asked for its [`request`](Worker::request), and told the answer
 /// ([`advance`](Worker::advance)); or it is starved ([`starve`](Worker::starve)). So until its request is an End.
@@ -25,19 +25,19 @@ impl Model for Worker {
     ghost use Rattle.std.specs.Prelude.{◌≡◌, false, List};
     ghost use Rattle.std.specs.Coded.{codes};
     ghost use Rattle.notes.specs.contracts.note.Note as facts;
-    ghost use Rattle.visit_log.specs.Visit.{Event};
-    ghost use Rattle.visit_log.specs.Run.{Standing, IsReached};
+    ghost use Rattle.visit_log.specs.Visit.{Exchange};
+    ghost use Rattle.visit_log.specs.Run.{WorkerView, IsReached};
     ghost use Rattle.visit_log.specs.Sound.{IsTask};
     ghost use Rattle.worker_core.specs.Machine.{IsCopy};
 
-    ghost Value = { Standing };
+    ghost Value = { WorkerView };
 
     ghost coded = { Prim.hlevel (codes, facts.the_row.coded) };
 
     ghost view = { λ w. record { task = w.core.task; state = w.core.state; waiting = w.waiting } };
 
     ghost invariant = { λ w. record {
-      reached : (log : List Event) × IsReached (record { task = w.core.task; state = w.core.state; waiting = w.waiting }) log;
+      reached : (log : List Exchange) × IsReached (record { task = w.core.task; state = w.core.state; waiting = w.waiting }) log;
       task : IsTask w.core.task;
       copy : w.waiting ≡ false → IsCopy w.core.state.stage w.copy;
     } };
@@ -47,7 +47,7 @@ impl Worker {
     ghost use Rattle.std.specs.Prelude.{◌≡◌, ◌↔◌, ◌+◌, ◌<◌, ◌≤◌, ◌++◌, ◌∷◌, [], ℕ, true, false, List, Some, None, IfOk};
     ghost use Rattle.board_core.specs.declared.keys.Key.{Key};
     ghost use Rattle.visit_log.specs.Frame.{task_for};
-    ghost use Rattle.visit_log.specs.Visit.{Event, IsVisitLog};
+    ghost use Rattle.visit_log.specs.Visit.{Exchange, IsVisitLog};
     ghost use Rattle.visit_log.specs.Machine.{State, start, asks, asked, starve, end_of, path_of, Fits, LeadsTo};
     ghost use Rattle.visit_log.specs.Run.{Leads, Happens, Told, IsReached, IsBegunLog, IsLooking, now_at};
     ghost use Rattle.visit_log.specs.Sound.{IsTask, IsSound, IsSoundRequest};
@@ -87,13 +87,13 @@ impl Worker {
 
     /// Takes the answer in, which must be of the request's kind: a unit comes where fewer than a billion came before; numbers are from 1 to the cap; a
     /// note is about the child that was looked at, for the attacker, and holds on the path. Where memory is wanting it winds up.
-    pub fn advance(&mut self, alloc: Global, answer: Answer)
+    pub fn advance(&mut self, alloc: Global, answer: Reply)
         requires waiting { self.old.waiting ≡ true }
         requires fits { Fits self.old.task self.old.state answer }
         ensures answered { self.new.waiting ≡ false }
         ensures task { self.new.task ≡ self.old.task }
         // Whatever log it stood by, it stands by that log with the request and this answer behind.
-        ensures log { (log : List Event) (s : State) → Leads self.old.task log s → self.old.state ≡ asked s → Leads self.old.task (log ++ (asks s, Some answer) ∷ []) self.new.state }
+        ensures log { (log : List Exchange) (s : State) → Leads self.old.task log s → self.old.state ≡ asked s → Leads self.old.task (log ++ (asks s, Some answer) ∷ []) self.new.state }
         ensures slots { (key : Key) (slot : ℕ) → own_slots self.new.state.frames key slot + leaves (asks self.old.state, Some answer) key slot ≡ own_slots self.old.state.frames key slot + enters (asks self.old.state, Some answer) key slot }
         ensures sizes { own_size self.new.state.frames + leaves_some (asks self.old.state, Some answer) ≡ own_size self.old.state.frames + enters_some (asks self.old.state, Some answer) }
         ensures visits { self.new.state.visits ≡ self.old.state.visits + units_in answer }
@@ -114,9 +114,9 @@ impl Worker {
     /// nothing, and then it has ended. A request that waits for its answer is taken back. Takes no memory.
     pub fn starve(&mut self)
         ensures starved { self.new ≡ record { task = self.old.task; state = starve self.old.state; waiting = false } }
-        ensures log { (log : List Event) (s : State) → Leads self.old.task log s → self.old.state ≡ now_at self.old.waiting s → Leads self.old.task log self.new.state }
+        ensures log { (log : List Exchange) (s : State) → Leads self.old.task log s → self.old.state ≡ now_at self.old.waiting s → Leads self.old.task log self.new.state }
         // Where a look was refused memory, the log has it too.
-        ensures dark { (log : List Event) (s : State) → Leads self.old.task log s → self.old.state ≡ asked s → IsLooking s.stage → Leads self.old.task (log ++ (asks s, None) ∷ []) self.new.state }
+        ensures dark { (log : List Exchange) (s : State) → Leads self.old.task log s → self.old.state ≡ asked s → IsLooking s.stage → Leads self.old.task (log ++ (asks s, None) ∷ []) self.new.state }
         ensures alone { IsLeftAlone self.old.state self.new.state }
     {
         // Starving moves nothing.
@@ -185,10 +185,10 @@ impl Worker {
     /// has ended; what it knows is sound, unless a request waits for its answer; and it has no more visits, slots and room than units.
     /// Does nothing; whoever reads a worker calls it to know this. Takes no memory.
     pub fn laws(&self)
-        ensures reached { (log : List Event) × IsReached self.now log }
+        ensures reached { (log : List Exchange) × IsReached self.now log }
         ensures task { IsTask self.now.task }
-        ensures begun { (log : List Event) → IsReached self.now log → IsBegunLog self.now.task log }
-        ensures whole { (log : List Event) (end : WorkEnd) → IsReached self.now log → end_of self.now.state ≡ Some end → IsVisitLog self.now.task log end }
+        ensures begun { (log : List Exchange) → IsReached self.now log → IsBegunLog self.now.task log }
+        ensures whole { (log : List Exchange) (end : WorkEnd) → IsReached self.now log → end_of self.now.state ≡ Some end → IsVisitLog self.now.task log end }
         ensures counted { IsCounted self.now.state }
     {
         visit_laws();

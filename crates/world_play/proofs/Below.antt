@@ -12,12 +12,12 @@ use Rattle.board_core.specs.declared.keys.Key.{Key}
 use Rattle.path_tags.specs.Tag.{key_cmp}
 use Rattle.notes.specs.declared.words.Kept.{Kept}
 use Rattle.notes.specs.declared.words.Kept.TheVariants.{Slot, Unkept}
-use Rattle.table_shard.specs.Entry.{Held}
+use Rattle.table_shard.specs.Entry.{EntryView}
 use Rattle.table_shard.specs.Row.{HoldsAt, Lacks, IsRow}
 use Rattle.table_shard.specs.Shard.{row_of}
 use Rattle.table_shard.specs.Spot.{place_of, hash_of}
-use Rattle.visit_log.specs.Frame.{Visiting}
-use Rattle.visit_log.specs.Run.{Standing}
+use Rattle.visit_log.specs.Frame.{FrameView}
+use Rattle.visit_log.specs.Run.{WorkerView}
 use Rattle.visit_log.specs.Counts.{own_slots, slot_of}
 use Rattle.lone_port.specs.Lone.{IsLone, IsBelow, held_at, pins_of}
 use Rattle.lone_port.specs.World.{World}
@@ -44,7 +44,7 @@ own_one None of key slot only = refl
 own_one (Some Unkept) of key slot only = refl
 own_one (Some (Slot n)) of key slot only = own_test (is_eq (key_cmp of key)) n slot only
 
-own_is : (fs : List Visiting) (key : Key) (slot : ℕ) → ((s : ℕ) → 0 < own_slots fs key s → s ≡ slot) → own_below fs key ≡ own_slots fs key slot
+own_is : (fs : List FrameView) (key : Key) (slot : ℕ) → ((s : ℕ) → 0 < own_slots fs key s → s ≡ slot) → own_below fs key ≡ own_slots fs key slot
 own_is [] key slot only = refl
 own_is (f ∷ fs) key slot only =
     let one = own_one f.kept f.place.key key slot (λ s h. only s (omega (arith, h))) in
@@ -53,21 +53,21 @@ own_is (f ∷ fs) key slot only =
 
 -- 2. ALL WORKERS.
 
-all_is : (ws : List Standing) (key : Key) (slot : ℕ) → ((i : ℕ) (w : Standing) → slice_get ws i ≡ Some w → (s : ℕ) → 0 < own_slots w.state.frames key s → s ≡ slot)
+all_is : (ws : List WorkerView) (key : Key) (slot : ℕ) → ((i : ℕ) (w : WorkerView) → slice_get ws i ≡ Some w → (s : ℕ) → 0 < own_slots w.state.frames key s → s ≡ slot)
     → all_below ws key ≡ all_slots ws key slot
 all_is [] key slot only = refl
 all_is (w ∷ ws) key slot only =
-    let a = sum_by-cons (λ (v : Standing). own_below v.state.frames key) w ws in
-    let b = sum_by-cons (λ (v : Standing). own_slots v.state.frames key slot) w ws in
+    let a = sum_by-cons (λ (v : WorkerView). own_below v.state.frames key) w ws in
+    let b = sum_by-cons (λ (v : WorkerView). own_slots v.state.frames key slot) w ws in
     let one = own_is w.state.frames key slot (only 0 w refl) in
     let r = all_is ws key slot (λ i v e. only (suc i) v e) in
     omega (arith, a, b, one, r)
 
 -- Where a worker has entered a slot for the key, that slot holds its entry.
-entered_holds : (world : World) → IsFair world → (key : Key) (i : ℕ) (w : Standing) → slice_get world.workers i ≡ Some w → (s : ℕ) → 0 < own_slots w.state.frames key s
+entered_holds : (world : World) → IsFair world → (key : Key) (i : ℕ) (w : WorkerView) → slice_get world.workers i ≡ Some w → (s : ℕ) → 0 < own_slots w.state.frames key s
     → HoldsAt (row_of world.port.rows key) s key
 entered_holds world fair key i w e s some =
-    let one = one_within (λ (v : Standing). own_slots v.state.frames key s) world.workers i w e in
+    let one = one_within (λ (v : WorkerView). own_slots v.state.frames key s) world.workers i w e in
     holds world fair key s (omega (arith, one, some))
 
 -- 3. THE KEY'S ROW.
@@ -75,20 +75,20 @@ entered_holds world fair key i w e s some =
 key_total : IsTotalOrder key_cmp
 key_total = on_total (λ (k : Key). k.0) nat_list_cmp_total
 
-held_here : (o : Option Held) (key : Key) (count : ℕ) → IsSomeAnd o (λ e. e.key ≡ key) → held_at o key count ≡ count
+held_here : (o : Option EntryView) (key : Key) (count : ℕ) → IsSomeAnd o (λ e. e.key ≡ key) → held_at o key count ≡ count
 held_here None key count h = absurd h
 held_here (Some e) key count h =
     let t : is_eq (key_cmp e.key key) ≡ true = ap (λ (k : Key). is_eq (key_cmp k key)) h ∙ ap is_eq (tied_itself key_total key) in
     ap (λ (b : Bool). if b then count else 0) t
 
-lacks_none : (row : List Held) (s : ℕ) (key : Key) → Lacks row key → HoldsAt row s key → ⊥
+lacks_none : (row : List EntryView) (s : ℕ) (key : Key) → Lacks row key → HoldsAt row s key → ⊥
 lacks_none row s key lacks there = by_slot (slice_get row s) refl there
   where
-    by_slot : (o : Option Held) → slice_get row s ≡ o → IsSomeAnd o (λ e. e.key ≡ key) → ⊥
+    by_slot : (o : Option EntryView) → slice_get row s ≡ o → IsSomeAnd o (λ e. e.key ≡ key) → ⊥
     by_slot None is h = h
     by_slot (Some e) is h =
-        let p = All-get_or (λ (z : Held). z.key ≢ key) row s e (slice_get_within row s e is) lacks in
-        p (ap (λ (z : Held). z.key) (get_or_from_slice_get row s e e is) ∙ h)
+        let p = All-get_or (λ (z : EntryView). z.key ≢ key) row s e (slice_get_within row s e is) lacks in
+        p (ap (λ (z : EntryView). z.key) (get_or_from_slice_get row s e e is) ∙ h)
 
 within : (key : Key) (rows : ℕ) → 0 < rows → place_of key rows < rows
 within key rows some = let h = hash_of key.0 in let low : h % rows < rows = omega (arith, some) in low
@@ -101,13 +101,13 @@ row_is world lone rows key = All-get_or IsRow world.port.rows (place_of key (len
 pub below_is : (world : World) (key : Key) (count : ℕ) → IsFair world → IsLone world.port → All IsRow world.port.rows → IsBelow world.port.rows world.port.pins key count
     → count ≡ all_below world.workers key
 below_is world key count fair lone rows (inl (slot, there, e)) =
-    let only : (i : ℕ) (w : Standing) → slice_get world.workers i ≡ Some w → (s : ℕ) → 0 < own_slots w.state.frames key s → s ≡ slot =
+    let only : (i : ℕ) (w : WorkerView) → slice_get world.workers i ≡ Some w → (s : ℕ) → 0 < own_slots w.state.frames key s → s ≡ slot =
     λ i w g s some. (row_is world lone rows key).apart s slot key (entered_holds world fair key i w g s some) there in
     let all = all_is world.workers key slot only in
     let held = held_here (slice_get (row_of world.port.rows key) slot) key (slice_index (pins_of world.port.pins key) slot) there in
     e ∙ (sym held ∙ (fair.held key slot ∙ sym all))
 below_is world key count fair lone rows (inr (lacks, e)) =
-    let only : (i : ℕ) (w : Standing) → slice_get world.workers i ≡ Some w → (s : ℕ) → 0 < own_slots w.state.frames key s → s ≡ 0 =
+    let only : (i : ℕ) (w : WorkerView) → slice_get world.workers i ≡ Some w → (s : ℕ) → 0 < own_slots w.state.frames key s → s ≡ 0 =
     λ i w g s some. absurd (lacks_none (row_of world.port.rows key) s key lacks (entered_holds world fair key i w g s some)) in
     let all = all_is world.workers key 0 only in
     let none : all_slots world.workers key 0 ≡ 0 =

@@ -4,9 +4,9 @@ use Rattle.std.specs.Prelude.{Some, slice_get}
 use Rattle.std.proofs.lemmas.Option.{slice_get_read}
 use Rattle.search_limits.specs.declared.expansions.TheConstants.{MOST_EXPANSIONS}
 use Rattle.board_core.specs.Board.{Board}
-use Rattle.visit_log.specs.Visit.{Event as Exchange}
+use Rattle.visit_log.specs.Visit.{Exchange}
 use Rattle.visit_log.specs.Frame.{Task}
-use Rattle.visit_log.specs.Run.{Standing, Leads}
+use Rattle.visit_log.specs.Run.{WorkerView, Leads}
 use Rattle.visit_log.specs.Sound.{IsTask}
 use Rattle.visit_log.specs.Counts.{own_slots, own_size}
 use Rattle.visit_log.specs.Laws.{WorkersAreSound, WorkersAreCounted, IsLeftAlone}
@@ -21,17 +21,17 @@ use Rattle.world_play.proofs.Stepped.{each_set, sum_set}
 use Rattle.world_play.proofs.Happened.{LeadsStarved, leads_starved, starved}
 
 -- What is read at a place is there.
-pub read_there : (ws : List Standing) (place : ℕ) (w : Standing) → place < length ws → w ≡ get_or ws place w → slice_get ws place ≡ Some w
+pub read_there : (ws : List WorkerView) (place : ℕ) (w : WorkerView) → place < length ws → w ≡ get_or ws place w → slice_get ws place ≡ Some w
 read_there ws place w low is = slice_get_read ws (length ws) place w refl low is
 
 -- A port that goes on suits each of its crew.
-pub crew_suits : WorkersAreSound → WorkersAreCounted → (book : Book) (ws : List Standing) (place : ℕ) (worker : Standing) → IsCrew book ws → book.going ≡ true
+pub crew_suits : WorkersAreSound → WorkersAreCounted → (book : Book) (ws : List WorkerView) (place : ℕ) (worker : WorkerView) → IsCrew book ws → book.going ≡ true
     → slice_get ws place ≡ Some worker → Suits worker book
 crew_suits sound counted book ws place worker crew going e =
     let m = crew.members place worker e in
     let s = sound worker.task m.leads.happenings worker.state m.task m.leads.runs in
     let c = counted worker.task m.leads.happenings worker.state m.leads.runs in
-    let low : (i : ℕ) (w : Standing) → slice_get ws i ≡ Some w → own_size w.state.frames ≤ w.state.visits =
+    let low : (i : ℕ) (w : WorkerView) → slice_get ws i ≡ Some w → own_size w.state.frames ≤ w.state.visits =
     λ i w g. (
     let n = crew.members i w g in
     let d = counted w.task n.leads.happenings w.state n.leads.runs in
@@ -43,53 +43,53 @@ crew_suits sound counted book ws place worker crew going e =
       going = inl going;
       held = λ key slot. (
           let all = crew.held key slot in
-          let one = one_within (λ (w : Standing). own_slots w.state.frames key slot) ws place worker e in
+          let one = one_within (λ (w : WorkerView). own_slots w.state.frames key slot) ws place worker e in
           omega (arith, all, one));
       some = (
           let all = crew.size in
-          let one = one_within (λ (w : Standing). own_size w.state.frames) ws place worker e in
+          let one = one_within (λ (w : WorkerView). own_size w.state.frames) ws place worker e in
           omega (arith, all, one));
       units = (
           let all = crew.units in
-          let one = one_within (λ (w : Standing). w.state.visits) ws place worker e in
+          let one = one_within (λ (w : WorkerView). w.state.visits) ws place worker e in
           omega (arith, all, one));
       size = (
           let all = crew.size in
           let units = crew.units in
           let own = enters_within worker.task worker.state.stage worker.state.frames worker.state.visits s c.slots c.frames in
-          let one = all_with_one (λ (w : Standing). own_size w.state.frames) (λ (w : Standing). w.state.visits) ws (entering worker.state.stage) place worker low e own in
+          let one = all_with_one (λ (w : WorkerView). own_size w.state.frames) (λ (w : WorkerView). w.state.visits) ws (entering worker.state.stage) place worker low e own in
           omega (arith, all, units, one));
       most = crew.most;
     }
 
 -- One of it went on.
-pub crew_on : (before after : Book) (ws : List Standing) (place : ℕ) (worker later : Standing) → IsCrew before ws → slice_get ws place ≡ Some worker
+pub crew_on : (before after : Book) (ws : List WorkerView) (place : ℕ) (worker later : WorkerView) → IsCrew before ws → slice_get ws place ≡ Some worker
     → KeepsOthers worker later before after → after.problem ≡ before.problem → after.units ≤ MOST_EXPANSIONS → IsInCrew after.problem later
     → IsCrew after (set ws place later)
 crew_on before after ws place worker later crew there keep problem most member = record {
   held = λ key slot. (
-      let q = sum_set (λ (w : Standing). own_slots w.state.frames key slot) ws place worker later there in
+      let q = sum_set (λ (w : WorkerView). own_slots w.state.frames key slot) ws place worker later there in
       let m = keep.held key slot in
       let b = crew.held key slot in
       omega (arith, q, m, b));
   size = (
-      let q = sum_set (λ (w : Standing). own_size w.state.frames) ws place worker later there in
+      let q = sum_set (λ (w : WorkerView). own_size w.state.frames) ws place worker later there in
       let m = keep.size in
       let b = crew.size in
       omega (arith, q, m, b));
   units = (
-      let q = sum_set (λ (w : Standing). w.state.visits) ws place worker later there in
+      let q = sum_set (λ (w : WorkerView). w.state.visits) ws place worker later there in
       let m = keep.units in
       let b = crew.units in
       omega (arith, q, m, b));
   most = most;
   members =
-      each_set (λ (n : ℕ) (v : Standing). IsInCrew after.problem v) ws place later worker there member
+      each_set (λ (n : ℕ) (v : WorkerView). IsInCrew after.problem v) ws place later worker there member
       (λ n v ne g. subst (λ (p : Board). IsInCrew p v) (sym problem) (crew.members n v g));
 }
 
 -- By a request.
-pub crew_turned : (before after : Book) (ws : List Standing) (place : ℕ) (worker later : Standing) (events : List Exchange) → IsCrew before ws → slice_get ws place ≡ Some worker
+pub crew_turned : (before after : Book) (ws : List WorkerView) (place : ℕ) (worker later : WorkerView) (events : List Exchange) → IsCrew before ws → slice_get ws place ≡ Some worker
     → KeepsOthers worker later before after → Suits later after → later.task ≡ worker.task → later.waiting ≡ false
     → ((log : List Exchange) → Leads worker.task log worker.state → Leads worker.task (log ++ events) later.state) → IsCrew after (set ws place later)
 crew_turned before after ws place worker later events crew there keep suits task idle leads =
@@ -105,11 +105,11 @@ crew_turned before after ws place worker later events crew there keep suits task
     })
 
 -- By starving.
-pub crew_starved : (book : Book) (ws : List Standing) (place : ℕ) (worker later : Standing) → IsCrew book ws → slice_get ws place ≡ Some worker → later ≡ starved worker
+pub crew_starved : (book : Book) (ws : List WorkerView) (place : ℕ) (worker later : WorkerView) → IsCrew book ws → slice_get ws place ≡ Some worker → later ≡ starved worker
     → LeadsStarved worker later → IsLeftAlone worker.state later.state → IsCrew book (set ws place later)
 crew_starved book ws place worker later crew there is leads alone =
     let m = crew.members place worker there in
-    let task : later.task ≡ worker.task = ap (λ (w : Standing). w.task) is in
+    let task : later.task ≡ worker.task = ap (λ (w : WorkerView). w.task) is in
     crew_on book book ws place worker later crew there
     (record {
       held = λ key slot. (let a = alone.slots key slot in omega (arith, a));
@@ -121,7 +121,7 @@ crew_starved book ws place worker later crew there is leads alone =
     (record {
       of_problem = ap (λ (t : Task). t.problem) task ∙ m.of_problem;
       task = subst IsTask (sym task) m.task;
-      idle = ap (λ (w : Standing). w.waiting) is;
+      idle = ap (λ (w : WorkerView). w.waiting) is;
       log = m.log;
       leads = subst (λ (t : Task). Leads t m.log later.state) (sym task) (leads_starved worker later m.idle leads m.log m.leads);
     })

@@ -5,18 +5,18 @@ use Rattle.std.proofs.lemmas.List.Elements.{Contains-push_cases}
 use Rattle.board_core.specs.declared.keys.Key.{Key}
 use Rattle.notes.specs.Derivation.{Derivation}
 use Rattle.notes.specs.declared.words.Draw.TheVariants.{Go, Done, Spent as AllDrawn}
-use Rattle.notes.specs.declared.words.Claim.TheVariants.{Room, NoRoom as Full}
+use Rattle.notes.specs.declared.words.RoomAnswer.TheVariants.{Room, NoRoom as Full}
 use Rattle.visit_log.specs.declared.words.WorkEnd.{WorkEnd}
 use Rattle.visit_log.specs.declared.words.WorkEnd.TheVariants.{Posted, Spent, NoRoom, TooHigh, NoMemory, Stopped}
 use Rattle.visit_log.specs.declared.words.Request.{Request}
 use Rattle.visit_log.specs.declared.words.Request.TheVariants.{Poll, Draw as Draws, Claim as Claims, Look, Enter, Leave, Post}
-use Rattle.visit_log.specs.declared.words.Answer.{Answer}
-use Rattle.visit_log.specs.declared.words.Answer.TheVariants.{Poll as Polled, Draw as Drew, Claim as Claimed, Look as Looked, Enter as Entered, Leave as LeftIt, Post as PostedIt}
-use Rattle.visit_log.specs.Visit.{Event as Exchange, drew, claimed}
+use Rattle.visit_log.specs.declared.words.Reply.{Reply}
+use Rattle.visit_log.specs.declared.words.Reply.TheVariants.{Poll as Polled, Draw as Drew, Claim as Claimed, Look as Looked, Enter as Entered, Leave as LeftIt, Post as PostedIt}
+use Rattle.visit_log.specs.Visit.{Exchange, drew, claimed}
 use Rattle.visit_log.specs.Frame.{Task}
 use Rattle.visit_log.specs.Laws.{HasCause}
 use Rattle.unit_desk.specs.Desk.{DeskView, first_posted}
-use Rattle.lone_port.specs.Lone.{Lone, Turns}
+use Rattle.lone_port.specs.Lone.{LonePortView, Turns}
 use Rattle.world_play.specs.Fair.{IsToldOf}
 
 -- Its problem and its limits stay; what was used up stays so, and what is posted.
@@ -39,8 +39,8 @@ first_is None note = refl
 first_is (Some first) note = refl
 
 -- A step of the table and the desk.
-pub keeps : (before : Lone) (path : List Key) (q : Request) (a : Option Answer) (after : Lone) → Turns before path q a after → KeepsDesk before.desk after.desk
-keeps before path Poll (Some (Polled stop)) after h = same_at before.desk after.desk (ap (λ (p : Lone). p.desk) h.1)
+pub keeps : (before : LonePortView) (path : List Key) (q : Request) (a : Option Reply) (after : LonePortView) → Turns before path q a after → KeepsDesk before.desk after.desk
+keeps before path Poll (Some (Polled stop)) after h = same_at before.desk after.desk (ap (λ (p : LonePortView). p.desk) h.1)
 keeps before path Draws (Some (Drew (Go unit))) after h =
     subst (λ (d : DeskView). KeepsDesk before.desk d) (sym h.0.3)
     (record {
@@ -64,12 +64,12 @@ keeps before path Claims (Some (Claimed (Room room))) after h =
       posted = λ e. e;
     })
 keeps before path Claims (Some (Claimed Full)) after h = same_at before.desk after.desk h.0.1
-keeps before path (Look key) None after h = same_at before.desk after.desk (ap (λ (p : Lone). p.desk) h)
-keeps before path (Look key) (Some (Looked seen)) after h = same_at before.desk after.desk (ap (λ (p : Lone). p.desk) h.1)
-keeps before path (Enter key numbers) (Some (Entered kept_in)) after h = same_at before.desk after.desk (ap (λ (p : Lone). p.desk) h.1)
-keeps before path (Leave kept key update) (Some LeftIt) after h = same_at before.desk after.desk (ap (λ (p : Lone). p.desk) h)
+keeps before path (Look key) None after h = same_at before.desk after.desk (ap (λ (p : LonePortView). p.desk) h)
+keeps before path (Look key) (Some (Looked seen)) after h = same_at before.desk after.desk (ap (λ (p : LonePortView). p.desk) h.1)
+keeps before path (Enter key numbers) (Some (Entered kept_in)) after h = same_at before.desk after.desk (ap (λ (p : LonePortView). p.desk) h.1)
+keeps before path (Leave kept key update) (Some LeftIt) after h = same_at before.desk after.desk (ap (λ (p : LonePortView). p.desk) h)
 keeps before path (Post note) (Some PostedIt) after h =
-    subst (λ (d : DeskView). KeepsDesk before.desk d) (sym (ap (λ (p : Lone). p.desk) h))
+    subst (λ (d : DeskView). KeepsDesk before.desk d) (sym (ap (λ (p : LonePortView). p.desk) h))
     (record {
       position = refl;
       expansions = refl;
@@ -89,17 +89,17 @@ told_still before after k TooHigh t = tt
 told_still before after k NoMemory t = tt
 told_still before after k Stopped t = tt
 
-abbrev TurnsBy : Lone → List Key → Lone → Exchange → Type 0
+abbrev TurnsBy : LonePortView → List Key → LonePortView → Exchange → Type 0
 TurnsBy before path after x = Turns before path x.0 x.1 after
 
 -- What an answer says of the desk is so.
-pub told_on : (before : Lone) (path : List Key) (x : Exchange) (after : Lone) (task : Task) (log : List Exchange) → Turns before path x.0 x.1 after
+pub told_on : (before : LonePortView) (path : List Key) (x : Exchange) (after : LonePortView) (task : Task) (log : List Exchange) → Turns before path x.0 x.1 after
     → ((end : WorkEnd) → HasCause task end log → IsToldOf before.desk end) → (end : WorkEnd) → HasCause task end (log ++ x ∷ []) → IsToldOf after.desk end
 told_on before path x after task log turns told Posted (inl (note, there)) =
     elim (Contains-push_cases log x (Post note, Some PostedIt) there) as (λ _. IsSome after.desk.posted) [
       | inl old ↦ (keeps before path x.0 x.1 after turns).posted (told Posted (inl (note, old)))
       | inr e ↦ (let h : Turns before path (Post note) (Some PostedIt) after = subst (TurnsBy before path after) e turns in
-          subst (λ (d : DeskView). IsSome d.posted) (sym (ap (λ (p : Lone). p.desk) h)) (first_is before.desk.posted note))
+          subst (λ (d : DeskView). IsSome d.posted) (sym (ap (λ (p : LonePortView). p.desk) h)) (first_is before.desk.posted note))
     ]
 told_on before path x after task log turns told Posted (inr there) =
     elim (Contains-push_cases log x (drew Done) there) as (λ _. IsSome after.desk.posted) [

@@ -9,16 +9,16 @@ use Rattle.notes.specs.declared.words.Kept.{Kept}
 use Rattle.notes.specs.declared.words.Kept.TheVariants.{Slot, Unkept}
 use Rattle.notes.specs.declared.words.Update.{Update}
 use Rattle.notes.specs.declared.words.Update.TheVariants.{Numbers as SetNumbers, Note as AddNote, Nothing as ChangeNothing}
-use Rattle.table_shard.specs.Entry.{Held, updated}
+use Rattle.table_shard.specs.Entry.{EntryView, updated}
 use Rattle.table_shard.specs.Row.{HoldsAt, Enters, IsGivenUp, fresh, left}
 use Rattle.table_shard.specs.Shard.{row_of, with_row}
 use Rattle.table_shard.specs.Spot.{place_of, hash_of}
 use Rattle.visit_log.specs.declared.words.Request.{Request}
 use Rattle.visit_log.specs.declared.words.Request.TheVariants.{Poll, Draw as Draws, Claim as Claims, Look, Enter, Leave, Post}
-use Rattle.visit_log.specs.declared.words.Answer.{Answer}
-use Rattle.visit_log.specs.declared.words.Answer.TheVariants.{Poll as Polled, Draw as Drew, Claim as Claimed, Look as Looked, Enter as Entered, Leave as LeftIt, Post as PostedIt}
+use Rattle.visit_log.specs.declared.words.Reply.{Reply}
+use Rattle.visit_log.specs.declared.words.Reply.TheVariants.{Poll as Polled, Draw as Drew, Claim as Claimed, Look as Looked, Enter as Entered, Leave as LeftIt, Post as PostedIt}
 use Rattle.visit_log.specs.Machine.{path_of}
-use Rattle.lone_port.specs.Lone.{Lone, IsLone, Turns, opened, pins_of}
+use Rattle.lone_port.specs.Lone.{LonePortView, IsLone, Turns, opened, pins_of}
 use Rattle.world_play.specs.Promises.{StepsKeepEntered}
 use Rattle.world_play.proofs.Promised.{held_there}
 use Rattle.world_play.proofs.Stepped.{get_set_other}
@@ -26,18 +26,18 @@ use Rattle.world_play.proofs.Stepped.{get_set_other}
 -- 1. IN A ROW.
 
 -- What is there stays where an entry is put behind it.
-push_keeps : (row : List Held) (e : Held) (s : ℕ) (k : Key) → HoldsAt row s k → HoldsAt (row ++ e ∷ []) s k
+push_keeps : (row : List EntryView) (e : EntryView) (s : ℕ) (k : Key) → HoldsAt row s k → HoldsAt (row ++ e ∷ []) s k
 push_keeps [] e s k h = absurd h
 push_keeps (x ∷ xs) e zero k h = h
 push_keeps (x ∷ xs) e (suc s) k h = push_keeps xs e s k h
 
-updated_key : (e : Held) (u : Update) → (updated e u).key ≡ e.key
+updated_key : (e : EntryView) (u : Update) → (updated e u).key ≡ e.key
 updated_key e (SetNumbers n) = refl
 updated_key e (AddNote n) = refl
 updated_key e ChangeNothing = refl
 
 -- And where an entry is left.
-left_keeps : (row : List Held) (slot : ℕ) (u : Update) (s : ℕ) (k : Key) → HoldsAt row s k → HoldsAt (left row slot u) s k
+left_keeps : (row : List EntryView) (slot : ℕ) (u : Update) (s : ℕ) (k : Key) → HoldsAt row s k → HoldsAt (left row slot u) s k
 left_keeps [] slot u s k h = h
 left_keeps (x ∷ xs) zero u zero k h = updated_key x u ∙ h
 left_keeps (x ∷ xs) zero u (suc s) k h = h
@@ -45,21 +45,21 @@ left_keeps (x ∷ xs) (suc slot) u zero k h = h
 left_keeps (x ∷ xs) (suc slot) u (suc s) k h = left_keeps xs slot u s k h
 
 -- The entry that is given up is not below a visit.
-given_up_idle : (row : List Held) (pins : List ℕ) (slot : ℕ) → IsGivenUp row pins slot → slice_index pins slot ≡ 0
+given_up_idle : (row : List EntryView) (pins : List ℕ) (slot : ℕ) → IsGivenUp row pins slot → slice_index pins slot ≡ 0
 given_up_idle row pins slot (inl first) = first.has.idle.unpinned
 given_up_idle row pins slot (inr first) = first.1.has.unpinned
 
-enters_keeps : (row : List Held) (pins : List ℕ) (key : Key) (numbers : Numbers) (kept : Kept) (after : List Held) (s : ℕ) (k : Key) → Enters row pins key numbers kept after
+enters_keeps : (row : List EntryView) (pins : List ℕ) (key : Key) (numbers : Numbers) (kept : Kept) (after : List EntryView) (s : ℕ) (k : Key) → Enters row pins key numbers kept after
     → 0 < slice_index pins s → HoldsAt row s k → HoldsAt after s k
-enters_keeps row pins key numbers (Slot slot) after s k (inl same) some h = subst (λ (r : List Held). HoldsAt r s k) (sym same.1) h
+enters_keeps row pins key numbers (Slot slot) after s k (inl same) some h = subst (λ (r : List EntryView). HoldsAt r s k) (sym same.1) h
 enters_keeps row pins key numbers (Slot slot) after s k (inr (lacks, inl free)) some h =
-    subst (λ (r : List Held). HoldsAt r s k) (sym free.2) (push_keeps row (fresh key numbers) s k h)
+    subst (λ (r : List EntryView). HoldsAt r s k) (sym free.2) (push_keeps row (fresh key numbers) s k h)
 enters_keeps row pins key numbers (Slot slot) after s k (inr (lacks, inr full)) some h =
     let idle = given_up_idle row pins slot full.1 in
     let ne : s ≢ slot = λ e. (let z : slice_index pins s ≡ 0 = ap (λ (n : ℕ). slice_index pins n) e ∙ idle in absurd (omega (arith, z, some))) in
-    subst (λ (r : List Held). HoldsAt r s k) (sym full.2)
-    (subst (λ (o : Option Held). IsSomeAnd o (λ e. e.key ≡ k)) (sym (get_set_other row slot s (fresh key numbers) ne)) h)
-enters_keeps row pins key numbers Unkept after s k h some there = subst (λ (r : List Held). HoldsAt r s k) (sym h.3) there
+    subst (λ (r : List EntryView). HoldsAt r s k) (sym full.2)
+    (subst (λ (o : Option EntryView). IsSomeAnd o (λ e. e.key ≡ k)) (sym (get_set_other row slot s (fresh key numbers) ne)) h)
+enters_keeps row pins key numbers Unkept after s k h some there = subst (λ (r : List EntryView). HoldsAt r s k) (sym h.3) there
 
 -- 2. IN A TABLE.
 
@@ -67,14 +67,14 @@ within : (key : Key) (rows : ℕ) → 0 < rows → place_of key rows < rows
 within key rows some = let h = hash_of key.0 in let low : h % rows < rows = omega (arith, some) in low
 
 -- Where what is in the changed row stays, with a visit below, all stays.
-row_keeps : (port : Lone) (key : Key) (row : List Held) (rows : List (List Held)) (k : Key) (s : ℕ) → IsLone port → rows ≡ with_row port.rows key row
+row_keeps : (port : LonePortView) (key : Key) (row : List EntryView) (rows : List (List EntryView)) (k : Key) (s : ℕ) → IsLone port → rows ≡ with_row port.rows key row
     → (0 < slice_index (pins_of port.pins key) s → HoldsAt (row_of port.rows key) s k → HoldsAt row s k)
     → HoldsAt (row_of port.rows k) s k → 0 < slice_index (pins_of port.pins k) s → HoldsAt (row_of rows k) s k
 row_keeps port key row rows k s lone is stays there some =
     let n = length port.rows in
     let low = within key n lone.some in
     let long : length (with_row port.rows key row) ≡ n = length-set port.rows (place_of key n) row in
-    subst (λ (r : List (List Held)). HoldsAt (row_of r k) s k) (sym is)
+    subst (λ (r : List (List EntryView)). HoldsAt (row_of r k) s k) (sym is)
     (subst (λ (m : ℕ). HoldsAt (get_or (with_row port.rows key row) (place_of k m) []) s k) (sym long)
     (elim (cases_eq (place_of k n) (place_of key n)) as (λ _. HoldsAt (get_or (with_row port.rows key row) (place_of k n) []) s k) [
       | inl same ↦ (
@@ -84,40 +84,40 @@ row_keeps port key row rows k s lone is stays there some =
           let pin : pins_of port.pins k ≡ pins_of port.pins key =
           ap (λ (m : ℕ). get_or port.pins (place_of k m) []) lone.as_many
           ∙ (ap (λ (p : ℕ). get_or port.pins p []) same ∙ ap (λ (m : ℕ). get_or port.pins (place_of key m) []) (sym lone.as_many)) in
-          subst (λ (z : List Held). HoldsAt z s k) (sym r)
-          (stays (subst (λ (z : List ℕ). 0 < slice_index z s) pin some) (subst (λ (z : List Held). HoldsAt z s k) old there)))
+          subst (λ (z : List EntryView). HoldsAt z s k) (sym r)
+          (stays (subst (λ (z : List ℕ). 0 < slice_index z s) pin some) (subst (λ (z : List EntryView). HoldsAt z s k) old there)))
       | inr ne ↦ (
           let r : get_or (with_row port.rows key row) (place_of k n) [] ≡ row_of port.rows k = get_or-set_other port.rows (place_of key n) (place_of k n) row [] ne in
-          subst (λ (z : List Held). HoldsAt z s k) (sym r) there)
+          subst (λ (z : List EntryView). HoldsAt z s k) (sym r) there)
     ]))
 
 -- 3. A STEP.
 
-same_rows : (port after : Lone) (k : Key) (s : ℕ) → after.rows ≡ port.rows → HoldsAt (row_of port.rows k) s k → HoldsAt (row_of after.rows k) s k
-same_rows port after k s e h = subst (λ (r : List (List Held)). HoldsAt (row_of r k) s k) (sym e) h
+same_rows : (port after : LonePortView) (k : Key) (s : ℕ) → after.rows ≡ port.rows → HoldsAt (row_of port.rows k) s k → HoldsAt (row_of after.rows k) s k
+same_rows port after k s e h = subst (λ (r : List (List EntryView)). HoldsAt (row_of r k) s k) (sym e) h
 
 -- A visit is below the slot of the key, which holds its entry.
-abbrev IsBelowSlot : Lone → Key → ℕ → Type 0
+abbrev IsBelowSlot : LonePortView → Key → ℕ → Type 0
 IsBelowSlot port k s = HoldsAt (row_of port.rows k) s k × (0 < slice_index (pins_of port.pins k) s)
 
-turn_keeps : (port : Lone) (path : List Key) (q : Request) (a : Option Answer) (after : Lone) (k : Key) (s : ℕ) → IsLone port → IsBelowSlot port k s
+turn_keeps : (port : LonePortView) (path : List Key) (q : Request) (a : Option Reply) (after : LonePortView) (k : Key) (s : ℕ) → IsLone port → IsBelowSlot port k s
     → Turns port path q a after → HoldsAt (row_of after.rows k) s k
-turn_keeps port path Poll (Some (Polled stop)) after k s lone b h = same_rows port after k s (ap (λ (p : Lone). p.rows) h.1) b.0
-turn_keeps port path Draws (Some (Drew draw)) after k s lone b h = same_rows port after k s (ap (λ (p : Lone). p.rows) h.1) b.0
-turn_keeps port path Claims (Some (Claimed claim)) after k s lone b h = same_rows port after k s (ap (λ (p : Lone). p.rows) h.1) b.0
-turn_keeps port path (Look key) None after k s lone b h = same_rows port after k s (ap (λ (p : Lone). p.rows) h) b.0
-turn_keeps port path (Look key) (Some (Looked seen)) after k s lone b h = same_rows port after k s (ap (λ (p : Lone). p.rows) h.1) b.0
+turn_keeps port path Poll (Some (Polled stop)) after k s lone b h = same_rows port after k s (ap (λ (p : LonePortView). p.rows) h.1) b.0
+turn_keeps port path Draws (Some (Drew draw)) after k s lone b h = same_rows port after k s (ap (λ (p : LonePortView). p.rows) h.1) b.0
+turn_keeps port path Claims (Some (Claimed claim)) after k s lone b h = same_rows port after k s (ap (λ (p : LonePortView). p.rows) h.1) b.0
+turn_keeps port path (Look key) None after k s lone b h = same_rows port after k s (ap (λ (p : LonePortView). p.rows) h) b.0
+turn_keeps port path (Look key) (Some (Looked seen)) after k s lone b h = same_rows port after k s (ap (λ (p : LonePortView). p.rows) h.1) b.0
 turn_keeps port path (Enter key numbers) (Some (Entered kept)) after k s lone b h =
     row_keeps port key h.0.row after.rows k s lone h.0.others
     (λ some there. enters_keeps (row_of port.rows key) (pins_of port.pins key) key numbers kept h.0.row s k h.0.enters some there) b.0 b.1
-turn_keeps port path (Leave Unkept key update) (Some LeftIt) after k s lone b h = same_rows port after k s (ap (λ (p : Lone). p.rows) h) b.0
+turn_keeps port path (Leave Unkept key update) (Some LeftIt) after k s lone b h = same_rows port after k s (ap (λ (p : LonePortView). p.rows) h) b.0
 turn_keeps port path (Leave (Slot slot) key update) (Some LeftIt) after k s lone b h =
-    row_keeps port key (left (row_of port.rows key) slot update) after.rows k s lone (ap (λ (p : Lone). p.rows) h)
+    row_keeps port key (left (row_of port.rows key) slot update) after.rows k s lone (ap (λ (p : LonePortView). p.rows) h)
     (λ some there. left_keeps (row_of port.rows key) slot update s k there) b.0 b.1
-turn_keeps port path (Post note) (Some PostedIt) after k s lone b h = same_rows port after k s (ap (λ (p : Lone). p.rows) h) b.0
+turn_keeps port path (Post note) (Some PostedIt) after k s lone b h = same_rows port after k s (ap (λ (p : LonePortView). p.rows) h) b.0
 turn_keeps port path q a after k s lone b h = absurd h
 
-pub opened_lone : (port : Lone) (stops : Bool) → IsLone port → IsLone (opened port stops)
+pub opened_lone : (port : LonePortView) (stops : Bool) → IsLone port → IsLone (opened port stops)
 opened_lone port stops l = record { some = l.some; as_many = l.as_many; eight = l.eight; there = l.there; notes = l.notes }
 
 pub steps_keep : StepsKeepEntered

@@ -9,17 +9,17 @@ use Rattle.std.proofs.lemmas.List.{get_or_past}
 use Rattle.board_core.specs.Board.{Board}
 use Rattle.board_core.specs.Kept.{IsKept}
 use Rattle.shogi_rules.specs.Tsume.{IsProblem}
-use Rattle.table_shard.specs.Entry.{Held}
+use Rattle.table_shard.specs.Entry.{EntryView}
 use Rattle.table_shard.specs.Spot.{place_of}
 use Rattle.search_limits.specs.Sizes.{SettingsView}
 use Rattle.unit_desk.specs.Desk.{DeskView, fresh}
 use Rattle.visit_log.specs.declared.words.WorkEnd.{WorkEnd}
 use Rattle.visit_log.specs.declared.words.WorkEnd.TheVariants.{Posted, Spent, NoRoom, TooHigh, NoMemory, Stopped}
 use Rattle.visit_log.specs.Frame.{Task, task_for}
-use Rattle.visit_log.specs.Run.{Standing}
+use Rattle.visit_log.specs.Run.{WorkerView}
 use Rattle.visit_log.specs.Counts.{own_slots, own_size}
 use Rattle.visit_log.specs.Laws.{HasCause}
-use Rattle.lone_port.specs.Lone.{held_in, held_at, pins_of, worker_at_first, alone_at_first, Lone}
+use Rattle.lone_port.specs.Lone.{held_in, held_at, pins_of, worker_at_first, alone_at_first, LonePortView}
 use Rattle.lone_port.specs.World.{World, world_at_first, workers_from}
 use Rattle.world_play.specs.Fair.{IsFair, IsMember, IsToldOf}
 use Rattle.world_play.proofs.Suited.{some_is}
@@ -31,7 +31,7 @@ pub workers_push : (problem : Board) (first n : ℕ) → workers_from problem fi
 workers_push problem first zero = let e : first ≡ first + 0 = omega arith in ap (λ (k : ℕ). worker_at_first problem k ∷ []) e
 workers_push problem first (suc n) =
     let e : (first + 1) + n ≡ first + suc n = omega arith in
-    ap (λ (ws : List Standing). worker_at_first problem first ∷ ws)
+    ap (λ (ws : List WorkerView). worker_at_first problem first ∷ ws)
     (workers_push problem (first + 1) n
     ∙ ap (λ (k : ℕ). workers_from problem (first + 1) n ++ worker_at_first problem k ∷ []) e)
 
@@ -40,7 +40,7 @@ many_workers problem first zero = refl
 many_workers problem first (suc n) = let r = many_workers problem (first + 1) n in omega (arith, r)
 
 -- What none of them has at first, they don't have all together.
-none_at_first : (f : Standing → ℕ) (problem : Board) (first n : ℕ) → ((number : ℕ) → f (worker_at_first problem number) ≡ 0) → sum_by f (workers_from problem first n) ≡ 0
+none_at_first : (f : WorkerView → ℕ) (problem : Board) (first n : ℕ) → ((number : ℕ) → f (worker_at_first problem number) ≡ 0) → sum_by f (workers_from problem first n) ≡ 0
 none_at_first f problem first zero none = refl
 none_at_first f problem first (suc n) none =
     let s = sum_by-cons f (worker_at_first problem first) (workers_from problem (first + 1) n) in
@@ -48,7 +48,7 @@ none_at_first f problem first (suc n) none =
     let r = none_at_first f problem (first + 1) n none in
     omega (arith, s, here, r)
 
-worker_there : (problem : Board) (first n place : ℕ) (w : Standing) → slice_get (workers_from problem first n) place ≡ Some w → worker_at_first problem (first + place) ≡ w
+worker_there : (problem : Board) (first n place : ℕ) (w : WorkerView) → slice_get (workers_from problem first n) place ≡ Some w → worker_at_first problem (first + place) ≡ w
 worker_there problem first zero place w e = absurd (cc)
 worker_there problem first (suc n) zero w e =
     let k : first + 0 ≡ first = omega arith in
@@ -73,7 +73,7 @@ no_cause desk task Stopped c = tt
 
 -- 3. THE TABLE: EMPTY.
 
-no_row : (n place : ℕ) (none : List Held) → get_or (replicate n none) place none ≡ none
+no_row : (n place : ℕ) (none : List EntryView) → get_or (replicate n none) place none ≡ none
 no_row n place none =
     elim (cases_lt place n) as (λ _. get_or (replicate n none) place none ≡ none) [
       | inl low ↦ get_or-replicate n place none none low
@@ -87,21 +87,21 @@ first_fair problem s kept is some = record {
   some = (let n = many_workers problem 1 s.workers in omega (arith, n, some));
   raised = length-replicate s.workers false ∙ sym (many_workers problem 1 s.workers);
   held = λ key slot. (
-      let none : List Held = [] in
+      let none : List EntryView = [] in
       let e = no_row s.rows (place_of key (length (replicate s.rows none))) none in
       let h : held_in (replicate s.rows none) (replicate s.rows (replicate 8 0)) key slot ≡ 0 =
-      ap (λ (row : List Held). held_at (slice_get row slot) key (get_or (pins_of (replicate s.rows (replicate 8 0)) key) slot 0)) e in
-      h ∙ sym (none_at_first (λ (w : Standing). own_slots w.state.frames key slot) problem 1 s.workers (λ number. refl)));
+      ap (λ (row : List EntryView). held_at (slice_get row slot) key (get_or (pins_of (replicate s.rows (replicate 8 0)) key) slot 0)) e in
+      h ∙ sym (none_at_first (λ (w : WorkerView). own_slots w.state.frames key slot) problem 1 s.workers (λ number. refl)));
   size = (let none = sum_by-replicate sum s.rows (replicate 8 0) in
-      let all = none_at_first (λ (w : Standing). own_size w.state.frames) problem 1 s.workers (λ number. refl) in
+      let all = none_at_first (λ (w : WorkerView). own_size w.state.frames) problem 1 s.workers (λ number. refl) in
       omega (arith, none, all));
-  drawn = sym (none_at_first (λ (w : Standing). w.state.visits) problem 1 s.workers (λ number. refl));
-  claimed = sym (none_at_first (λ (w : Standing). w.state.claims) problem 1 s.workers (λ number. refl));
+  drawn = sym (none_at_first (λ (w : WorkerView). w.state.visits) problem 1 s.workers (λ number. refl));
+  claimed = sym (none_at_first (λ (w : WorkerView). w.state.claims) problem 1 s.workers (λ number. refl));
   members = λ place worker e. (
       let z = worker_there problem 1 s.workers place worker e in
       let k : 1 + place ≡ place + 1 = omega arith in
       let z2 : worker_at_first problem (place + 1) ≡ worker = ap (worker_at_first problem) (sym k) ∙ z in
-      subst (λ (w : Standing). IsMember (fresh problem s.expansions s.room) place w) z2
+      subst (λ (w : WorkerView). IsMember (fresh problem s.expansions s.room) place w) z2
       (record {
         task = refl;
         problem = record { kept = kept; problem = is };
@@ -114,30 +114,30 @@ first_fair problem s kept is some = record {
 
 -- 5. THE WORLD THAT IS MADE.
 
-pub made_is : (problem : Board) (s : SettingsView) (place : ℕ) (port : Lone) (workers : List Standing) (raised : List Bool)
+pub made_is : (problem : Board) (s : SettingsView) (place : ℕ) (port : LonePortView) (workers : List WorkerView) (raised : List Bool)
     → port ≡ alone_at_first problem s.expansions s.room s.rows → workers ≡ workers_from problem 1 place → raised ≡ replicate place false → place ≡ s.workers
     → record { port = port; workers = workers; raised = raised } ≡ world_at_first problem s
 made_is problem s place port workers raised one two three end =
     let ws : workers ≡ workers_from problem 1 s.workers = two ∙ ap (λ (n : ℕ). workers_from problem 1 n) end in
     let rs : raised ≡ replicate s.workers false = three ∙ ap (λ (n : ℕ). replicate n false) end in
-    let P : Lone → List Standing → List Bool → World = λ p w r. record { port = p; workers = w; raised = r } in
-    ap (λ (p : Lone). P p workers raised) one
-    ∙ (ap (λ (w : List Standing). P (alone_at_first problem s.expansions s.room s.rows) w raised) ws
+    let P : LonePortView → List WorkerView → List Bool → World = λ p w r. record { port = p; workers = w; raised = r } in
+    ap (λ (p : LonePortView). P p workers raised) one
+    ∙ (ap (λ (w : List WorkerView). P (alone_at_first problem s.expansions s.room s.rows) w raised) ws
     ∙ ap (λ (r : List Bool). P (alone_at_first problem s.expansions s.room s.rows) (workers_from problem 1 s.workers) r) rs)
 
-pub made_fair : (problem : Board) (s : SettingsView) (place : ℕ) (port : Lone) (workers : List Standing) (raised : List Bool) → IsKept problem → IsProblem problem
+pub made_fair : (problem : Board) (s : SettingsView) (place : ℕ) (port : LonePortView) (workers : List WorkerView) (raised : List Bool) → IsKept problem → IsProblem problem
     → 0 < s.workers → port ≡ alone_at_first problem s.expansions s.room s.rows → workers ≡ workers_from problem 1 place → raised ≡ replicate place false
     → place ≡ s.workers → IsFair (record { port = port; workers = workers; raised = raised })
 made_fair problem s place port workers raised kept is some one two three end =
     subst IsFair (sym (made_is problem s place port workers raised one two three end)) (first_fair problem s kept is some)
 
 -- One more worker, and one more that isn't told to stop.
-pub one_more : (problem : Board) (place : ℕ) (workers : List Standing) → workers ≡ workers_from problem 1 place
+pub one_more : (problem : Board) (place : ℕ) (workers : List WorkerView) → workers ≡ workers_from problem 1 place
     → workers ++ worker_at_first problem (place + 1) ∷ [] ≡ workers_from problem 1 (place + 1)
 one_more problem place workers e =
     let k : place + 1 ≡ 1 + place = omega arith in
     let n : suc place ≡ place + 1 = omega arith in
-    ap (λ (ws : List Standing). ws ++ worker_at_first problem (place + 1) ∷ []) e
+    ap (λ (ws : List WorkerView). ws ++ worker_at_first problem (place + 1) ∷ []) e
     ∙ (ap (λ (m : ℕ). workers_from problem 1 place ++ worker_at_first problem m ∷ []) k
     ∙ (sym (workers_push problem 1 place) ∙ ap (λ (m : ℕ). workers_from problem 1 m) n))
 

@@ -4,10 +4,10 @@ use Rattle.std.specs.Prelude.{Some, slice_get, if◌then◌else◌}
 use Rattle.std.proofs.lemmas.Bool.{cases_eq, eq-eqb}
 use Rattle.std.proofs.lemmas.Bool.Decides.{nat_tests}
 use Rattle.std.proofs.lemmas.Option.{slice_get_within, slice_get-get_or}
-use Rattle.visit_log.specs.Visit.{Event as Exchange}
+use Rattle.visit_log.specs.Visit.{Exchange}
 use Rattle.visit_log.specs.Frame.{Task}
 use Rattle.visit_log.specs.Machine.{State}
-use Rattle.visit_log.specs.Run.{Standing, Leads, IsReached, now_at}
+use Rattle.visit_log.specs.Run.{WorkerView, Leads, IsReached, now_at}
 use Rattle.world_play.specs.Logs.{told_to, GoesOnBy, GoOnBy}
 use Rattle.world_play.proofs.Suited.{some_is}
 use Rattle.world_play.proofs.Stepped.{get_set, get_set_other}
@@ -33,14 +33,14 @@ told_none n m x ne =
 
 -- 2. ONE WORKER.
 
-goes_same : (w : Standing) (follows : List Exchange) → follows ≡ [] → GoesOnBy w w follows
+goes_same : (w : WorkerView) (follows : List Exchange) → follows ≡ [] → GoesOnBy w w follows
 goes_same w follows e = record {
   task = refl;
   reached = λ log r. subst (λ (z : List Exchange). IsReached w z) (sym (ap (λ (f : List Exchange). log ++ f) e ∙ append-nil log)) r;
 }
 
 -- A worker that goes on by what follows, whatever led to it.
-pub goes_on_by : (worker later : Standing) (follows : List Exchange) → worker.waiting ≡ false → later.waiting ≡ false → later.task ≡ worker.task
+pub goes_on_by : (worker later : WorkerView) (follows : List Exchange) → worker.waiting ≡ false → later.waiting ≡ false → later.task ≡ worker.task
     → ((log : List Exchange) → Leads worker.task log worker.state → Leads worker.task (log ++ follows) later.state) → GoesOnBy worker later follows
 goes_on_by worker later follows idle then_idle task leads = record {
   task = task;
@@ -56,22 +56,22 @@ goes_on_by worker later follows idle then_idle task leads = record {
 
 -- 3. ALL WORKERS.
 
-pub gone_none : (ws : List Standing) → GoOnBy ws [] ws
+pub gone_none : (ws : List WorkerView) → GoOnBy ws [] ws
 gone_none ws = record {
   as_many = refl;
   each = λ place before after e f. (
       let z : before ≡ after = some_is before after (sym e ∙ f) in
-      subst (λ (v : Standing). GoesOnBy before v []) z (goes_same before [] refl));
+      subst (λ (v : WorkerView). GoesOnBy before v []) z (goes_same before [] refl));
 }
 
-pub gone_then : (ws vs us : List Standing) (a b : List (ℕ × Exchange)) → GoOnBy ws a vs → GoOnBy vs b us → GoOnBy ws (a ++ b) us
+pub gone_then : (ws vs us : List WorkerView) (a b : List (ℕ × Exchange)) → GoOnBy ws a vs → GoOnBy vs b us → GoOnBy ws (a ++ b) us
 gone_then ws vs us a b g h = record {
   as_many = h.as_many ∙ g.as_many;
   each = λ place before after e f. (
       let low = slice_get_within ws place before e in
       let many = g.as_many in
       let within : place < length vs = omega (arith, low, many) in
-      let mid : Standing = get_or vs place before in
+      let mid : WorkerView = get_or vs place before in
       let there : slice_get vs place ≡ Some mid = slice_get-get_or vs place before within in
       let one = g.each place before mid e there in
       let two = h.each place mid after there f in
@@ -84,7 +84,7 @@ gone_then ws vs us a b g h = record {
       });
 }
 
-gone_at : (ws : List Standing) (place : ℕ) (worker later : Standing) (log : List (ℕ × Exchange)) → slice_get ws place ≡ Some worker
+gone_at : (ws : List WorkerView) (place : ℕ) (worker later : WorkerView) (log : List (ℕ × Exchange)) → slice_get ws place ≡ Some worker
     → GoesOnBy worker later (told_to (place + 1) log) → ((n : ℕ) → n ≢ place → told_to (n + 1) log ≡ []) → GoOnBy ws log (set ws place later)
 gone_at ws place worker later log there own others = record {
   as_many = length-set ws place later;
@@ -94,15 +94,15 @@ gone_at ws place worker later log there own others = record {
             let b : worker ≡ before = some_is worker before (sym there ∙ (ap (λ (k : ℕ). slice_get ws k) (sym same) ∙ e)) in
             let a : later ≡ after = some_is later after (sym (get_set ws place later worker there) ∙ (ap (λ (k : ℕ). slice_get (set ws place later) k) (sym same) ∙ f)) in
             subst (λ (k : ℕ). GoesOnBy before after (told_to (k + 1) log)) (sym same)
-            (subst (λ (v : Standing). GoesOnBy v after (told_to (place + 1) log)) b (subst (λ (v : Standing). GoesOnBy worker v (told_to (place + 1) log)) a own)))
+            (subst (λ (v : WorkerView). GoesOnBy v after (told_to (place + 1) log)) b (subst (λ (v : WorkerView). GoesOnBy worker v (told_to (place + 1) log)) a own)))
         | inr ne ↦ (
             let z : before ≡ after = some_is before after (sym e ∙ (sym (get_set_other ws place n later ne) ∙ f)) in
-            subst (λ (v : Standing). GoesOnBy before v (told_to (n + 1) log)) z (goes_same before (told_to (n + 1) log) (others n ne)))
+            subst (λ (v : WorkerView). GoesOnBy before v (told_to (n + 1) log)) z (goes_same before (told_to (n + 1) log) (others n ne)))
       ];
 }
 
 -- A worker's request was answered.
-pub gone_one : (ws : List Standing) (place number : ℕ) (worker later : Standing) (x : Exchange) → slice_get ws place ≡ Some worker → number ≡ place + 1
+pub gone_one : (ws : List WorkerView) (place number : ℕ) (worker later : WorkerView) (x : Exchange) → slice_get ws place ≡ Some worker → number ≡ place + 1
     → GoesOnBy worker later (x ∷ []) → GoOnBy ws ((number, x) ∷ []) (set ws place later)
 gone_one ws place number worker later x there e own =
     gone_at ws place worker later ((number, x) ∷ []) there
@@ -110,6 +110,6 @@ gone_one ws place number worker later x there e own =
     (λ n ne. (let other : number ≢ n + 1 = omega (arith, e, ne) in told_none number (n + 1) x other))
 
 -- A worker changed, and asked nothing.
-pub gone_quietly : (ws : List Standing) (place : ℕ) (worker later : Standing) → slice_get ws place ≡ Some worker → GoesOnBy worker later []
+pub gone_quietly : (ws : List WorkerView) (place : ℕ) (worker later : WorkerView) → slice_get ws place ≡ Some worker → GoesOnBy worker later []
     → GoOnBy ws [] (set ws place later)
 gone_quietly ws place worker later there own = gone_at ws place worker later [] there own (λ n ne. refl)

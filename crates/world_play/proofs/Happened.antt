@@ -4,15 +4,15 @@ use Rattle.std.specs.Prelude.{Option, Some, None, slice_get, slice_index_or, IfS
 use Rattle.std.proofs.lemmas.List.Sums.{sum_by-append}
 use Rattle.std.proofs.lemmas.Option.{slice_get_within, slice_get_read}
 use Rattle.visit_log.specs.declared.words.WorkEnd.{WorkEnd}
-use Rattle.visit_log.specs.Visit.{Event as Exchange}
+use Rattle.visit_log.specs.Visit.{Exchange}
 use Rattle.visit_log.specs.Frame.{Task}
 use Rattle.visit_log.specs.Machine.{State, asks, starve, end_of}
-use Rattle.visit_log.specs.Run.{Standing, Leads, now_at}
+use Rattle.visit_log.specs.Run.{WorkerView, Leads, now_at}
 use Rattle.visit_log.specs.Sound.{IsTask}
 use Rattle.visit_log.specs.Laws.{IsLeftAlone, HasCause}
 use Rattle.worker_core.specs.Port.{KeepsOthers, Goes}
 use Rattle.worker_core.specs.Machine.{is_poll}
-use Rattle.lone_port.specs.Lone.{Lone, book_of, opened}
+use Rattle.lone_port.specs.Lone.{LonePortView, book_of, opened}
 use Rattle.lone_port.specs.World.{World, Steps, StepsAt, IsAtWork, IsIdle, Happens, Plays}
 use Rattle.lone_port.specs.declared.event.Event.{Event}
 use Rattle.lone_port.specs.declared.event.Event.TheVariants.{Step, Raise, Starve}
@@ -35,7 +35,7 @@ goes_asks task s t (q, None) h = h.0
 goes_asks task s t (q, Some a) h = h.0
 
 -- All that is known of one request.
-pub record IsRequest (world after : World) (number place : ℕ) (worker later : Standing) (x : Exchange) : Type 0 where
+pub record IsRequest (world after : World) (number place : ℕ) (worker later : WorkerView) (x : Exchange) : Type 0 where
   pub fair : IsFair world
   pub at_work : IsAtWork world number place worker
   pub workers : after.workers ≡ set world.workers place later
@@ -48,7 +48,7 @@ pub length_if : (b : Bool) (xs : List Bool) (i : ℕ) → length (if b then set 
 length_if true xs i = length-set xs i false
 length_if false xs i = refl
 
-pub step_fair : (world after : World) (number place : ℕ) (worker later : Standing) (x : Exchange) → IsRequest world after number place worker later x → IsFair after
+pub step_fair : (world after : World) (number place : ℕ) (worker later : WorkerView) (x : Exchange) → IsRequest world after number place worker later x → IsFair after
 step_fair world after number place worker later x r =
     fair_on world after place worker later r.fair r.at_work.there r.workers
     (ap length r.raised ∙ length_if (is_poll (asks worker.state)) world.raised place)
@@ -56,7 +56,7 @@ step_fair world after number place worker later x r =
     (keeps (opened (opened world.port false) (slice_index_or world.raised place false)) _ x.0 x.1 after.port r.steps.turns)
     (member_on (opened world.port false) after.port (slice_index_or world.raised place false) place worker later x (r.fair.members place worker r.at_work.there) r.steps r.leads)
 
-pub step_comes : (world after : World) (number place : ℕ) (worker later : Standing) (x : Exchange) (refused : ℕ) → IsRequest world after number place worker later x
+pub step_comes : (world after : World) (number place : ℕ) (worker later : WorkerView) (x : Exchange) (refused : ℕ) → IsRequest world after number place worker later x
     → refused_looks ((number, x) ∷ []) ≡ refused → Comes world (Step number) refused after
 step_comes world after number place worker later x refused r counts =
     let m = r.fair.members place worker r.at_work.there in
@@ -69,7 +69,7 @@ step_comes world after number place worker later x refused r counts =
     } in (
       (number, x) ∷ [],
       inl (place, worker, x, r.at_work, at, refl),
-      subst (λ (ws : List Standing). GoOnBy world.workers ((number, x) ∷ []) ws) (sym r.workers)
+      subst (λ (ws : List WorkerView). GoOnBy world.workers ((number, x) ∷ []) ws) (sym r.workers)
           (gone_one world.workers place number worker later x r.at_work.there r.at_work.numbered
           (goes_on_by worker later (x ∷ []) m.idle r.steps.idle r.steps.task r.leads)),
       counts,
@@ -90,7 +90,7 @@ raise_fair world after place fair e =
       members = fair.members;
     })
 
-pub raise_comes : (world after : World) (number place : ℕ) (worker : Standing) → IsAtWork world number place worker
+pub raise_comes : (world after : World) (number place : ℕ) (worker : WorkerView) → IsAtWork world number place worker
     → after ≡ record world { raised = set world.raised place true } → Comes world (Raise number) 0 after
 raise_comes world after number place worker at e = (
   [],
@@ -102,18 +102,18 @@ raise_comes world after number place worker at e = (
 -- 3. STARVING.
 
 -- The worker once it is starved.
-abbrev pub starved : Standing → Standing
+abbrev pub starved : WorkerView → WorkerView
 starved worker = record { task = worker.task; state = starve worker.state; waiting = false }
 
 -- The log of a worker that waits for nothing goes on so when it is starved.
-abbrev pub LeadsStarved : Standing → Standing → Type 0
+abbrev pub LeadsStarved : WorkerView → WorkerView → Type 0
 LeadsStarved worker later = (log : List Exchange) (s : State) → Leads worker.task log s → worker.state ≡ now_at worker.waiting s → Leads worker.task log later.state
 
-pub leads_starved : (worker later : Standing) → worker.waiting ≡ false → LeadsStarved worker later → (log : List Exchange) → Leads worker.task log worker.state
+pub leads_starved : (worker later : WorkerView) → worker.waiting ≡ false → LeadsStarved worker later → (log : List Exchange) → Leads worker.task log worker.state
     → Leads worker.task log later.state
 leads_starved worker later idle leads log l = leads log worker.state l (subst (λ (b : Bool). worker.state ≡ now_at b worker.state) (sym idle) refl)
 
-pub starve_fair : (world after : World) (place : ℕ) (worker later : Standing) → IsFair world → slice_get world.workers place ≡ Some worker → later ≡ starved worker
+pub starve_fair : (world after : World) (place : ℕ) (worker later : WorkerView) → IsFair world → slice_get world.workers place ≡ Some worker → later ≡ starved worker
     → LeadsStarved worker later → IsLeftAlone worker.state later.state → after ≡ record world { workers = set world.workers place later } → IsFair after
 starve_fair world after place worker later fair there is leads alone e =
     let m = fair.members place worker there in
@@ -126,24 +126,24 @@ starve_fair world after place worker later fair there is leads alone e =
       rooms = (let a = alone.claims in omega (arith, a));
     })
     (desk_same world.port.desk)
-    (let task : later.task ≡ worker.task = ap (λ (w : Standing). w.task) is in
+    (let task : later.task ≡ worker.task = ap (λ (w : WorkerView). w.task) is in
     record {
       task = task ∙ m.task;
       problem = subst IsTask (sym task) m.problem;
-      idle = ap (λ (w : Standing). w.waiting) is;
+      idle = ap (λ (w : WorkerView). w.waiting) is;
       log = m.log;
       leads = subst (λ (t : Task). Leads t m.log later.state) (sym task) (leads_starved worker later m.idle leads m.log m.leads);
       told = subst (λ (t : Task). (end : WorkEnd) → HasCause t end m.log → IsToldOf world.port.desk end) (sym task) m.told;
     }))
 
-pub starve_comes : (world after : World) (number place : ℕ) (worker later : Standing) → IsFair world → IsAtWork world number place worker → later ≡ starved worker
+pub starve_comes : (world after : World) (number place : ℕ) (worker later : WorkerView) → IsFair world → IsAtWork world number place worker → later ≡ starved worker
     → LeadsStarved worker later → after ≡ record world { workers = set world.workers place later } → Comes world (Starve number) 0 after
 starve_comes world after number place worker later fair at is leads e =
     let m = fair.members place worker at.there in
-    let idle : later.waiting ≡ false = ap (λ (w : Standing). w.waiting) is in
-    let task : later.task ≡ worker.task = ap (λ (w : Standing). w.task) is in (
+    let idle : later.waiting ≡ false = ap (λ (w : WorkerView). w.waiting) is in
+    let task : later.task ≡ worker.task = ap (λ (w : WorkerView). w.task) is in (
       [],
-      inl (place, worker, at, e ∙ ap (λ (v : Standing). record world { workers = set world.workers place v }) is, refl),
+      inl (place, worker, at, e ∙ ap (λ (v : WorkerView). record world { workers = set world.workers place v }) is, refl),
       subst (λ (w : World). GoOnBy world.workers [] w.workers) (sym e)
           (gone_quietly world.workers place worker later at.there
           (goes_on_by worker later [] m.idle idle task
@@ -187,19 +187,19 @@ played_push world mid after events event refused more p c =
 -- 5. WHAT THE CODE READS.
 
 -- One request was answered.
-abbrev pub IsOne : Bool → Lone → Standing → Lone → Standing → Type 0
+abbrev pub IsOne : Bool → LonePortView → WorkerView → LonePortView → WorkerView → Type 0
 IsOne stops ready worker after later =
     (x : Exchange) × Steps stops ready worker x after later
     × ((log : List Exchange) → Leads worker.task log worker.state → Leads worker.task (log ++ x ∷ []) later.state)
 
-one_answered : (result : Option WorkEnd) (stops : Bool) (ready : Lone) (worker : Standing) (after : Lone) (later : Standing) → end_of worker.state ≡ None
+one_answered : (result : Option WorkEnd) (stops : Bool) (ready : LonePortView) (worker : WorkerView) (after : LonePortView) (later : WorkerView) → end_of worker.state ≡ None
     → IfNone result (IsOne stops ready worker after later)
     → IfSome result (λ (end : WorkEnd). (end_of worker.state ≡ Some end) × (later ≡ worker) × (after ≡ ready)) → IsOne stops ready worker after later
 one_answered None stops ready worker after later going none some = none
 one_answered (Some end) stops ready worker after later going none some = let e : Some end ≡ None = sym some.0 ∙ going in absurd (cc)
 
 -- What is read at a place is there.
-pub at_work_by : (world : World) (number place : ℕ) (worker read : Standing) → IsAtWork world number place worker → read ≡ get_or world.workers place read
+pub at_work_by : (world : World) (number place : ℕ) (worker read : WorkerView) → IsAtWork world number place worker → read ≡ get_or world.workers place read
     → IsAtWork world number place read
 at_work_by world number place worker read at is =
     let low = slice_get_within world.workers place worker at.there in
@@ -207,11 +207,11 @@ at_work_by world number place worker read at is =
     record {
       numbered = at.numbered;
       there = e;
-      goes_on = ap (λ (w : Standing). end_of w.state) (sym (some_is worker read (sym at.there ∙ e))) ∙ at.goes_on;
+      goes_on = ap (λ (w : WorkerView). end_of w.state) (sym (some_is worker read (sym at.there ∙ e))) ∙ at.goes_on;
     }
 
 -- A request of the worker that was read.
-pub requested : (world after : World) (ready : Lone) (number place : ℕ) (found first worker later : Standing) (stops polls : Bool) (result : Option WorkEnd)
+pub requested : (world after : World) (ready : LonePortView) (number place : ℕ) (found first worker later : WorkerView) (stops polls : Bool) (result : Option WorkEnd)
     → IsFair world → IsAtWork world number place found → first ≡ get_or world.workers place first → worker ≡ get_or world.workers place worker
     → polls ≡ is_poll (asks first.state) → stops ≡ slice_index_or world.raised place false → ready ≡ opened world.port false
     → after.workers ≡ set world.workers place later → after.raised ≡ (if polls then set world.raised place false else world.raised)
@@ -221,7 +221,7 @@ requested world after ready number place found first worker later stops polls re
     let a1 = at_work_by world number place found first at one in
     let a2 = at_work_by world number place found worker at two in
     let same : first ≡ worker = some_is first worker (sym a1.there ∙ a2.there) in
-    let asked : polls ≡ is_poll (asks worker.state) = polled ∙ ap (λ (w : Standing). is_poll (asks w.state)) same in
+    let asked : polls ≡ is_poll (asks worker.state) = polled ∙ ap (λ (w : WorkerView). is_poll (asks w.state)) same in
     let r = one_answered result stops ready worker after.port later a2.goes_on none some in (
       r.0,
       record {
@@ -230,9 +230,9 @@ requested world after ready number place found first worker later stops polls re
         workers = workers;
         raised = raised ∙ ap (λ (b : Bool). if b then set world.raised place false else world.raised) asked;
         steps = subst (λ (b : Bool). Steps b (opened world.port false) worker r.0 after.port later) stopped
-            (subst (λ (p : Lone). Steps stops p worker r.0 after.port later) opens r.1);
+            (subst (λ (p : LonePortView). Steps stops p worker r.0 after.port later) opens r.1);
         leads = r.2;
-        keep = subst (λ (p : Lone). KeepsOthers worker later (book_of p) (book_of after.port)) opens keep;
+        keep = subst (λ (p : LonePortView). KeepsOthers worker later (book_of p) (book_of after.port)) opens keep;
       },
     )
 

@@ -8,16 +8,16 @@ use Rattle.table_shard.specs.Row.{HoldsAt, IsRow}
 use Rattle.table_shard.specs.Shard.{row_of}
 use Rattle.visit_log.specs.declared.words.Request.{Request}
 use Rattle.visit_log.specs.declared.words.Request.TheVariants.{Poll, Draw as Draws, Claim as Claims, Look, Enter, Leave, Post, End}
-use Rattle.visit_log.specs.declared.words.Answer.{Answer}
-use Rattle.visit_log.specs.Visit.{Event as Exchange}
+use Rattle.visit_log.specs.declared.words.Reply.{Reply}
+use Rattle.visit_log.specs.Visit.{Exchange}
 use Rattle.visit_log.specs.Frame.{Task, task_for}
 use Rattle.visit_log.specs.Machine.{State, asks, path_of}
-use Rattle.visit_log.specs.Run.{Happening, Told, Dark, Starved, Happens as Befalls, Runs, event, events, Standing, Leads, now_at}
+use Rattle.visit_log.specs.Run.{Happening, Told, Dark, Starved, Happens as Befalls, Runs, event, events, WorkerView, Leads, now_at}
 use Rattle.visit_log.specs.Sound.{IsSound, IsSoundRequest}
 use Rattle.visit_log.specs.Counts.{own_slots, own_size, enters, leaves, enters_some, leaves_some}
 use Rattle.visit_log.specs.Laws.{WorkersAreSound, AsksSound, SlotsMove, SizesMove, LeavesOwn, StarvingMovesNothing, UnitsMove}
 use Rattle.worker_core.specs.Port.{KeepsOthers, Goes, units_by, rooms_by}
-use Rattle.lone_port.specs.Lone.{Lone, book_of, opened}
+use Rattle.lone_port.specs.Lone.{LonePortView, book_of, opened}
 use Rattle.lone_port.specs.Keeps.{IsKeptPort, MayAsk, IsCountedBy, TurnsAreCounted}
 use Rattle.lone_port.specs.World.{World, Steps, StepsAt, IsAtWork, Happens, Plays}
 use Rattle.lone_port.specs.declared.event.Event.{Event}
@@ -66,7 +66,7 @@ leads_on task s t (q, Some answer) goes log leads = leads_push task (Told q answ
 leads_on task s t (q, None) goes log leads = leads_push task (Dark q) s t goes log leads
 
 -- It is starved.
-leads_starving : (worker : Standing) → worker.waiting ≡ false → LeadsStarved worker (starved worker)
+leads_starving : (worker : WorkerView) → worker.waiting ≡ false → LeadsStarved worker (starved worker)
 leads_starving worker idle log s leads now =
     let here : worker.state ≡ s = subst (λ (b : Bool). worker.state ≡ now_at b s) idle now in
     subst (λ (z : List Exchange). Leads worker.task z (starved worker).state) (append-nil log)
@@ -94,7 +94,7 @@ dark_nothing (Enter key numbers) = record { no_entry = λ k s. refl; no_leave = 
 dark_nothing (Leave kept key update) = record { no_entry = λ k s. refl; no_leave = λ k s. refl; none_entered = refl; none_left = refl }
 dark_nothing q = record { no_entry = λ k s. refl; no_leave = λ k s. refl; none_entered = refl; none_left = refl }
 
-moved : Laws → (task : Task) (s t : State) (answer : Option Answer) → IsSound task s → Goes task s (asks s, answer) t → IsMoved s t (asks s, answer)
+moved : Laws → (task : Task) (s t : State) (answer : Option Reply) → IsSound task s → Goes task s (asks s, answer) t → IsMoved s t (asks s, answer)
 moved laws task s t (Some answer) sound goes = record {
   slots = λ key slot. laws.slots task s t answer key slot sound goes.1 goes.2;
   size = laws.sizes task s t answer sound goes.1 goes.2;
@@ -127,15 +127,15 @@ any_number b n (End end) h = tt
 
 -- 3. A STEP.
 
-opened_kept : (port : Lone) (stops : Bool) → IsKeptPort port → IsKeptPort (opened port stops)
+opened_kept : (port : LonePortView) (stops : Bool) → IsKeptPort port → IsKeptPort (opened port stops)
 opened_kept port stops is = record { lone = opened_lone port stops is.lone; few = is.few }
 
 -- All that a step of a kept world moves, in the worker and in the table and the desk.
-record IsStepped (world : World) (worker later : Standing) (x : Exchange) (after : Lone) : Type 0 where
+record IsStepped (world : World) (worker later : WorkerView) (x : Exchange) (after : LonePortView) : Type 0 where
   pub own : IsMoved worker.state later.state x
   pub all : IsCountedBy x world.port after
 
-stepped : Laws → (world : World) (place : ℕ) (worker later : Standing) (stops : Bool) (answer : Option Answer) (after : Lone) → IsKeptWorld world
+stepped : Laws → (world : World) (place : ℕ) (worker later : WorkerView) (stops : Bool) (answer : Option Reply) (after : LonePortView) → IsKeptWorld world
     → slice_get world.workers place ≡ Some worker → Steps stops world.port worker (asks worker.state, answer) after later
     → IsStepped world worker later (asks worker.state, answer) after
 stepped laws world place worker later stops answer after is there steps =
@@ -148,7 +148,7 @@ stepped laws world place worker later stops answer after is there steps =
       sound = any_number world.port.desk.position (place + 1) (asks worker.state) (subst (λ (t : Task). IsSoundRequest t (asks worker.state)) m.task asked);
       held = λ key slot. (
           let one = own.own key slot in
-          let all = one_within (λ (w : Standing). own_slots w.state.frames key slot) world.workers place worker there in
+          let all = one_within (λ (w : WorkerView). own_slots w.state.frames key slot) world.workers place worker there in
           let held = is.fair.held key slot in
           omega (arith, one, all, held));
     } in
@@ -158,7 +158,7 @@ stepped laws world place worker later stops answer after is there steps =
       all = record { kept = c.kept; held = c.held; size = c.size; units = c.units; rooms = c.rooms };
     }
 
-keeps_others : (world : World) (worker later : Standing) (x : Exchange) (after : Lone) → IsStepped world worker later x after
+keeps_others : (world : World) (worker later : WorkerView) (x : Exchange) (after : LonePortView) → IsStepped world worker later x after
     → KeepsOthers worker later (book_of (opened world.port false)) (book_of after)
 keeps_others world worker later x after s = record {
   held = λ key slot. (let own = s.own.slots key slot in let all = s.all.held key slot in omega (arith, own, all));
@@ -167,7 +167,7 @@ keeps_others world worker later x after s = record {
   rooms = (let own = s.own.claims in let all = s.all.rooms in omega (arith, own, all));
 }
 
-step_keeps : Laws → (world after : World) (number place : ℕ) (worker : Standing) (x : Exchange) → IsKeptWorld world → IsAtWork world number place worker
+step_keeps : Laws → (world after : World) (number place : ℕ) (worker : WorkerView) (x : Exchange) → IsKeptWorld world → IsAtWork world number place worker
     → StepsAt world place worker x after → IsKeptWorld after
 step_keeps laws world after number place worker x is at h =
     let stops = slice_index_or world.raised place false in
@@ -213,7 +213,7 @@ plays_keep laws world (e ∷ es) log after is h = plays_keep laws h.2 es h.1 aft
 -- Where the table's rows stay, what is entered is held still.
 still : (world after : World) (key : Key) (slot : ℕ) → IsKeptWorld world → after.port ≡ world.port → 0 < all_slots world.workers key slot
     → HoldsAt (row_of after.port.rows key) slot key
-still world after key slot is e some = subst (λ (p : Lone). HoldsAt (row_of p.rows key) slot key) (sym e) (holds world is.fair key slot some)
+still world after key slot is e some = subst (λ (p : LonePortView). HoldsAt (row_of p.rows key) slot key) (sym e) (holds world is.fair key slot some)
 
 event_holds : (world : World) (event : Event) (log : List (ℕ × Exchange)) (after : World) → IsKeptWorld world → Happens world event log after
     → (key : Key) (slot : ℕ) → 0 < all_slots world.workers key slot → HoldsAt (row_of after.port.rows key) slot key
@@ -238,5 +238,5 @@ pub kept_world : (world : World) → IsFair world → IsKeptPort world.port → 
 kept_world world fair port = record { fair = fair; port = port }
 
 -- No row of a table has more than eight entries.
-pub rows_few : (port : Lone) → All IsRow port.rows → All (λ row. length row ≤ 8) port.rows
+pub rows_few : (port : LonePortView) → All IsRow port.rows → All (λ row. length row ≤ 8) port.rows
 rows_few port rows = All-weaker IsRow (λ row. length row ≤ 8) (λ row is. is.few) port.rows rows

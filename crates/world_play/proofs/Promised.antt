@@ -10,16 +10,16 @@ use Rattle.std.proofs.lemmas.Bool.{cases_lt}
 use Rattle.std.proofs.lemmas.Option.{slice_get_within, slice_get_read}
 use Rattle.board_core.specs.declared.keys.Key.{Key}
 use Rattle.path_tags.specs.Tag.{key_cmp}
-use Rattle.table_shard.specs.Entry.{Held}
+use Rattle.table_shard.specs.Entry.{EntryView}
 use Rattle.table_shard.specs.Shard.{row_of}
 use Rattle.visit_log.specs.declared.parts.Stage.{Stage}
 use Rattle.visit_log.specs.declared.parts.Stage.TheVariants.{Polling, Drawing, Entering, Looking, Claiming, Leaving, Posting, Winding}
 use Rattle.visit_log.specs.declared.words.WorkEnd.{WorkEnd}
 use Rattle.visit_log.specs.declared.words.WorkEnd.TheVariants.{Posted, Spent, NoRoom, TooHigh, NoMemory, Stopped}
-use Rattle.visit_log.specs.Visit.{Event as Exchange, IsVisitLog}
-use Rattle.visit_log.specs.Frame.{Visiting}
+use Rattle.visit_log.specs.Visit.{Exchange, IsVisitLog}
+use Rattle.visit_log.specs.Frame.{FrameView}
 use Rattle.visit_log.specs.Machine.{end_of, end_at}
-use Rattle.visit_log.specs.Run.{Standing}
+use Rattle.visit_log.specs.Run.{WorkerView}
 use Rattle.visit_log.specs.Counts.{own_slots, own_size}
 use Rattle.visit_log.specs.Laws.{WorkersAreSound, WorkersAreCounted, LogsAreWhole, EndsHaveCauses}
 use Rattle.lone_port.specs.Lone.{held_at, pins_of}
@@ -38,7 +38,7 @@ equal_of Less h = cc
 equal_of Equal h = refl
 equal_of Greater h = cc
 
-pub held_there : (o : Option Held) (key : Key) (count : ℕ) → 0 < held_at o key count → IsSomeAnd o (λ e. e.key ≡ key) × (0 < count)
+pub held_there : (o : Option EntryView) (key : Key) (count : ℕ) → 0 < held_at o key count → IsSomeAnd o (λ e. e.key ≡ key) × (0 < count)
 held_there None key count some = absurd (omega (arith, some))
 held_there (Some e) key count some = by_test (is_eq (key_cmp e.key key)) refl some
   where
@@ -66,11 +66,11 @@ told_of whole causes world fair place worker end there ended =
 
 -- 3. WHEN ALL HAVE ENDED.
 
-first_there : (ws : List Standing) → 0 < length ws → (w : Standing) × (slice_get ws 0 ≡ Some w)
+first_there : (ws : List WorkerView) → 0 < length ws → (w : WorkerView) × (slice_get ws 0 ≡ Some w)
 first_there [] some = absurd (omega (arith, some))
 first_there (w ∷ ws) some = (w, refl)
 
-over_by : (world : World) (worker : Standing) (end : WorkEnd) → slice_get world.workers 0 ≡ Some worker → end_of worker.state ≡ Some end
+over_by : (world : World) (worker : WorkerView) (end : WorkEnd) → slice_get world.workers 0 ≡ Some worker → end_of worker.state ≡ Some end
     → IsToldOf world.port.desk end → IsOver world
 over_by world worker Posted there ended told = inl told
 over_by world worker Spent there ended told = inr (inl told)
@@ -85,7 +85,7 @@ over whole causes world fair all =
     let e = all 0 w.0 w.1 in
     over_by world w.0 e.end w.1 e.ended (told_of whole causes world fair 0 w.0 e.end w.1 e.ended)
 
-ended_empty : (stage : Stage) (fs : List Visiting) (end : WorkEnd) → end_at stage fs ≡ Some end → fs ≡ []
+ended_empty : (stage : Stage) (fs : List FrameView) (end : WorkEnd) → end_at stage fs ≡ Some end → fs ≡ []
 ended_empty stage [] end e = refl
 ended_empty (Polling x) (f ∷ fs) end e = absurd (cc)
 ended_empty (Drawing x) (f ∷ fs) end e = absurd (cc)
@@ -97,10 +97,10 @@ ended_empty (Posting x) (f ∷ fs) end e = absurd (cc)
 ended_empty (Winding x) (f ∷ fs) end e = absurd (cc)
 
 -- What a worker that has ended doesn't have, none has.
-all_ended : (f : List Visiting → ℕ) → f [] ≡ 0 → (ws : List Standing) → AllHaveEnded ws → sum_by (λ (w : Standing). f w.state.frames) ws ≡ 0
+all_ended : (f : List FrameView → ℕ) → f [] ≡ 0 → (ws : List WorkerView) → AllHaveEnded ws → sum_by (λ (w : WorkerView). f w.state.frames) ws ≡ 0
 all_ended f none [] all = refl
 all_ended f none (w ∷ ws) all =
-    let s = sum_by-cons (λ (v : Standing). f v.state.frames) w ws in
+    let s = sum_by-cons (λ (v : WorkerView). f v.state.frames) w ws in
     let e = all 0 w refl in
     let z : f w.state.frames ≡ 0 = ap f (ended_empty w.state.stage w.state.frames e.end e.ended) ∙ none in
     let r = all_ended f none ws (λ place v g. all (suc place) v g) in
@@ -108,14 +108,14 @@ all_ended f none (w ∷ ws) all =
 
 pub left : (world : World) → IsFair world → AllHaveEnded world.workers → IsLeft world
 left world fair all = record {
-  slots = λ key slot. fair.held key slot ∙ all_ended (λ (fs : List Visiting). own_slots fs key slot) refl world.workers all;
+  slots = λ key slot. fair.held key slot ∙ all_ended (λ (fs : List FrameView). own_slots fs key slot) refl world.workers all;
   size = fair.size ∙ all_ended own_size refl world.workers all;
 }
 
 -- 4. WHETHER ALL HAVE ENDED.
 
 -- One that goes on.
-pub not_all_ended : (ws : List Standing) (i : ℕ) (w : Standing) (result : Option WorkEnd) → i < length ws → w ≡ get_or ws i w → result ≡ end_of w.state → result ≡ None
+pub not_all_ended : (ws : List WorkerView) (i : ℕ) (w : WorkerView) (result : Option WorkEnd) → i < length ws → w ≡ get_or ws i w → result ≡ end_of w.state → result ≡ None
     → AllHaveEnded ws → ⊥
 not_all_ended ws i w result low is ends none all =
     let e = all i w (slice_get_read ws (length ws) i w refl low is) in
@@ -123,20 +123,20 @@ not_all_ended ws i w result low is ends none all =
     absurd (cc)
 
 -- One more that has ended.
-pub one_more_ended : (ws : List Standing) (i : ℕ) (w : Standing) (end : WorkEnd) (result : Option WorkEnd) → i < length ws → w ≡ get_or ws i w → result ≡ end_of w.state → result ≡ Some end
-    → ((place : ℕ) → place < i → (v : Standing) → slice_get ws place ≡ Some v → HasEnded v)
-    → (place : ℕ) → place < i + 1 → (v : Standing) → slice_get ws place ≡ Some v → HasEnded v
+pub one_more_ended : (ws : List WorkerView) (i : ℕ) (w : WorkerView) (end : WorkEnd) (result : Option WorkEnd) → i < length ws → w ≡ get_or ws i w → result ≡ end_of w.state → result ≡ Some end
+    → ((place : ℕ) → place < i → (v : WorkerView) → slice_get ws place ≡ Some v → HasEnded v)
+    → (place : ℕ) → place < i + 1 → (v : WorkerView) → slice_get ws place ≡ Some v → HasEnded v
 one_more_ended ws i w end result low is ends some before place within v there =
     elim (cases_lt place i) as (λ _. HasEnded v) [
       | inl less ↦ before place less v there
       | inr more ↦ (
           let same : place ≡ i = omega (arith, within, more) in
           let z : v ≡ w = some_is v w (sym there ∙ (ap (λ (n : ℕ). slice_get ws n) same ∙ slice_get_read ws (length ws) i w refl low is)) in
-          record { end = end; ended = ap (λ (u : Standing). end_of u.state) z ∙ (sym ends ∙ some) })
+          record { end = end; ended = ap (λ (u : WorkerView). end_of u.state) z ∙ (sym ends ∙ some) })
     ]
 
 -- All have.
-pub all_have_ended : (ws : List Standing) (i : ℕ) → length ws ≤ i → ((place : ℕ) → place < i → (v : Standing) → slice_get ws place ≡ Some v → HasEnded v) → AllHaveEnded ws
+pub all_have_ended : (ws : List WorkerView) (i : ℕ) → length ws ≤ i → ((place : ℕ) → place < i → (v : WorkerView) → slice_get ws place ≡ Some v → HasEnded v) → AllHaveEnded ws
 all_have_ended ws i long before place v there =
     let low = slice_get_within ws place v there in
     before place (omega (arith, low, long)) v there

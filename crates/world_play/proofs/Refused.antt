@@ -10,15 +10,15 @@ use Rattle.visit_log.specs.declared.parts.Stage.{Stage}
 use Rattle.visit_log.specs.declared.parts.Stage.TheVariants.{Looking, Winding}
 use Rattle.visit_log.specs.declared.words.Request.{Request}
 use Rattle.visit_log.specs.declared.words.Request.TheVariants.{Look}
-use Rattle.visit_log.specs.declared.words.Answer.{Answer}
-use Rattle.visit_log.specs.declared.words.Answer.TheVariants.{Look as Looked}
-use Rattle.visit_log.specs.Visit.{Event as Exchange}
-use Rattle.visit_log.specs.Frame.{Task, Visiting}
+use Rattle.visit_log.specs.declared.words.Reply.{Reply}
+use Rattle.visit_log.specs.declared.words.Reply.TheVariants.{Look as Looked}
+use Rattle.visit_log.specs.Visit.{Exchange}
+use Rattle.visit_log.specs.Frame.{Task, FrameView}
 use Rattle.visit_log.specs.Round.{looked}
 use Rattle.visit_log.specs.Machine.{State, starve_at, Settles, Sees, LeadsAt, path_of}
-use Rattle.visit_log.specs.Run.{Standing, IsLooking}
+use Rattle.visit_log.specs.Run.{WorkerView, IsLooking}
 use Rattle.worker_core.specs.Machine.{looks_at, winds_at}
-use Rattle.lone_port.specs.Lone.{Lone, Turns, opened}
+use Rattle.lone_port.specs.Lone.{LonePortView, Turns, opened}
 use Rattle.lone_port.specs.World.{World, Steps}
 use Rattle.world_play.specs.Logs.{is_refused, refused_looks}
 use Rattle.world_play.proofs.Suited.{some_is}
@@ -27,15 +27,15 @@ use Rattle.world_play.proofs.Happened.{IsRequest, at_work_by}
 -- 1. WHERE A WORKER STANDS BEHIND A LOOK.
 
 -- What a visit does next is never to wind up.
-settles_on : (task : Task) (f : Visiting) (stage : Stage) (g : Visiting) → Settles task f stage g → winds_at stage ≡ false
+settles_on : (task : Task) (f : FrameView) (stage : Stage) (g : FrameView) → Settles task f stage g → winds_at stage ≡ false
 settles_on task f (Winding end) g h = absurd h
 settles_on task f stage g h = refl
 
-sees_on : (task : Task) (s t : State) (place : ℕ) (fs : List Visiting) (seen : Seen) → Sees task s place fs seen t → winds_at t.stage ≡ false
+sees_on : (task : Task) (s t : State) (place : ℕ) (fs : List FrameView) (seen : Seen) → Sees task s place fs seen t → winds_at t.stage ≡ false
 sees_on task s t place [] seen h = absurd h
 sees_on task s t place (f ∷ fs) seen h = settles_on task (looked f h.0) t.stage h.5.next h.5.settles
 
-answered_on : (task : Task) (s t : State) (stage : Stage) (answer : Answer) → LeadsAt task s stage answer t → looks_at stage && winds_at t.stage ≡ false
+answered_on : (task : Task) (s t : State) (stage : Stage) (answer : Reply) → LeadsAt task s stage answer t → looks_at stage && winds_at t.stage ≡ false
 answered_on task s t (Looking place) (Looked seen) h = sees_on task s t place s.frames seen h
 answered_on task s t (Looking place) answer h = absurd h
 answered_on task s t stage answer h = refl
@@ -46,16 +46,16 @@ dark_winds s stage h = absurd h
 
 -- 2. WHICH LOOK WAS REFUSED.
 
-dark_refused : (before : Lone) (path : List Key) (q : Request) (after : Lone) → Turns before path q None after → is_refused (q, None) ≡ true
+dark_refused : (before : LonePortView) (path : List Key) (q : Request) (after : LonePortView) → Turns before path q None after → is_refused (q, None) ≡ true
 dark_refused before path (Look key) after h = refl
 dark_refused before path q after h = absurd h
 
-answered_not : (q : Request) (a : Answer) → is_refused (q, Some a) ≡ false
+answered_not : (q : Request) (a : Reply) → is_refused (q, Some a) ≡ false
 answered_not (Look key) a = refl
 answered_not q a = refl
 
 -- A look was refused memory exactly where the worker looked before the step and winds up behind it.
-pub refused_is : (stops : Bool) (port : Lone) (worker : Standing) (x : Exchange) (after : Lone) (later : Standing) → Steps stops port worker x after later
+pub refused_is : (stops : Bool) (port : LonePortView) (worker : WorkerView) (x : Exchange) (after : LonePortView) (later : WorkerView) → Steps stops port worker x after later
     → is_refused x ≡ looks_at worker.state.stage && winds_at later.state.stage
 refused_is stops port worker (q, None) after later steps =
     let goes = steps.goes in
@@ -80,11 +80,11 @@ refused_one number x b is =
     omega (arith, one, count)
 
 -- What is read at a place that was set is what was put there.
-read_set : (ws : List Standing) (place : ℕ) (worker later read : Standing) → slice_get ws place ≡ Some worker → read ≡ get_or (set ws place later) place read → read ≡ later
+read_set : (ws : List WorkerView) (place : ℕ) (worker later read : WorkerView) → slice_get ws place ≡ Some worker → read ≡ get_or (set ws place later) place read → read ≡ later
 read_set ws place worker later read there is = is ∙ get_or-set_same ws place later read (slice_get_within ws place worker there)
 
 -- What the code counts in a step: from the worker that it read before it, and from the one that it read behind it.
-pub step_refused : (world after : World) (number place : ℕ) (worker later : Standing) (x : Exchange) (first last : Standing) (looks winds : Bool) (refused : ℕ)
+pub step_refused : (world after : World) (number place : ℕ) (worker later : WorkerView) (x : Exchange) (first last : WorkerView) (looks winds : Bool) (refused : ℕ)
     → IsRequest world after number place worker later x → first ≡ get_or world.workers place first → last ≡ get_or (set world.workers place later) place last
     → looks ≡ looks_at first.state.stage → winds ≡ winds_at last.state.stage → refused ≡ (if looks && winds then 1 else 0)
     → refused_looks ((number, x) ∷ []) ≡ refused
@@ -92,8 +92,8 @@ step_refused world after number place worker later x first last looks winds refu
     let a1 = at_work_by world number place worker first r.at_work one in
     let same : worker ≡ first = some_is worker first (sym r.at_work.there ∙ a1.there) in
     let behind : last ≡ later = read_set world.workers place worker later last r.at_work.there two in
-    let l : looks_at worker.state.stage ≡ looks = ap (λ (w : Standing). looks_at w.state.stage) same ∙ sym looked_is in
-    let w : winds_at later.state.stage ≡ winds = ap (λ (v : Standing). winds_at v.state.stage) (sym behind) ∙ sym winds_is in
+    let l : looks_at worker.state.stage ≡ looks = ap (λ (w : WorkerView). looks_at w.state.stage) same ∙ sym looked_is in
+    let w : winds_at later.state.stage ≡ winds = ap (λ (v : WorkerView). winds_at v.state.stage) (sym behind) ∙ sym winds_is in
     let is : is_refused x ≡ looks && winds =
     refused_is (slice_index_or world.raised place false) (opened world.port false) worker x after.port later r.steps ∙ ap₂ (λ (a b : Bool). a && b) l w in
     refused_one number x (looks && winds) is ∙ sym counts

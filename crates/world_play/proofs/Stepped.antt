@@ -5,16 +5,16 @@ use Rattle.std.proofs.lemmas.Bool.{cases_eq}
 use Rattle.std.proofs.lemmas.List.Sums.{sum_by-set}
 use Rattle.std.proofs.lemmas.Option.{slice_get_within, get_or_from_slice_get}
 use Rattle.unit_desk.specs.Desk.{DeskView}
-use Rattle.visit_log.specs.Visit.{Event as Exchange}
+use Rattle.visit_log.specs.Visit.{Exchange}
 use Rattle.visit_log.specs.Frame.{Task, task_for}
 use Rattle.visit_log.specs.Machine.{path_of}
-use Rattle.visit_log.specs.Run.{Standing, Leads}
+use Rattle.visit_log.specs.Run.{WorkerView, Leads}
 use Rattle.visit_log.specs.Sound.{IsTask}
 use Rattle.visit_log.specs.declared.words.WorkEnd.{WorkEnd}
 use Rattle.visit_log.specs.Counts.{own_slots, own_size}
 use Rattle.visit_log.specs.Laws.{HasCause}
 use Rattle.worker_core.specs.Port.{KeepsOthers}
-use Rattle.lone_port.specs.Lone.{Lone, book_of, opened}
+use Rattle.lone_port.specs.Lone.{LonePortView, book_of, opened}
 use Rattle.lone_port.specs.World.{World, Steps}
 use Rattle.world_play.specs.Fair.{IsFair, IsMember, IsToldOf}
 use Rattle.world_play.proofs.Desks.{KeepsDesk, keeps, told_still, told_on}
@@ -46,7 +46,7 @@ each_set {X} P xs i x old there here others j y e =
     ]
 
 -- How a sum goes on.
-pub sum_set : (f : Standing → ℕ) (ws : List Standing) (i : ℕ) (w v : Standing) → slice_get ws i ≡ Some w → sum_by f (set ws i v) + f w ≡ sum_by f ws + f v
+pub sum_set : (f : WorkerView → ℕ) (ws : List WorkerView) (i : ℕ) (w v : WorkerView) → slice_get ws i ≡ Some w → sum_by f (set ws i v) + f w ≡ sum_by f ws + f v
 sum_set f ws i w v e =
     let q = sum_by-set f ws i v w (slice_get_within ws i w e) in
     let g : f (get_or ws i w) ≡ f w = ap f (get_or_from_slice_get ws i w w e) in
@@ -55,7 +55,7 @@ sum_set f ws i w v e =
 -- 2. A WORLD WHOSE WORKER GOES ON.
 
 -- A member by another log.
-pub member_still : (before after : DeskView) (place : ℕ) (w : Standing) → KeepsDesk before after → IsMember before place w → IsMember after place w
+pub member_still : (before after : DeskView) (place : ℕ) (w : WorkerView) → KeepsDesk before after → IsMember before place w → IsMember after place w
 member_still before after place w k m = record {
   task = m.task ∙ ap (λ b. task_for b (place + 1)) (sym k.position);
   problem = m.problem;
@@ -66,7 +66,7 @@ member_still before after place w k m = record {
 }
 
 -- What a worker has is no other at the place.
-pub fair_on : (world after : World) (place : ℕ) (worker later : Standing) → IsFair world → slice_get world.workers place ≡ Some worker
+pub fair_on : (world after : World) (place : ℕ) (worker later : WorkerView) → IsFair world → slice_get world.workers place ≡ Some worker
     → after.workers ≡ set world.workers place later → length after.raised ≡ length world.raised
     → KeepsOthers worker later (book_of (opened world.port false)) (book_of after.port) → KeepsDesk world.port.desk after.port.desk
     → IsMember after.port.desk place later → IsFair after
@@ -77,39 +77,39 @@ fair_on world after place worker later fair there is raised keep desk member =
       some = (let s = fair.some in omega (arith, s, size));
       raised = raised ∙ (fair.raised ∙ sym size);
       held = λ key slot. (
-          let q = sum_set (λ (w : Standing). own_slots w.state.frames key slot) world.workers place worker later there in
+          let q = sum_set (λ (w : WorkerView). own_slots w.state.frames key slot) world.workers place worker later there in
           let m = keep.held key slot in
           let b = fair.held key slot in
-          let a = ap (λ (ws : List Standing). sum_by (λ (w : Standing). own_slots w.state.frames key slot) ws) is in
+          let a = ap (λ (ws : List WorkerView). sum_by (λ (w : WorkerView). own_slots w.state.frames key slot) ws) is in
           omega (arith, q, m, b, a));
       size = (
-          let q = sum_set (λ (w : Standing). own_size w.state.frames) world.workers place worker later there in
+          let q = sum_set (λ (w : WorkerView). own_size w.state.frames) world.workers place worker later there in
           let m = keep.size in
           let b = fair.size in
-          let a = ap (λ (ws : List Standing). sum_by (λ (w : Standing). own_size w.state.frames) ws) is in
+          let a = ap (λ (ws : List WorkerView). sum_by (λ (w : WorkerView). own_size w.state.frames) ws) is in
           omega (arith, q, m, b, a));
       drawn = (
-          let q = sum_set (λ (w : Standing). w.state.visits) world.workers place worker later there in
+          let q = sum_set (λ (w : WorkerView). w.state.visits) world.workers place worker later there in
           let m = keep.units in
           let b = fair.drawn in
-          let a = ap (λ (ws : List Standing). sum_by (λ (w : Standing). w.state.visits) ws) is in
+          let a = ap (λ (ws : List WorkerView). sum_by (λ (w : WorkerView). w.state.visits) ws) is in
           omega (arith, q, m, b, a));
       claimed = (
-          let q = sum_set (λ (w : Standing). w.state.claims) world.workers place worker later there in
+          let q = sum_set (λ (w : WorkerView). w.state.claims) world.workers place worker later there in
           let m = keep.rooms in
           let b = fair.claimed in
-          let a = ap (λ (ws : List Standing). sum_by (λ (w : Standing). w.state.claims) ws) is in
+          let a = ap (λ (ws : List WorkerView). sum_by (λ (w : WorkerView). w.state.claims) ws) is in
           omega (arith, q, m, b, a));
       members = λ j w e.
-          each_set (λ (n : ℕ) (v : Standing). IsMember after.port.desk n v) world.workers place later worker there member
+          each_set (λ (n : ℕ) (v : WorkerView). IsMember after.port.desk n v) world.workers place later worker there member
           (λ n v ne g. member_still world.port.desk after.port.desk n v desk (fair.members n v g)) j w
-          (ap (λ (ws : List Standing). slice_get ws j) (sym is) ∙ e);
+          (ap (λ (ws : List WorkerView). slice_get ws j) (sym is) ∙ e);
     }
 
 -- 3. WHAT A STEP COMES TO.
 
 -- The member once its request was answered.
-pub member_on : (port next : Lone) (stops : Bool) (place : ℕ) (worker later : Standing) (x : Exchange) → IsMember port.desk place worker
+pub member_on : (port next : LonePortView) (stops : Bool) (place : ℕ) (worker later : WorkerView) (x : Exchange) → IsMember port.desk place worker
     → Steps stops port worker x next later → ((log : List Exchange) → Leads worker.task log worker.state → Leads worker.task (log ++ x ∷ []) later.state)
     → IsMember next.desk place later
 member_on port next stops place worker later x m steps leads =

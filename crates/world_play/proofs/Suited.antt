@@ -7,8 +7,8 @@ use Rattle.notes.specs.declared.words.Kept.TheVariants.{Slot, Unkept}
 use Rattle.unit_desk.specs.Desk.{IsDesk}
 use Rattle.visit_log.specs.declared.parts.Stage.{Stage}
 use Rattle.visit_log.specs.declared.parts.Stage.TheVariants.{Polling, Drawing, Entering, Looking, Claiming, Leaving, Posting, Winding}
-use Rattle.visit_log.specs.Frame.{Task, Visiting}
-use Rattle.visit_log.specs.Run.{Standing}
+use Rattle.visit_log.specs.Frame.{Task, FrameView}
+use Rattle.visit_log.specs.Run.{WorkerView}
 use Rattle.visit_log.specs.Sound.{IsSoundAt}
 use Rattle.visit_log.specs.Counts.{own_slots, own_size, slots_in}
 use Rattle.visit_log.specs.Laws.{WorkersAreSound, WorkersAreCounted}
@@ -27,7 +27,7 @@ some_is {X} x y e = ap (λ (o : Option X). or_x o) e
     or_x (Some z) = z
 
 -- What one has is no more than what all have.
-pub one_within : (f : Standing → ℕ) (ws : List Standing) (i : ℕ) (w : Standing) → slice_get ws i ≡ Some w → f w ≤ sum_by f ws
+pub one_within : (f : WorkerView → ℕ) (ws : List WorkerView) (i : ℕ) (w : WorkerView) → slice_get ws i ≡ Some w → f w ≤ sum_by f ws
 one_within f [] i w e = absurd (cc)
 one_within f (x ∷ xs) zero w e =
     let s = sum_by-cons f x xs in
@@ -39,7 +39,7 @@ one_within f (x ∷ xs) (suc i) w e =
     omega (arith, s, r)
 
 -- Where each has no more of the one than of the other, so have all.
-pub all_within : (f g : Standing → ℕ) (ws : List Standing) → ((i : ℕ) (w : Standing) → slice_get ws i ≡ Some w → f w ≤ g w) → sum_by f ws ≤ sum_by g ws
+pub all_within : (f g : WorkerView → ℕ) (ws : List WorkerView) → ((i : ℕ) (w : WorkerView) → slice_get ws i ≡ Some w → f w ≤ g w) → sum_by f ws ≤ sum_by g ws
 all_within f g [] low = omega arith
 all_within f g (x ∷ xs) low =
     let one = sum_by-cons f x xs in
@@ -49,7 +49,7 @@ all_within f g (x ∷ xs) low =
     omega (arith, one, two, here, r)
 
 -- And one of them may have some more.
-pub all_with_one : (f g : Standing → ℕ) (ws : List Standing) (more : ℕ) (i : ℕ) (w : Standing) → ((j : ℕ) (v : Standing) → slice_get ws j ≡ Some v → f v ≤ g v)
+pub all_with_one : (f g : WorkerView → ℕ) (ws : List WorkerView) (more : ℕ) (i : ℕ) (w : WorkerView) → ((j : ℕ) (v : WorkerView) → slice_get ws j ≡ Some v → f v ≤ g v)
     → slice_get ws i ≡ Some w → f w + more ≤ g w → sum_by f ws + more ≤ sum_by g ws
 all_with_one f g [] more i w low e h = absurd (cc)
 all_with_one f g (x ∷ xs) more zero w low e h =
@@ -73,7 +73,7 @@ kept_few None = omega arith
 kept_few (Some Unkept) = omega arith
 kept_few (Some (Slot n)) = omega arith
 
-size_few : (fs : List Visiting) → own_size fs ≤ length fs
+size_few : (fs : List FrameView) → own_size fs ≤ length fs
 size_few [] = omega arith
 size_few (f ∷ fs) =
     let one = kept_few f.kept in
@@ -81,13 +81,13 @@ size_few (f ∷ fs) =
     omega (arith, one, r)
 
 -- It has no more slots than units, with the one that it is about to enter.
-pub enters_within : (task : Task) (stage : Stage) (fs : List Visiting) (visits : ℕ) → IsSoundAt task stage fs → own_size fs ≤ length fs → length fs ≤ visits
+pub enters_within : (task : Task) (stage : Stage) (fs : List FrameView) (visits : ℕ) → IsSoundAt task stage fs → own_size fs ≤ length fs → length fs ≤ visits
     → own_size fs + entering stage ≤ visits
 enters_within task (Polling e) fs v s a b = omega (arith, a, b)
 enters_within task (Drawing e) fs v s a b = omega (arith, a, b)
 enters_within task Entering [] v s a b = absurd s
 enters_within task Entering (f ∷ fs) v s a b =
-    let none : slots_in f.kept ≡ 0 = ap (λ (g : Visiting). slots_in g.kept) s.1 in
+    let none : slots_in f.kept ≡ 0 = ap (λ (g : FrameView). slots_in g.kept) s.1 in
     let r = size_few fs in
     omega (arith, none, r, b)
 enters_within task (Looking p) fs v s a b = omega (arith, a, b)
@@ -99,7 +99,7 @@ enters_within task (Winding e) fs v s a b = omega (arith, a, b)
 -- 3. ALL OF THEM.
 
 -- No worker of a fair world has more slots than units.
-sizes_low : WorkersAreCounted → (world : World) → IsFair world → (i : ℕ) (w : Standing) → slice_get world.workers i ≡ Some w → own_size w.state.frames ≤ w.state.visits
+sizes_low : WorkersAreCounted → (world : World) → IsFair world → (i : ℕ) (w : WorkerView) → slice_get world.workers i ≡ Some w → own_size w.state.frames ≤ w.state.visits
 sizes_low counted world fair i w e =
     let m = fair.members i w e in
     let c = counted w.task m.leads.happenings w.state m.leads.runs in
@@ -108,7 +108,7 @@ sizes_low counted world fair i w e =
     omega (arith, slots, frames)
 
 -- Table and desk suit each worker once they are opened.
-pub suited : WorkersAreSound → WorkersAreCounted → (world : World) (place : ℕ) (worker : Standing) → IsFair world → IsDesk world.port.desk
+pub suited : WorkersAreSound → WorkersAreCounted → (world : World) (place : ℕ) (worker : WorkerView) → IsFair world → IsDesk world.port.desk
     → slice_get world.workers place ≡ Some worker → Suits worker (book_of (opened world.port false))
 suited sound counted world place worker fair desk e =
     let m = fair.members place worker e in
@@ -119,21 +119,21 @@ suited sound counted world place worker fair desk e =
       going = inl refl;
       held = λ key slot. (
           let all = fair.held key slot in
-          let one = one_within (λ (w : Standing). own_slots w.state.frames key slot) world.workers place worker e in
+          let one = one_within (λ (w : WorkerView). own_slots w.state.frames key slot) world.workers place worker e in
           omega (arith, all, one));
       some = (
           let all = fair.size in
-          let one = one_within (λ (w : Standing). own_size w.state.frames) world.workers place worker e in
+          let one = one_within (λ (w : WorkerView). own_size w.state.frames) world.workers place worker e in
           omega (arith, all, one));
       units = (
           let all = fair.drawn in
-          let one = one_within (λ (w : Standing). w.state.visits) world.workers place worker e in
+          let one = one_within (λ (w : WorkerView). w.state.visits) world.workers place worker e in
           omega (arith, all, one));
       size = (
           let all = fair.size in
           let drawn = fair.drawn in
           let own = enters_within worker.task worker.state.stage worker.state.frames worker.state.visits s c.slots c.frames in
-          let one = all_with_one (λ (w : Standing). own_size w.state.frames) (λ (w : Standing). w.state.visits) world.workers (entering worker.state.stage) place worker
+          let one = all_with_one (λ (w : WorkerView). own_size w.state.frames) (λ (w : WorkerView). w.state.visits) world.workers (entering worker.state.stage) place worker
           (sizes_low counted world fair) e own in
           omega (arith, all, drawn, one));
       most = (

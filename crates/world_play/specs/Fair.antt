@@ -8,9 +8,9 @@ use Rattle.notes.specs.declared.words.Kept.TheVariants.{Slot}
 use Rattle.unit_desk.specs.Desk.{DeskView, HasPosted}
 use Rattle.visit_log.specs.declared.words.WorkEnd.{WorkEnd}
 use Rattle.visit_log.specs.declared.words.WorkEnd.TheVariants.{Posted, Spent, NoRoom, TooHigh, NoMemory, Stopped}
-use Rattle.visit_log.specs.Visit.{Event as Exchange}
-use Rattle.visit_log.specs.Frame.{Visiting, task_for}
-use Rattle.visit_log.specs.Run.{Standing, Leads}
+use Rattle.visit_log.specs.Visit.{Exchange}
+use Rattle.visit_log.specs.Frame.{FrameView, task_for}
+use Rattle.visit_log.specs.Run.{WorkerView, Leads}
 use Rattle.visit_log.specs.Sound.{IsTask}
 use Rattle.visit_log.specs.Counts.{own_slots, own_size}
 use Rattle.visit_log.specs.Laws.{HasCause}
@@ -20,11 +20,11 @@ use Rattle.lone_port.specs.World.{World}
 -- 1. WHAT THE WORKERS HAVE, ALL TOGETHER.
 
 -- How many visits of theirs have entered this slot of the key.
-abbrev pub all_slots : List Standing → Key → ℕ → ℕ
+abbrev pub all_slots : List WorkerView → Key → ℕ → ℕ
 all_slots workers key slot = sum_by (λ worker. own_slots worker.state.frames key slot) workers
 
 -- How many visits of theirs have entered some slot.
-abbrev pub all_sizes : List Standing → ℕ
+abbrev pub all_sizes : List WorkerView → ℕ
 all_sizes workers = sum_by (λ worker. own_size worker.state.frames) workers
 
 -- 1 where a visit of the first key has entered a slot and the second key is the same, else 0.
@@ -33,20 +33,20 @@ key_once (Some (Slot slot)) of key = if is_eq (key_cmp of key) then 1 else 0
 key_once kept of key = 0
 
 -- How many of these visits have entered a slot for the key.
-abbrev pub own_below : List Visiting → Key → ℕ
+abbrev pub own_below : List FrameView → Key → ℕ
 own_below [] key = 0
 own_below (f ∷ fs) key = key_once f.kept f.place.key key + own_below fs key
 
 -- How many visits of theirs have entered a slot for the key.
-abbrev pub all_below : List Standing → Key → ℕ
+abbrev pub all_below : List WorkerView → Key → ℕ
 all_below workers key = sum_by (λ worker. own_below worker.state.frames key) workers
 
 -- How many units they were given.
-abbrev pub all_visits : List Standing → ℕ
+abbrev pub all_visits : List WorkerView → ℕ
 all_visits workers = sum_by (λ worker. worker.state.visits) workers
 
 -- For how many notes they were given room.
-abbrev pub all_claims : List Standing → ℕ
+abbrev pub all_claims : List WorkerView → ℕ
 all_claims workers = sum_by (λ worker. worker.state.claims) workers
 
 -- 2. WHAT A WORLD KEEPS.
@@ -62,7 +62,7 @@ IsToldOf desk Stopped = Unit {0}
 
 -- The worker at the place searches the desk's problem under the number of its place, no request of its waits, it stands by some log, and what that
 -- log was told of the desk still holds.
-pub record IsMember (desk : DeskView) (place : ℕ) (worker : Standing) : Type 0 where
+pub record IsMember (desk : DeskView) (place : ℕ) (worker : WorkerView) : Type 0 where
   pub task : worker.task ≡ task_for desk.position (place + 1)
   pub problem : IsTask worker.task
   pub idle : worker.waiting ≡ false
@@ -79,11 +79,11 @@ pub record IsFair (world : World) : Type 0 where
   pub size : sum_by sum world.port.pins ≡ all_sizes world.workers
   pub drawn : world.port.desk.drawn ≡ all_visits world.workers
   pub claimed : world.port.desk.claimed ≡ all_claims world.workers
-  pub members : (place : ℕ) (worker : Standing) → slice_get world.workers place ≡ Some worker → IsMember world.port.desk place worker
+  pub members : (place : ℕ) (worker : WorkerView) → slice_get world.workers place ≡ Some worker → IsMember world.port.desk place worker
 
 -- 3. ITS WORKERS.
 
 -- The worker of a number, from 1; none where there isn't one.
-abbrev pub numbered : List Standing → ℕ → Option Standing
+abbrev pub numbered : List WorkerView → ℕ → Option WorkerView
 numbered workers zero = None
 numbered workers (suc place) = slice_get workers place

@@ -1,8 +1,8 @@
 -- How the logs of a world's workers go on.
 use Rattle.std.specs.Prelude.{◌≡◌, ◌+◌, ◌++◌, ◌==◌, ℕ, Bool, true, false, List, [], ◌∷◌, Some, None, count_by, length, slice_get, if◌then◌else◌}
 use Rattle.visit_log.specs.declared.words.Request.TheVariants.{Look}
-use Rattle.visit_log.specs.Visit.{Event as Exchange}
-use Rattle.visit_log.specs.Run.{Standing, IsReached}
+use Rattle.visit_log.specs.Visit.{Exchange}
+use Rattle.visit_log.specs.Run.{WorkerView, IsReached}
 
 -- What the worker of this number asked and was told, by a world's log.
 abbrev pub told_to : ℕ → List (ℕ × Exchange) → List Exchange
@@ -10,14 +10,14 @@ told_to number [] = []
 told_to number (told ∷ log) = if told.0 == number then told.1 ∷ told_to number log else told_to number log
 
 -- The worker is in the search that it was in; and whatever log it was reached by before, it is reached now by that log with what follows behind.
-pub record GoesOnBy (worker later : Standing) (follows : List Exchange) : Type 0 where
+pub record GoesOnBy (worker later : WorkerView) (follows : List Exchange) : Type 0 where
   pub task : later.task ≡ worker.task
   pub reached : (log : List Exchange) → IsReached worker log → IsReached later (log ++ follows)
 
 -- There are as many workers as before, and each went on by its own part of a world's log.
-pub record GoOnBy (workers : List Standing) (log : List (ℕ × Exchange)) (later : List Standing) : Type 0 where
+pub record GoOnBy (workers : List WorkerView) (log : List (ℕ × Exchange)) (later : List WorkerView) : Type 0 where
   pub as_many : length later ≡ length workers
-  pub each : (place : ℕ) (before after : Standing) → slice_get workers place ≡ Some before → slice_get later place ≡ Some after
+  pub each : (place : ℕ) (before after : WorkerView) → slice_get workers place ≡ Some before → slice_get later place ≡ Some after
       → GoesOnBy before after (told_to (place + 1) log)
 
 -- Whether a look was refused memory.

@@ -6,12 +6,12 @@ use Rattle.table_shard.specs.Shard.{row_of}
 use Rattle.unit_desk.specs.Desk.{HasPosted}
 use Rattle.visit_log.specs.declared.words.WorkEnd.{WorkEnd}
 use Rattle.visit_log.specs.declared.words.WorkEnd.TheVariants.{TooHigh, NoMemory, Stopped}
-use Rattle.visit_log.specs.Visit.{Event as Exchange}
+use Rattle.visit_log.specs.Visit.{Exchange}
 use Rattle.visit_log.specs.Machine.{end_of}
-use Rattle.visit_log.specs.Run.{Standing}
+use Rattle.visit_log.specs.Run.{WorkerView}
 use Rattle.visit_log.specs.Sound.{IsSound}
 use Rattle.visit_log.specs.Laws.{IsCounted}
-use Rattle.lone_port.specs.Lone.{Lone, IsLone, held_in}
+use Rattle.lone_port.specs.Lone.{LonePortView, IsLone, held_in}
 use Rattle.lone_port.specs.Keeps.{IsKeptPort}
 use Rattle.lone_port.specs.World.{World, Steps, Happens, Plays}
 use Rattle.lone_port.specs.declared.event.Event.{Event}
@@ -22,26 +22,26 @@ abbrev pub HoldsWhatIsEntered : World → Type 0
 HoldsWhatIsEntered world = (key : Key) (slot : ℕ) → 0 < all_slots world.workers key slot → HoldsAt (row_of world.port.rows key) slot key
 
 -- What each worker knows is sound: so each note that it has of a position holds on its path to there, and one that it posts on every path.
-abbrev pub AreSoundWorkers : List Standing → Type 0
-AreSoundWorkers workers = (place : ℕ) (worker : Standing) → slice_get workers place ≡ Some worker → IsSound worker.task worker.state × IsCounted worker.state
+abbrev pub AreSoundWorkers : List WorkerView → Type 0
+AreSoundWorkers workers = (place : ℕ) (worker : WorkerView) → slice_get workers place ≡ Some worker → IsSound worker.task worker.state × IsCounted worker.state
 
 -- How each worker that has ended did is so of the desk.
 abbrev pub AreToldOf : World → Type 0
-AreToldOf world = (place : ℕ) (worker : Standing) (end : WorkEnd) → slice_get world.workers place ≡ Some worker → end_of worker.state ≡ Some end → IsToldOf world.port.desk end
+AreToldOf world = (place : ℕ) (worker : WorkerView) (end : WorkEnd) → slice_get world.workers place ≡ Some worker → end_of worker.state ≡ Some end → IsToldOf world.port.desk end
 
 -- The worker has ended.
-pub record HasEnded (worker : Standing) : Type 0 where
+pub record HasEnded (worker : WorkerView) : Type 0 where
   pub end : WorkEnd
   pub ended : end_of worker.state ≡ Some end
 
 -- All workers have ended.
-abbrev pub AllHaveEnded : List Standing → Type 0
-AllHaveEnded workers = (place : ℕ) (worker : Standing) → slice_get workers place ≡ Some worker → HasEnded worker
+abbrev pub AllHaveEnded : List WorkerView → Type 0
+AllHaveEnded workers = (place : ℕ) (worker : WorkerView) → slice_get workers place ≡ Some worker → HasEnded worker
 
 -- A worker ended so.
-pub record OneEnded (workers : List Standing) (end : WorkEnd) : Type 0 where
+pub record OneEnded (workers : List WorkerView) (end : WorkEnd) : Type 0 where
   pub place : ℕ
-  pub worker : Standing
+  pub worker : WorkerView
   pub there : slice_get workers place ≡ Some worker
   pub ended : end_of worker.state ≡ Some end
 
@@ -60,7 +60,7 @@ pub record IsLeft (world : World) : Type 0 where
 -- A law: no step gives up an entry that a visit has entered. Where a visit is below a slot of the key before the step, the slot holds the key's entry
 -- behind it.
 abbrev pub StepsKeepEntered : Type 0
-StepsKeepEntered = (stops : Bool) (port : Lone) (worker : Standing) (exchange : Exchange) (after : Lone) (later : Standing) → IsLone port
+StepsKeepEntered = (stops : Bool) (port : LonePortView) (worker : WorkerView) (exchange : Exchange) (after : LonePortView) (later : WorkerView) → IsLone port
     → Steps stops port worker exchange after later
     → (key : Key) (slot : ℕ) → 0 < held_in port.rows port.pins key slot → HoldsAt (row_of after.rows key) slot key
 

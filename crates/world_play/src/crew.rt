@@ -1,6 +1,6 @@
 // Workers over any port.
 ghost use Rattle.std.specs.Prelude.{◌≡◌, ◌<◌, true, length};
-ghost use Rattle.visit_log.specs.Run.{Standing};
+ghost use Rattle.visit_log.specs.Run.{WorkerView};
 ghost use Rattle.world_play.specs.Crew.{IsCrew, ChangesAt, IsTurned, IsStarved};
 
 use std::alloc::Global;
@@ -21,7 +21,7 @@ pub fn turn_in_crew<P: Port>(
     requires crew { IsCrew (P.book port.old) workers.old.items }
     ensures crew { IsCrew (P.book port.new) workers.new.items }
     ensures as_many { length workers.new.items ≡ length workers.old.items }
-    ensures turned { (worker : Standing) × (next : Standing) × ChangesAt workers.old.items place worker next workers.new.items
+    ensures turned { (worker : WorkerView) × (next : WorkerView) × ChangesAt workers.old.items place worker next workers.new.items
         × IsTurned P.turn P.book port.old port.new worker next result }
 {
     sound_laws();
@@ -37,7 +37,7 @@ pub fn starve_in_crew<P: Port>(_port: &P, workers: &mut Vec<Worker>, place: usiz
     requires crew { IsCrew (P.book _port.now) workers.old.items }
     ensures crew { IsCrew (P.book _port.now) workers.new.items }
     ensures as_many { length workers.new.items ≡ length workers.old.items }
-    ensures starved { (worker : Standing) × (next : Standing) × ChangesAt workers.old.items place worker next workers.new.items × IsStarved worker next }
+    ensures starved { (worker : WorkerView) × (next : WorkerView) × ChangesAt workers.old.items place worker next workers.new.items × IsStarved worker next }
 {
     let worker = &mut workers[place];
     worker.starve();

@@ -1,8 +1,8 @@
 // The world.
 ghost use Rattle.std.specs.Prelude.{◌≡◌, ◌≤◌, ◌<◌, ◌+◌, ◌↔◌, ◌&&◌, ℕ, zero, suc, true, false, List, Some, None, IfOk, IfSome, IfNone, IsTrue, All, length, slice_get, slice_set, slice_index_or, option_copied, if◌then◌else◌};
 ghost use Rattle.search_limits.specs.Settings.{settings_in};
-ghost use Rattle.visit_log.specs.Visit.{Event as Exchange};
-ghost use Rattle.visit_log.specs.Run.{Standing};
+ghost use Rattle.visit_log.specs.Visit.{Exchange};
+ghost use Rattle.visit_log.specs.Run.{WorkerView};
 ghost use Rattle.lone_port.specs.World.{Happens, Plays, IsAtWork, IsIdle, world_at_first};
 ghost use Rattle.lone_port.specs.declared.event.Event.TheVariants.{Step, Raise, Starve};
 ghost use Rattle.unit_desk.specs.Desk.{IsDesk};
@@ -108,7 +108,7 @@ impl World {
 
     // The place of the worker of this number, if it is there and hasn't ended.
     fn at_work(&self, number: u32) -> Option<usize>
-        ensures some { IfSome result (λ place. (worker : Standing) × IsAtWork self.now number place worker) }
+        ensures some { IfSome result (λ place. (worker : WorkerView) × IsAtWork self.now number place worker) }
         ensures none { IfNone result (IsIdle self.now number) }
     {
         let number = number as usize;

@@ -1,7 +1,7 @@
 // Searches that are told what another one found.
 ghost use Rattle.std.specs.Prelude.{◌≡◌, ℕ, IfOk};
 ghost use Rattle.notes.specs.Derivation.{attacker_of};
-ghost use Rattle.visit_log.specs.Run.{Standing};
+ghost use Rattle.visit_log.specs.Run.{WorkerView};
 ghost use Rattle.worker_core.specs.Port.{Suits};
 ghost use Rattle.lone_port.specs.Lone.{worker_at_first, book_of};
 
@@ -17,7 +17,7 @@ use worker_core::{Port, Worker, work};
 
 // Tells the table a note, as a worker does that leaves its position.
 fn learn(port: &mut LonePort, problem: &Problem, note: Note)
-    requires some { (worker : Standing) × Suits worker (book_of port.old) }
+    requires some { (worker : WorkerView) × Suits worker (book_of port.old) }
     requires suits { (number : ℕ) → Suits (worker_at_first problem.now.position number) (book_of port.old) }
     requires first { (book_of port.old).units ≡ 0 }
     requires attacker { attacker_of note ≡ (book_of port.old).problem.side }

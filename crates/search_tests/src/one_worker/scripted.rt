@@ -1,12 +1,12 @@
 // The table and the desk of one worker, which say once that it is to stop, and refuse memory once.
 ghost use Rattle.std.specs.Prelude.{◌≡◌, ◌≤◌, ℕ, IfOk};
 ghost use Rattle.worker_core.specs.Port.{Book, Suits};
-ghost use Rattle.visit_log.specs.Run.{Standing};
+ghost use Rattle.visit_log.specs.Run.{WorkerView};
 ghost use Rattle.lone_port.specs.Lone.{worker_at_first, book_of};
 
 use board_core::Key;
 use lone_port::LonePort;
-use notes::{Claim, Draw, Kept, Note, Seen, Update};
+use notes::{Draw, Kept, Note, RoomAnswer, Seen, Update};
 use path_tags::Path;
 use pn_numbers::Numbers;
 use search_limits::Settings;
@@ -53,7 +53,7 @@ impl Scripted {
 impl Port for Scripted {
     ghost use Rattle.std.specs.Prelude.{ℕ, Option};
     ghost use Rattle.visit_log.specs.declared.words.Request.{Request};
-    ghost use Rattle.visit_log.specs.declared.words.Answer.{Answer};
+    ghost use Rattle.visit_log.specs.declared.words.Reply.{Reply};
     ghost use Rattle.lone_port.specs.Lone.{book_of};
 
     ghost book = { λ p. book_of p.port };
@@ -69,7 +69,7 @@ impl Port for Scripted {
         self.port.draw()
     }
 
-    fn claim(&mut self) -> Claim {
+    fn claim(&mut self) -> RoomAnswer {
         self.port.claim()
     }
 

@@ -1,6 +1,6 @@
 use Rattle.std.proofs.Common.{◌≡◌, List, arith, take, map, sym, ap, ◌∙◌, add-one}
 use Rattle.std.proofs.lemmas.List.{take_all}
-use Rattle.visit_log.specs.Frame.{Visiting}
+use Rattle.visit_log.specs.Frame.{FrameView}
 use Rattle.visit_log.specs.Machine.{bare}
 use Rattle.worker_core.proofs.Last.{one_more_bare}
 use Rattle.worker_core.proofs.tops.bare_all.Goals as goal
@@ -8,7 +8,7 @@ use Rattle.worker_core.proofs.tops.bare_all.Goals as goal
 pub loop-frame-preserved : goal.loop-frame-preserved
 loop-frame-preserved c =
     let i = c.loop-frame.frame-index in
-    let xs : List Visiting = c.loop-frame.frames in
+    let xs : List FrameView = c.loop-frame.frames in
     let r = one_more_bare xs c.args.frames.now i c.frame-item.result (omega (arith, c.loop-frame-test.true, c.loop-frame.auto.frames)) c.loop-frame.invariant.bared c.loop-frame.invariant.others in
     let e = c.bare.ensures in
     record {

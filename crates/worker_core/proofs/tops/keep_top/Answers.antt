@@ -1,5 +1,5 @@
 use Rattle.std.proofs.Common.{arith, ap}
-use Rattle.visit_log.specs.Frame.{Visiting}
+use Rattle.visit_log.specs.Frame.{FrameView}
 use Rattle.worker_core.proofs.Last.{on_top, path_on_top}
 use Rattle.worker_core.proofs.tops.keep_top.Goals as goal
 
@@ -7,4 +7,4 @@ pub returns-clause-kept : goal.returns-clause-kept
 returns-clause-kept c = on_top _ c.args.frames.now _ c.index-frames-last.result _ (omega (arith, c.requires)) c.keep.ensures
 
 pub returns-clause-path : goal.returns-clause-path
-returns-clause-path c = path_on_top c.args.frames.now _ c.index-frames-last.result _ (omega (arith, c.requires)) (ap (λ (z : Visiting). z.place) c.keep.ensures)
+returns-clause-path c = path_on_top c.args.frames.now _ c.index-frames-last.result _ (omega (arith, c.requires)) (ap (λ (z : FrameView). z.place) c.keep.ensures)

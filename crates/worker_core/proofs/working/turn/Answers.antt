@@ -2,9 +2,9 @@ use Rattle.std.proofs.Common.{[], ◌∷◌, refl, sym, ap, ◌∙◌, subst, in
 use Rattle.std.specs.Prelude.{Some, None}
 use Rattle.visit_log.specs.declared.words.Request.{Request}
 use Rattle.visit_log.specs.declared.words.Request.TheVariants.{Poll, Draw as Draws, Claim as Claims, Look, Enter, Leave, Post}
-use Rattle.visit_log.specs.declared.words.Answer.TheVariants.{Poll as Polled, Draw as Drew, Claim as Claimed, Look as Looked, Enter as Entered, Leave as LeftIt, Post as PostedIt}
+use Rattle.visit_log.specs.declared.words.Reply.TheVariants.{Poll as Polled, Draw as Drew, Claim as Claimed, Look as Looked, Enter as Entered, Leave as LeftIt, Post as PostedIt}
 use Rattle.visit_log.specs.Machine.{path_of}
-use Rattle.visit_log.specs.Run.{Standing}
+use Rattle.visit_log.specs.Run.{WorkerView}
 use Rattle.visit_log.specs.Sound.{IsSoundRequest}
 use Rattle.worker_core.proofs.Turns.{port_goes, few_slots, left_held, left_sound, post_sound, unit_may, shown_may, answer_fits, on_path, turned_by, turned_dark, went_none, keeps_none, no_end}
 use Rattle.worker_core.proofs.working.turn.Goals as goal
@@ -31,7 +31,7 @@ pub post-requires : goal.post-requires
 post-requires g c = post_sound c.args.worker.now (g.P.Port.book c.args.port.now) c.in-Post.note c.requires.suits (subst (λ (z : Request). IsSoundRequest c.args.worker.now.task z) c.in-Post.is c.request.ensures.sound)
 
 pub advance-requires-clause-waiting : goal.advance-requires-clause-waiting
-advance-requires-clause-waiting g c = ap (λ (z : Standing). z.waiting) c.request.ensures.asked
+advance-requires-clause-waiting g c = ap (λ (z : WorkerView). z.waiting) c.request.ensures.asked
 
 pub advance-requires-clause-fits : goal.advance-requires-clause-fits
 advance-requires-clause-fits g c = answer_fits c.args.worker.now c.request.new.self Poll (Polled c.poll-stop.result) (sym c.in-Poll.is ∙ c.request.ensures.request) c.request.ensures.asked tt
@@ -71,7 +71,7 @@ pub returns-in-Poll-clause-ended : goal.returns-in-Poll-clause-ended
 returns-in-Poll-clause-ended g c = tt
 
 pub advance-requires-in-Draw-clause-waiting : goal.advance-requires-in-Draw-clause-waiting
-advance-requires-in-Draw-clause-waiting g c = ap (λ (z : Standing). z.waiting) c.request.ensures.asked
+advance-requires-in-Draw-clause-waiting g c = ap (λ (z : WorkerView). z.waiting) c.request.ensures.asked
 
 pub advance-requires-in-Draw-clause-fits : goal.advance-requires-in-Draw-clause-fits
 advance-requires-in-Draw-clause-fits g c = answer_fits c.args.worker.now c.request.new.self Draws (Drew c.draw-draw.result) (sym c.in-Draw.is ∙ c.request.ensures.request) c.request.ensures.asked (unit_may c.args.worker.now (g.P.Port.book c.args.port.now) (g.P.Port.book c.draw-draw.new.self) c.draw-draw.result c.requires.suits c.draw-draw.ensures.book)
@@ -111,7 +111,7 @@ pub returns-in-Draw-clause-ended : goal.returns-in-Draw-clause-ended
 returns-in-Draw-clause-ended g c = tt
 
 pub advance-requires-in-Claim-clause-waiting : goal.advance-requires-in-Claim-clause-waiting
-advance-requires-in-Claim-clause-waiting g c = ap (λ (z : Standing). z.waiting) c.request.ensures.asked
+advance-requires-in-Claim-clause-waiting g c = ap (λ (z : WorkerView). z.waiting) c.request.ensures.asked
 
 pub advance-requires-in-Claim-clause-fits : goal.advance-requires-in-Claim-clause-fits
 advance-requires-in-Claim-clause-fits g c = answer_fits c.args.worker.now c.request.new.self Claims (Claimed c.claim-claim.result) (sym c.in-Claim.is ∙ c.request.ensures.request) c.request.ensures.asked tt
@@ -151,10 +151,10 @@ pub returns-in-Claim-clause-ended : goal.returns-in-Claim-clause-ended
 returns-in-Claim-clause-ended g c = tt
 
 pub advance-requires-in-Ok-clause-waiting : goal.advance-requires-in-Ok-clause-waiting
-advance-requires-in-Ok-clause-waiting g c = ap (λ (z : Standing). z.waiting) c.request.ensures.asked
+advance-requires-in-Ok-clause-waiting g c = ap (λ (z : WorkerView). z.waiting) c.request.ensures.asked
 
 pub advance-requires-in-Ok-clause-fits : goal.advance-requires-in-Ok-clause-fits
-advance-requires-in-Ok-clause-fits g c = answer_fits c.args.worker.now c.request.new.self (Look c.in-Look.key) (Looked c.in-Ok.seen) (sym c.in-Look.is ∙ c.request.ensures.request) c.request.ensures.asked (shown_may c.args.worker.now (g.P.Port.book c.args.port.now) c.in-Look.key c.path.result.now c.in-Ok.seen c.requires.suits (c.path.ensures ∙ ap (λ (z : Standing). path_of z.task z.state.frames) c.request.ensures.asked) c.in-Ok.ensures.may)
+advance-requires-in-Ok-clause-fits g c = answer_fits c.args.worker.now c.request.new.self (Look c.in-Look.key) (Looked c.in-Ok.seen) (sym c.in-Look.is ∙ c.request.ensures.request) c.request.ensures.asked (shown_may c.args.worker.now (g.P.Port.book c.args.port.now) c.in-Look.key c.path.result.now c.in-Ok.seen c.requires.suits (c.path.ensures ∙ ap (λ (z : WorkerView). path_of z.task z.state.frames) c.request.ensures.asked) c.in-Ok.ensures.may)
 
 pub returns-in-Ok-clause-idle : goal.returns-in-Ok-clause-idle
 returns-in-Ok-clause-idle g c = c.advance-in-Ok.ensures.answered
@@ -191,7 +191,7 @@ pub returns-in-Ok-clause-ended : goal.returns-in-Ok-clause-ended
 returns-in-Ok-clause-ended g c = tt
 
 pub advance-requires-in-Enter-clause-waiting : goal.advance-requires-in-Enter-clause-waiting
-advance-requires-in-Enter-clause-waiting g c = ap (λ (z : Standing). z.waiting) c.request.ensures.asked
+advance-requires-in-Enter-clause-waiting g c = ap (λ (z : WorkerView). z.waiting) c.request.ensures.asked
 
 pub advance-requires-in-Enter-clause-fits : goal.advance-requires-in-Enter-clause-fits
 advance-requires-in-Enter-clause-fits g c = answer_fits c.args.worker.now c.request.new.self (Enter c.in-Enter.key c.in-Enter.numbers) (Entered c.enter-kept.result) (sym c.in-Enter.is ∙ c.request.ensures.request) c.request.ensures.asked tt
@@ -231,7 +231,7 @@ pub returns-in-Enter-clause-ended : goal.returns-in-Enter-clause-ended
 returns-in-Enter-clause-ended g c = tt
 
 pub advance-requires-in-Leave-clause-waiting : goal.advance-requires-in-Leave-clause-waiting
-advance-requires-in-Leave-clause-waiting g c = ap (λ (z : Standing). z.waiting) c.request.ensures.asked
+advance-requires-in-Leave-clause-waiting g c = ap (λ (z : WorkerView). z.waiting) c.request.ensures.asked
 
 pub advance-requires-in-Leave-clause-fits : goal.advance-requires-in-Leave-clause-fits
 advance-requires-in-Leave-clause-fits g c = answer_fits c.args.worker.now c.request.new.self (Leave c.in-Leave.kept c.in-Leave.key c.in-Leave.update) LeftIt (sym c.in-Leave.is ∙ c.request.ensures.request) c.request.ensures.asked tt
@@ -271,7 +271,7 @@ pub returns-in-Leave-clause-ended : goal.returns-in-Leave-clause-ended
 returns-in-Leave-clause-ended g c = tt
 
 pub advance-requires-in-Post-clause-waiting : goal.advance-requires-in-Post-clause-waiting
-advance-requires-in-Post-clause-waiting g c = ap (λ (z : Standing). z.waiting) c.request.ensures.asked
+advance-requires-in-Post-clause-waiting g c = ap (λ (z : WorkerView). z.waiting) c.request.ensures.asked
 
 pub advance-requires-in-Post-clause-fits : goal.advance-requires-in-Post-clause-fits
 advance-requires-in-Post-clause-fits g c = answer_fits c.args.worker.now c.request.new.self (Post c.in-Post.note) PostedIt (sym c.in-Post.is ∙ c.request.ensures.request) c.request.ensures.asked tt
@@ -311,7 +311,7 @@ pub returns-in-Post-clause-ended : goal.returns-in-Post-clause-ended
 returns-in-Post-clause-ended g c = tt
 
 pub returns-in-Err-clause-idle : goal.returns-in-Err-clause-idle
-returns-in-Err-clause-idle g c = ap (λ (z : Standing). z.waiting) c.starve.ensures.starved
+returns-in-Err-clause-idle g c = ap (λ (z : WorkerView). z.waiting) c.starve.ensures.starved
 
 pub returns-in-Err-clause-suits : goal.returns-in-Err-clause-suits
 returns-in-Err-clause-suits g c =

@@ -23,7 +23,7 @@ pub returns : goal.returns
 returns c = λ to low free.
     let b = c.args.position.now in
     let king = c.args.self.now.sight.square in
-    unveils_are c.mask_laws.ensures.on_board b c.attackers_without-behind.result c.stops.result c.full.result c.minus.result c.args.from.number to king.number low free
+    unveils_are c.mask_laws.ensures.on_board b c.attackers_without-behind.result c.blocks.result c.full.result c.minus.result c.args.from.number to king.number low free
     (rw (c.square-king.ensures, c.side.ensures) at c.attackers_without-behind.ensures)
-    (rw c.square-king.ensures at (c.stops.ensures to))
+    (rw c.square-king.ensures at (c.blocks.ensures to))
     (c.full.ensures to) (c.minus.ensures to)

@@ -30,7 +30,7 @@ returns c = λ to.
               on_board = low;
               empty = empty;
               alive = sym (dead low) ∙ not-true _ two.1;
-              safe = drop_safe b wanted to guard.king guard.stops guard.shields c.requires.guard c.laws.ensures.cells c.requires.king low empty one.1;
+              safe = drop_safe b wanted to guard.king guard.blocks guard.shields c.requires.guard c.laws.ensures.cells c.requires.king low empty one.1;
             },
           )),
       (λ known.
@@ -38,5 +38,5 @@ returns c = λ to.
           let one = c.minus.ensures to ∙ and_from _ _ known.0 (not_from_false _ (c.all_occupied.ensures to ∙ ap is_some free.empty)) in
           let two = c.minus-2.ensures to ∙ and_from _ _ one (not_from_false _ (dead free.on_board ∙ free.alive)) in
           c.and.ensures to ∙ and_from _ _ two
-          (drop_stops b wanted to guard.king guard.stops guard.shields c.requires.guard c.laws.ensures.cells c.requires.king free.on_board free.empty free.safe)),
+          (drop_stops b wanted to guard.king guard.blocks guard.shields c.requires.guard c.laws.ensures.cells c.requires.king free.on_board free.empty free.safe)),
     )

@@ -18,10 +18,10 @@ returns c = λ to. (
     first_of _ _ _ (c.and-2.ensures to) has,
     stops_as_before c.args.position.now c.args.from.number to c.args.king.number
         (λ shield. let e = (c.requires.guard.shields c.args.from.number).1 shield in absurd (cc))
-        ((c.requires.guard.stops to).0 (second_of _ _ _ (c.and-2.ensures to) has)).1,
+        ((c.requires.guard.blocks to).0 (second_of _ _ _ (c.and-2.ensures to) has)).1,
   )),
   (λ both. shared _ _ _ (c.and-2.ensures to) both.0
-      ((c.requires.guard.stops to).1 (
+      ((c.requires.guard.blocks to).1 (
         c.mask_laws.ensures.on_board c.args.wanted to both.0,
         stopped_before c.args.position.now c.args.from.number to c.args.king.number both.1,
       ))),

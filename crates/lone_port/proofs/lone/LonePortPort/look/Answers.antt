@@ -5,26 +5,26 @@ use Rattle.visit_log.specs.Round.{MayShow}
 use Rattle.table_shard.specs.Row.{Looks}
 use Rattle.table_shard.specs.Shard.{row_of}
 use Rattle.worker_core.specs.Port.{shown}
-use Rattle.lone_port.specs.Lone.{Lone, Turns}
+use Rattle.lone_port.specs.Lone.{LonePortView, Turns}
 use Rattle.lone_port.proofs.Asked.{found, look_turns, look_may, spot_place}
 use Rattle.lone_port.proofs.lone.LonePortPort.look.Goals as goal
 
 pub returns-clause-turn : goal.returns-clause-turn
 returns-clause-turn c =
-    let port : Lone = record { rows = c.self.inside.shard; pins = c.self.inside.pins.items; desk = c.self.inside.desk; going = c.self.inside.is_going; stops = c.self.inside.stops } in
+    let port : LonePortView = record { rows = c.self.inside.shard; pins = c.self.inside.pins.items; desk = c.self.inside.desk; going = c.self.inside.is_going; stops = c.self.inside.stops } in
     let key = c.args.key.now in
     let long : length port.rows ≡ length port.pins = sym c.self.invariant.as_many in
     let counts = found port.pins key c.spot_of-spot.result.place (length port.rows) c.index.result.now long (spot_place c.spot_of-spot.result c.args.key.now (length port.rows) c.spot_of-spot.ensures.spot) c.spot_of-spot.ensures.there c.index.ensures in
-    subst (λ (q : Lone). Turns q c.args.path.now (Look key) (shown c.look.result) q) c.self.view_is
+    subst (λ (q : LonePortView). Turns q c.args.path.now (Look key) (shown c.look.result) q) c.self.view_is
     (look_turns port key c.args.path.now c.look.result
     (subst (λ (n : List ℕ). IfOk c.look.result (Looks (row_of port.rows key) n key c.args.path.now)) counts c.look.ensures))
 
 pub returns-clause-may : goal.returns-clause-may
 returns-clause-may c =
-    let port : Lone = record { rows = c.self.inside.shard; pins = c.self.inside.pins.items; desk = c.self.inside.desk; going = c.self.inside.is_going; stops = c.self.inside.stops } in
+    let port : LonePortView = record { rows = c.self.inside.shard; pins = c.self.inside.pins.items; desk = c.self.inside.desk; going = c.self.inside.is_going; stops = c.self.inside.stops } in
     let key = c.args.key.now in
     let long : length port.rows ≡ length port.pins = sym c.self.invariant.as_many in
     let counts = found port.pins key c.spot_of-spot.result.place (length port.rows) c.index.result.now long (spot_place c.spot_of-spot.result c.args.key.now (length port.rows) c.spot_of-spot.ensures.spot) c.spot_of-spot.ensures.there c.index.ensures in
-    subst (λ (q : Lone). IfOk c.look.result (MayShow q.desk.position.side key c.args.path.now)) c.self.view_is
+    subst (λ (q : LonePortView). IfOk c.look.result (MayShow q.desk.position.side key c.args.path.now)) c.self.view_is
     (look_may port key c.args.path.now c.look.result c.self.invariant c.laws.ensures.rows
     (subst (λ (n : List ℕ). IfOk c.look.result (Looks (row_of port.rows key) n key c.args.path.now)) counts c.look.ensures))

@@ -1,7 +1,7 @@
 use Rattle.std.proofs.Common.{◌≡◌, ◌<◌, ℕ, List, [], ◌∷◌, ◌++◌, length, set, get_or, sym, subst, ap, ◌∙◌, arith}
 use Rattle.std.proofs.lemmas.List.{get_or_default}
 use Rattle.std.specs.Vec.{vec_capacity}
-use Rattle.table_shard.specs.Entry.{Held}
+use Rattle.table_shard.specs.Entry.{EntryView}
 use Rattle.table_shard.specs.Shard.{row_of, KeepsPinned}
 use Rattle.table_shard.specs.Spot.{place_of, spot_of}
 use Rattle.table_shard.specs.declared.hash.Spot.{Spot}
@@ -68,5 +68,5 @@ returns-else-is_new-clause-pinned c =
     let there : place < length rows = spot_within rows c.args.spot key c.self.invariant.some is_spot in
     let is : place ≡ place_of key (length rows) = ap (λ (s : Spot). s.place) is_spot in
     let old : c.index_mut-row.result.now ≡ row_of rows key = c.index_mut-row.ensures.value ∙ (get_or_default rows place c.index_mut-row.result.now [] there ∙ ap (λ (n : ℕ). get_or rows n []) is) in
-    subst (λ (rs : List (List Held)). KeepsPinned rs c.args.pins.now key (set rows place c.enter-kept.new.self)) c.self.view_is
+    subst (λ (rs : List (List EntryView)). KeepsPinned rs c.args.pins.now key (set rows place c.enter-kept.new.self)) c.self.view_is
     (pinned_in rows place c.args.pins.now key c.args.numbers c.enter-kept.result c.index_mut-row.result.now c.enter-kept.new.self c.self.invariant.some is old c.enter-kept.ensures)

@@ -1,7 +1,7 @@
 use Rattle.std.proofs.Common.{◌≡◌, ◌<◌, ℕ, List, [], length, get_or, set, sym, subst, ap, ◌∙◌, arith}
 use Rattle.std.specs.Vec.{vec_capacity}
 use Rattle.std.proofs.lemmas.List.{get_or_default}
-use Rattle.table_shard.specs.Entry.{Held}
+use Rattle.table_shard.specs.Entry.{EntryView}
 use Rattle.table_shard.specs.Row.{HoldsAt}
 use Rattle.table_shard.specs.Shard.{row_of}
 use Rattle.table_shard.specs.Spot.{place_of, spot_of}
@@ -19,7 +19,7 @@ invariant_of-self c =
     let there : place < length rows = spot_within rows c.args.spot c.args.key.now c.self.invariant.some is_spot in
     let is : place ≡ place_of c.args.key.now (length rows) = ap (λ (s : Spot). s.place) is_spot in
     let holds : HoldsAt (row_of rows c.args.key.now) c.args.slot c.args.key.now =
-    subst (λ (rs : List (List Held)). HoldsAt (row_of rs c.args.key.now) c.args.slot c.args.key.now) (sym c.self.view_is) c.requires.there in
+    subst (λ (rs : List (List EntryView)). HoldsAt (row_of rs c.args.key.now) c.args.slot c.args.key.now) (sym c.self.view_is) c.requires.there in
     let within = holds_within (row_of rows c.args.key.now) c.args.key.now c.args.slot holds in
     let before : 0 < length (get_or rows place []) = (let e = ap (λ (n : ℕ). length (get_or rows n [])) is in omega (arith, e, within)) in
     let old : c.index_mut-row.result.now ≡ get_or rows place [] = c.index_mut-row.ensures.value ∙ get_or_default rows place c.index_mut-row.result.now [] there in
@@ -36,9 +36,9 @@ returns-clause-stays c = λ other slot h.
     let there : place < length rows = spot_within rows c.args.spot c.args.key.now c.self.invariant.some is_spot in
     let is : place ≡ place_of key (length rows) = ap (λ (s : Spot). s.place) is_spot in
     let old : c.index_mut-row.result.now ≡ row_of rows key = c.index_mut-row.ensures.value ∙ (get_or_default rows place c.index_mut-row.result.now [] there ∙ ap (λ (n : ℕ). get_or rows n []) is) in
-    let holds : HoldsAt (row_of rows other) slot other = subst (λ (rs : List (List Held)). HoldsAt (row_of rs other) slot other) (sym c.self.view_is) h in
+    let holds : HoldsAt (row_of rows other) slot other = subst (λ (rs : List (List EntryView)). HoldsAt (row_of rs other) slot other) (sym c.self.view_is) h in
     subst (λ (n : ℕ). HoldsAt (row_of (set rows n c.leave.new.self) other) slot other) (sym is)
     (stays_in rows key other c.leave.new.self slot c.self.invariant.some
-    (λ same here. subst (λ (r : List Held). HoldsAt r slot other) (sym c.leave.ensures)
-    (left_stays c.index_mut-row.result.now c.args.slot c.args.update slot other (subst (λ (r : List Held). HoldsAt r slot other) (sym old) here)))
+    (λ same here. subst (λ (r : List EntryView). HoldsAt r slot other) (sym c.leave.ensures)
+    (left_stays c.index_mut-row.result.now c.args.slot c.args.update slot other (subst (λ (r : List EntryView). HoldsAt r slot other) (sym old) here)))
     holds)

@@ -1,7 +1,7 @@
 use Rattle.std.proofs.Common.{List, refl, sym, subst}
 use Rattle.visit_log.specs.declared.parts.Child.{Child}
 use Rattle.pn_numbers.specs.declared.node.Node.{Node}
-use Rattle.visit_log.specs.Frame.{task_for, Visiting}
+use Rattle.visit_log.specs.Frame.{task_for, FrameView}
 use Rattle.visit_log.specs.Round.{node_in}
 use Rattle.visit_frame.specs.Making.{IsKnown}
 use Rattle.visit_frame.proofs.frame.Frame.make_note.Goals as goal
@@ -19,5 +19,5 @@ note_of-requires-clause-known c =
       path,
       subst (λ (l : List Child). IsKnown task path c.node_at-node.result b l) (sym c.deref.ensures.value)
           (subst (λ (n : Node). IsKnown task path n b c.self.inside.children.items) (sym c.node_at-node.ensures)
-          (subst (λ (v : Visiting). IsKnown task path (node_in task v) v.place.position v.children) (sym c.self.view_is) known)),
+          (subst (λ (v : FrameView). IsKnown task path (node_in task v) v.place.position v.children) (sym c.self.view_is) known)),
     )

@@ -1,9 +1,9 @@
 use Rattle.std.proofs.Common.{◌≡◌, ap, refl, subst, sym, ◌∙◌}
 use Rattle.visit_log.specs.declared.parts.Stage.{Stage}
 use Rattle.visit_log.specs.declared.parts.Stage.TheVariants.{Leaving}
-use Rattle.visit_log.specs.declared.words.Answer.TheVariants.{Leave as LeftIt}
+use Rattle.visit_log.specs.declared.words.Reply.TheVariants.{Leave as LeftIt}
 use Rattle.visit_log.specs.Machine.{State, LeadsAt, LeadsTo, Returns, rest_of}
-use Rattle.worker_core.specs.Machine.{Machine}
+use Rattle.worker_core.specs.Machine.{CoreView}
 use Rattle.worker_core.proofs.Steps.{returns_from}
 use Rattle.worker_core.proofs.machine.Core.leave.Goals as goal
 
@@ -18,6 +18,6 @@ returns-in-Leaving c =
     let leads : LeadsAt c.self.inside.stack.task s c.self.inside.stage LeftIt t =
     subst (λ (st : Stage). LeadsAt c.self.inside.stack.task s st LeftIt t) (sym is) back in
     record {
-      task = c.left.ensures.task ∙ ap (λ (z : Machine). z.task) c.self.view_is;
-      leads = subst (λ (z : Machine). LeadsTo z.task z.state LeftIt t) c.self.view_is leads;
+      task = c.left.ensures.task ∙ ap (λ (z : CoreView). z.task) c.self.view_is;
+      leads = subst (λ (z : CoreView). LeadsTo z.task z.state LeftIt t) c.self.view_is leads;
     }

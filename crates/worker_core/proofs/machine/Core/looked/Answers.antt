@@ -4,14 +4,14 @@ use Rattle.visit_log.specs.Frame.{Task}
 use Rattle.visit_log.specs.Machine.{State, GoesOn, Sees, MayShowAt}
 use Rattle.visit_log.specs.Sound.{IsListed, IsSoundVisit, IsLookedAt}
 use Rattle.worker_core.specs.Stack.{HasTop, HasOver}
-use Rattle.worker_core.specs.Machine.{Machine}
+use Rattle.worker_core.specs.Machine.{CoreView}
 use Rattle.worker_core.proofs.Steps.{looked_top, sees}
 use Rattle.worker_core.proofs.machine.Core.looked.Goals as goal
 
 pub go_on-requires : goal.go_on-requires
 go_on-requires c =
-    let sound = subst (λ (z : Machine). HasOver (λ f fs. IsSoundVisit z.task f fs × IsLookedAt f c.args.place) z.state.frames) (sym c.self.view_is) c.requires.sound in
-    let may = subst (λ (z : Machine). MayShowAt z.task z.state.frames c.args.place c.args.seen) (sym c.self.view_is) c.requires.fits in
+    let sound = subst (λ (z : CoreView). HasOver (λ f fs. IsSoundVisit z.task f fs × IsLookedAt f c.args.place) z.state.frames) (sym c.self.view_is) c.requires.sound in
+    let may = subst (λ (z : CoreView). MayShowAt z.task z.state.frames c.args.place c.args.seen) (sym c.self.view_is) c.requires.fits in
     subst (λ (z : Task). HasTop (λ f. (path : List Key) × IsListed z path f) c.look.new.self.frames) (sym c.look.ensures.task)
     (looked_top c.self.inside.stack.task c.args.place c.args.seen c.self.inside.stack.frames c.look.new.self.frames c.sound_laws.ensures.looked sound may c.look.ensures.looked)
 
@@ -21,5 +21,5 @@ returns-clause-leads c =
     let u : State = record { stage = c.self.inside.stage; frames = c.look.new.self.frames; visits = c.self.inside.visits; claims = c.self.inside.claims } in
     let t : State = c.go_on.new.self.state in
     let on = subst (λ (z : Task). HasOver (λ f fs. GoesOn z u f fs t) c.look.new.self.frames) c.look.ensures.task c.go_on.ensures.on in
-    subst (λ (z : Machine). Sees z.task z.state c.args.place z.state.frames c.args.seen t) c.self.view_is
+    subst (λ (z : CoreView). Sees z.task z.state c.args.place z.state.frames c.args.seen t) c.self.view_is
     (sees c.self.inside.stack.task s u t c.args.place c.args.seen c.self.inside.stack.frames c.look.new.self.frames c.look.ensures.looked refl refl on)

@@ -1,6 +1,6 @@
 use Rattle.std.proofs.Common.{◌++◌, ◌∷◌, [], List, arith, ap, ◌∙◌, Bool, false}
 use Rattle.search_limits.specs.Settings.{settings_in}
-use Rattle.visit_log.specs.Run.{Standing}
+use Rattle.visit_log.specs.Run.{WorkerView}
 use Rattle.world_play.proofs.First.{one_more, made_fair, false_push}
 use Rattle.world_play.proofs.world.World.make.Goals as goal
 
@@ -11,7 +11,7 @@ loop-place-preserved c = record {
       let problem = c.args.problem.now.position in
       let place = c.loop-place.place in
       c.in_ok-push.ensures.items
-      ∙ (ap (λ (w : Standing). c.loop-place.workers.items ++ w ∷ []) c.make-in-loop-place.ensures ∙ one_more problem place c.loop-place.workers.items i));
+      ∙ (ap (λ (w : WorkerView). c.loop-place.workers.items ++ w ∷ []) c.make-in-loop-place.ensures ∙ one_more problem place c.loop-place.workers.items i));
   raised = c.in_ok-push-2.ensures.items ∙ (ap (λ (r : List Bool). r ++ false ∷ []) c.loop-place.invariant.raised ∙ false_push c.loop-place.place);
 }
 

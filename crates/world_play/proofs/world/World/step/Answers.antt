@@ -1,7 +1,7 @@
 use Rattle.std.proofs.Common.{set, arith, refl, sym, subst}
 use Rattle.std.proofs.lemmas.Option.{slice_get_within}
 use Rattle.worker_core.specs.Port.{Suits}
-use Rattle.lone_port.specs.Lone.{Lone, book_of}
+use Rattle.lone_port.specs.Lone.{LonePortView, book_of}
 use Rattle.lone_port.specs.World.{World, IsAtWork}
 use Rattle.lone_port.specs.declared.event.Event.TheVariants.{Step}
 use Rattle.world_play.proofs.Suited.{suited}
@@ -53,7 +53,7 @@ step-requires-clause-suits c =
     let found = c.in-Some.ensures.some in
     let at : IsAtWork w c.args.number c.in-Some.place found.0 = subst (λ (v : World). IsAtWork v c.args.number c.in-Some.place found.0) (sym c.self.view_is) found.1 in
     let here = at_work_by w c.args.number c.in-Some.place found.0 c.index_mut.result.now at c.index_mut.ensures.value in
-    subst (λ (p : Lone). Suits c.index_mut.result.now (book_of p)) (sym c.open.ensures)
+    subst (λ (p : LonePortView). Suits c.index_mut.result.now (book_of p)) (sym c.open.ensures)
     (suited c.sound_laws.ensures.reached c.count_laws.ensures.counted w c.in-Some.place c.index_mut.result.now c.self.invariant c.laws.ensures.desk here.there)
 
 pub invariant_of-self : goal.invariant_of-self

@@ -3,7 +3,7 @@ use Rattle.std.proofs.lemmas.Bool.{cases_eq, eqb-true, and_parts, and_from, or_l
 use Rattle.bit_boards.specs.Mask.{holds}
 use Rattle.bit_boards.specs.Movement.{IsBetween}
 use Rattle.attack_lines.proofs.Shielded.{was_gone}
-use Rattle.attack_lines.proofs.attacking.stops.Goals as goal
+use Rattle.attack_lines.proofs.attacking.blocks.Goals as goal
 
 pub loop-from-preserved : goal.loop-from-preserved
 loop-from-preserved c =
@@ -13,7 +13,7 @@ loop-from-preserved c =
     let to = c.args.to.number in (
       (λ f has. known.0 f (and_parts _ _ (sym (rest f) ∙ has)).0),
       (λ s has.
-          let parts = and_parts _ _ (sym (c.and-stops.ensures s) ∙ has) in
+          let parts = and_parts _ _ (sym (c.and-blocks.ensures s) ∙ has) in
           let before = known.1 s parts.0 in
           let here : (s ≡ at) ⊎ IsBetween at s to = elim (or_cases _ _ (sym (c.with.ensures s) ∙ parts.1)) [
             | inl between ↦ inr ((c.between.ensures s).0 between)
@@ -25,7 +25,7 @@ loop-from-preserved c =
               | inr other ↦ before.1 f attacks (was_gone (holds c.loop-from.left f) f at other (sym (rest f) ∙ gone))
             ],
           )),
-      (λ s low all. c.and-stops.ensures s ∙ and_from _ _ (known.2 s low all) (c.with.ensures s ∙ (elim (all at (known.0 at c.in-Some.ensures.found)) [
+      (λ s low all. c.and-blocks.ensures s ∙ and_from _ _ (known.2 s low all) (c.with.ensures s ∙ (elim (all at (known.0 at c.in-Some.ensures.found)) [
         | inl same ↦ or_right _ _ (eq-eqb _ _ same)
         | inr between ↦ or_left _ _ ((c.between.ensures s).1 between)
       ]))),
