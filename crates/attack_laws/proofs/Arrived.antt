@@ -3,12 +3,12 @@ use Rattle.std.proofs.Common.{◌≡◌, ◌≢◌, ◌<◌, ◌&&◌, ◌==◌,
 use Rattle.std.specs.Prelude.{IsSomeAnd}
 use Rattle.std.specs.Option.{option_map}
 use Rattle.std.proofs.lemmas.Bool.{cases_eq, eqb-true}
+use Rattle.value_laws.proofs.Cells.{piece_at-set_same, piece_at-set_other, length-set}
 use Rattle.bit_boards.specs.declared.piece.Side.{Side}
 use Rattle.bit_boards.specs.declared.piece.Piece.{Piece}
 use Rattle.bit_boards.specs.Kind.{other}
 use Rattle.bit_boards.specs.Movement.{IsBetween, StepsAreNear}
 use Rattle.board_core.specs.Board.{Board, piece_at}
-use Rattle.attack_laws.proofs.Cells.{piece_at-set_same, piece_at-set_other, length-set}
 use Rattle.shogi_rules.specs.Rules.{landed_piece, after_board, Reaches, IsClear, AttacksFrom}
 use Rattle.attack_lines.specs.Lines.{is_occupied_without, AttacksWithout, IsShield}
 use Rattle.attack_laws.specs.Unveiled.{IsUnveiled}

@@ -1,4 +1,3 @@
-pub mod Cells
 pub mod Lying
 pub mod Arrived
 pub mod Stopped

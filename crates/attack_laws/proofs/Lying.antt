@@ -1,13 +1,14 @@
 -- How squares lie between squares, and that a piece which slides over a square slides from it.
 use Rattle.std.proofs.Common.{◌≡◌, ◌≢◌, ◌<◌, ◌≤◌, ◌+◌, ◌/◌, ◌%◌, ◌||◌, ◌==◌, ◌⊎◌, inl, inr, ℕ, Bool, true, false, nat_le, IsTrue, arith, refl, sym, ap, ◌∙◌}
-use Rattle.std.proofs.lemmas.Bool.{eqb-true, leb-true, ltb-true, eq-eqb, le-leb, lt-ltb, and_parts, and_from}
+use Rattle.std.proofs.lemmas.Bool.{eqb-true, leb-true, ltb-true, eq-eqb, le-leb, lt-ltb, and_parts, and_from, false≢true, or_cases, or_left, or_right}
+use Rattle.value_laws.proofs.Squares.{near_parts, heights_apart, level, level_back}
 use Rattle.bit_boards.specs.declared.piece.Kind.{Kind}
 use Rattle.bit_boards.specs.declared.piece.Kind.TheVariants.{Pawn, Lance, Knight, Silver, Gold, Bishop, Rook, King}
 use Rattle.bit_boards.specs.declared.piece.Side.{Side}
 use Rattle.bit_boards.specs.declared.piece.Side.TheVariants.{Black, White}
 use Rattle.bit_boards.specs.declared.piece.Piece.{Piece}
 use Rattle.bit_boards.specs.Square.{height}
-use Rattle.bit_boards.specs.Movement.{distance, slides, goes_by_step, goes_by_slide, fits, IsInside, IsBetween, in_reach, are_near, StepsAreNear}
+use Rattle.bit_boards.specs.Movement.{distance, slides, goes_by_step, goes_by_slide, fits, IsInside, IsBetween, are_near, StepsAreNear}
 use Rattle.shogi_rules.specs.Rules.{landed_piece}
 
 -- 1. NUMBERS.
@@ -43,9 +44,6 @@ rest x y z (inr i) = omega arith
 far : (x y z : ℕ) → IsInside x y z → 2 ≤ distance x z
 far x y z (inl i) = omega arith
 far x y z (inr i) = omega arith
-
-nowhere : (x : ℕ) → distance x x ≡ 0
-nowhere x = omega arith
 
 -- 2. SQUARES.
 
@@ -88,16 +86,6 @@ not_over a m b f g = not_first a a b (nested a m a b f g) refl
 
 -- 3. SLIDES.
 
-either : (p q : Bool) → (p || q) ≡ true → (p ≡ true) ⊎ (q ≡ true)
-either true q h = inl refl
-either false q h = inr h
-
-reach_parts : (aside along : ℕ) → in_reach aside along ≡ true → ((aside ≤ 1) × (along ≤ 1)) ⊎ ((aside ≡ 1) × (along ≡ 2))
-reach_parts aside along h = elim (either _ _ h) [
-  | inl near ↦ let p = and_parts _ _ near in let q = and_parts _ _ p.0 in inl (leb-true _ _ q.0, leb-true _ _ q.1)
-  | inr jump ↦ let p = and_parts _ _ jump in inr (eqb-true _ _ p.0, eqb-true _ _ p.1)
-]
-
 -- near squares have nothing between
 near_numbers : (a m b : ℕ) → IsBetween a m b
     → ((distance (a / 9) (b / 9) ≤ 1) × (distance (a % 9) (b % 9) ≤ 1)) ⊎ ((distance (a / 9) (b / 9) ≡ 1) × (distance (a % 9) (b % 9) ≡ 2)) → ⊥
@@ -109,7 +97,7 @@ near_numbers a m b (inr (inr f)) (inl n) = let d = far _ _ _ f.files in omega (a
 near_numbers a m b (inr (inr f)) (inr n) = let d = far _ _ _ f.files in omega (arith, d, n.0)
 
 near_empty : (a m b : ℕ) → IsBetween a m b → are_near a b ≡ true → ⊥
-near_empty a m b between near = near_numbers a m b between (reach_parts _ _ near)
+near_empty a m b between near = near_numbers a m b between (near_parts _ _ near)
 
 lance_inside : (side : Side) (a m b : ℕ) → a / 9 ≡ m / 9 → b / 9 ≡ m / 9 → IsInside (a % 9) (m % 9) (b % 9) → height side a < height side b
     → (distance (m / 9) (b / 9) ≡ 0) × (height side m < height side b)
@@ -124,19 +112,6 @@ lance_from : (side : Side) (a m b : ℕ) → IsBetween a m b → distance (a / 9
 lance_from side a m b (inl f) file up = lance_inside side a m b f.here f.there f.inside up
 lance_from side a m b (inr (inl f)) file up = let d = far _ _ _ f.inside in absurd (omega (arith, d, file))
 lance_from side a m b (inr (inr f)) file up = let d = far _ _ _ f.files in absurd (omega (arith, d, file))
-
--- heights are as far apart as rows
-apart_by_height : (side : Side) (a b : ℕ) → distance (height side a) (height side b) ≡ distance (a % 9) (b % 9)
-apart_by_height Black a b = omega arith
-apart_by_height White a b = refl
-
-same_height : (side : Side) (a b : ℕ) → height side a ≡ height side b → a % 9 ≡ b % 9
-same_height Black a b e = omega arith
-same_height White a b e = e
-
-height_of_row : (side : Side) (a b : ℕ) → a % 9 ≡ b % 9 → height side a ≡ height side b
-height_of_row Black a b e = omega arith
-height_of_row White a b e = e
 
 record IsDiagonal (a b : ℕ) : Type 0 where
   pub away : 1 ≤ distance (a / 9) (b / 9)
@@ -175,78 +150,67 @@ sliding side k p from to = slides k p (distance (from / 9) (to / 9)) (height sid
 bishop_parts : (side : Side) (p : Bool) (a b : ℕ) → sliding side Bishop p a b ≡ true → IsDiagonal a b
 bishop_parts side p a b h =
     let parts = and_parts _ _ h in
-    record { away = leb-true _ _ parts.0; same = eqb-true _ _ parts.1 ∙ apart_by_height side a b }
+    record { away = leb-true _ _ parts.0; same = eqb-true _ _ parts.1 ∙ heights_apart side a b }
 
 bishop_by : (side : Side) (p : Bool) (a b : ℕ) → IsDiagonal a b → sliding side Bishop p a b ≡ true
-bishop_by side p a b d = and_from _ _ (le-leb _ _ d.away) (eq-eqb _ _ (d.same ∙ sym (apart_by_height side a b)))
+bishop_by side p a b d = and_from _ _ (le-leb _ _ d.away) (eq-eqb _ _ (d.same ∙ sym (heights_apart side a b)))
 
 rook_parts : (side : Side) (p : Bool) (a b : ℕ) → sliding side Rook p a b ≡ true
     → ((distance (a / 9) (b / 9) ≡ 0) × (1 ≤ distance (a % 9) (b % 9))) ⊎ ((1 ≤ distance (a / 9) (b / 9)) × (a % 9 ≡ b % 9))
-rook_parts side p a b h = elim (either _ _ h) [
+rook_parts side p a b h = elim (or_cases _ _ h) [
   | inl file ↦
       let parts = and_parts (distance (a / 9) (b / 9) == 0) (nat_le 1 (distance (height side a) (height side b))) file in
-      let same = apart_by_height side a b in
+      let same = heights_apart side a b in
       let away : 1 ≤ distance (height side a) (height side b) = leb-true _ _ parts.1 in
       inl (eqb-true _ _ parts.0, omega (arith, same, away))
-  | inr row ↦ let parts = and_parts _ _ row in inr (leb-true _ _ parts.0, same_height side a b (eqb-true _ _ parts.1))
+  | inr row ↦ let parts = and_parts _ _ row in inr (leb-true _ _ parts.0, level side a b (eqb-true _ _ parts.1))
 ]
-
-by_first : (p q : Bool) → p ≡ true → (p || q) ≡ true
-by_first true q h = refl
-by_first false q h = absurd (cc)
-
-by_second : (p q : Bool) → q ≡ true → (p || q) ≡ true
-by_second true q h = refl
-by_second false q h = h
 
 rook_by : (side : Side) (p : Bool) (a b : ℕ)
     → ((distance (a / 9) (b / 9) ≡ 0) × (1 ≤ distance (a % 9) (b % 9))) ⊎ ((1 ≤ distance (a / 9) (b / 9)) × (a % 9 ≡ b % 9))
     → sliding side Rook p a b ≡ true
 rook_by side p a b (inl s) =
-    let same = apart_by_height side a b in
+    let same = heights_apart side a b in
     let away = s.1 in
-    by_first _ _ (and_from _ _ (eq-eqb _ _ s.0) (le-leb _ _ (omega arith)))
-rook_by side p a b (inr s) = by_second _ _ (and_from _ _ (le-leb _ _ s.0) (eq-eqb _ _ (height_of_row side a b s.1)))
-
-no_slide : {P : Type 0} → false ≡ true → P
-no_slide e = absurd (cc)
+    or_left _ _ (and_from _ _ (eq-eqb _ _ s.0) (le-leb _ _ (omega arith)))
+rook_by side p a b (inr s) = or_right _ _ (and_from _ _ (le-leb _ _ s.0) (eq-eqb _ _ (level_back side a b s.1)))
 
 -- a slide over a square is one from it
 slides_from : (side : Side) (k : Kind) (p : Bool) (a m b : ℕ) → IsBetween a m b → sliding side k p a b ≡ true → sliding side k p m b ≡ true
-slides_from side Pawn p a m b between h = no_slide h
+slides_from side Pawn p a m b between h = absurd (false≢true h)
 slides_from side Lance false a m b between h =
     let parts = and_parts _ _ h in
     let on = lance_from side a m b between (eqb-true _ _ parts.0) (ltb-true _ _ parts.1) in
     and_from _ _ (eq-eqb _ _ on.0) (lt-ltb _ _ on.1)
-slides_from side Lance true a m b between h = no_slide h
-slides_from side Knight p a m b between h = no_slide h
-slides_from side Silver p a m b between h = no_slide h
-slides_from side Gold p a m b between h = no_slide h
+slides_from side Lance true a m b between h = absurd (false≢true h)
+slides_from side Knight p a m b between h = absurd (false≢true h)
+slides_from side Silver p a m b between h = absurd (false≢true h)
+slides_from side Gold p a m b between h = absurd (false≢true h)
 slides_from side Bishop p a m b between h = bishop_by side p m b (bishop_from a m b between (bishop_parts side p a b h))
 slides_from side Rook p a m b between h = rook_by side p m b (rook_from a m b between (rook_parts side p a b h))
-slides_from side King p a m b between h = no_slide h
+slides_from side King p a m b between h = absurd (false≢true h)
 
 -- what slides once it is promoted slid before
 slid_before : (k : Kind) (p q : Bool) (aside low high : ℕ) → slides k (p || q) aside low high ≡ true → slides k p aside low high ≡ true
-slid_before Pawn p q aside low high h = no_slide h
-slid_before Lance true q aside low high h = no_slide h
-slid_before Lance false true aside low high h = no_slide h
+slid_before Pawn p q aside low high h = absurd (false≢true h)
+slid_before Lance true q aside low high h = absurd (false≢true h)
+slid_before Lance false true aside low high h = absurd (false≢true h)
 slid_before Lance false false aside low high h = h
-slid_before Knight p q aside low high h = no_slide h
-slid_before Silver p q aside low high h = no_slide h
-slid_before Gold p q aside low high h = no_slide h
+slid_before Knight p q aside low high h = absurd (false≢true h)
+slid_before Silver p q aside low high h = absurd (false≢true h)
+slid_before Gold p q aside low high h = absurd (false≢true h)
 slid_before Bishop p q aside low high h = h
 slid_before Rook p q aside low high h = h
-slid_before King p q aside low high h = no_slide h
+slid_before King p q aside low high h = absurd (false≢true h)
 
 -- a piece that, landed on a square, goes over its origin to another square went there from its origin
 pub went_before : StepsAreNear → (promote : Bool) (piece : Piece) (to from end : ℕ) → to < 81 → end < 81 → IsBetween to from end
     → IsTrue (fits (landed_piece promote piece) to end) → IsTrue (fits piece from end)
 went_before near promote piece to from end high low between fit =
     let landed = landed_piece promote piece in
-    elim (either (goes_by_step landed to end) (goes_by_slide landed to end) fit) [
+    elim (or_cases (goes_by_step landed to end) (goes_by_slide landed to end) fit) [
       | inl step ↦ absurd (near_empty to from end between (near landed to end high low step))
       | inr slide ↦
           let on = slides_from piece.side piece.kind landed.promoted to from end between slide in
-          by_second (goes_by_step piece from end) (goes_by_slide piece from end) (slid_before piece.kind piece.promoted _ _ _ _ on)
+          or_right (goes_by_step piece from end) (goes_by_slide piece from end) (slid_before piece.kind piece.promoted _ _ _ _ on)
     ]

@@ -1,6 +1,9 @@
 -- What alone keeps a piece off: the one occupied square between; and that such a piece slides.
-use Rattle.std.proofs.Common.{◌≡◌, ℕ, ◌<◌, ◌/◌, ◌%◌, ◌==◌, ◌&&◌, ◌↔◌, List, Option, Some, None, Bool, true, false, not, is_some, IsTrue, IsSomeAnd, arith, inl, inr, refl, sym, ap, subst, ◌∙◌, eq-eqb, ne_eqb}
-use Rattle.std.proofs.lemmas.Bool.{cases_Bool, cases_eq, and_from, or_cases, both_ways, not_from_true, not_from_false}
+use Rattle.std.proofs.Common.{◌≡◌, ℕ, ◌<◌, ◌==◌, ◌&&◌, ◌↔◌, List, Option, Some, None, Bool, true, false, not, is_some, IsTrue, IsSomeAnd, inl, inr, refl, sym, ap, subst, ◌∙◌, eq-eqb, ne_eqb}
+use Rattle.std.proofs.lemmas.Bool.{cases_Bool, cases_eq, and_from, or_cases, both_ways, not_from_true, not_from_false, false≢true}
+use Rattle.value_laws.proofs.Sides.{same_side_itself}
+use Rattle.value_laws.proofs.Squares.{line_back}
+use Rattle.value_laws.proofs.Cells.{empty_of}
 use Rattle.bit_boards.specs.declared.piece.Kind.{Kind}
 use Rattle.bit_boards.specs.declared.piece.Kind.TheVariants.{Pawn, Lance, Knight, Silver, Gold, Bishop, Rook, King}
 use Rattle.bit_boards.specs.declared.piece.Side.{Side}
@@ -9,7 +12,7 @@ use Rattle.bit_boards.specs.declared.piece.Piece.{Piece}
 use Rattle.bit_boards.specs.declared.mask.Mask.{Mask}
 use Rattle.bit_boards.specs.Kind.{can_promote, same_side}
 use Rattle.bit_boards.specs.Mask.{holds, Holds}
-use Rattle.bit_boards.specs.Movement.{fits, distance, slides, goes_by_step, goes_by_slide, on_line, share_line, IsBetween, StepsAreNear, SlidesShareLine}
+use Rattle.bit_boards.specs.Movement.{fits, slides, goes_by_step, goes_by_slide, share_line, IsBetween, StepsAreNear, SlidesShareLine}
 use Rattle.board_core.specs.Board.{piece_at}
 use Rattle.board_core.specs.Sets.{is_of_side, is_slider}
 use Rattle.shogi_rules.specs.Rules.{Reaches}
@@ -45,10 +48,6 @@ alone b m s e there = elim (cases_eq m s) [
   | inl same ↦ same
   | inr other ↦ absurd (both_ways _ e (and_from _ _ there (not_from_false _ (ne_eqb m s other))))
 ]
-
-empty_of : (cell : Option Piece) → is_some cell ≡ false → cell ≡ None
-empty_of None e = refl
-empty_of (Some piece) e = absurd (cc)
 
 abbrev Lifted : List (Option Piece) → Side → ℕ → ℕ → ℕ → Option Piece → Type 0
 Lifted cells side s from to cell =
@@ -92,31 +91,18 @@ kept cells side piece s from to mask is stand k =
 
 -- ---- a piece that is kept off slides
 
-no_slide : {P : Type 0} → false ≡ true → P
-no_slide e = absurd (cc)
-
 -- whatever slides is one of the pieces that slide
 slider : (k : Kind) (promoted : Bool) (side : Side) (can : promoted ≡ true → can_promote k ≡ true) (aside low high : ℕ)
     → slides k promoted aside low high ≡ true → is_slider (Some (record { kind = k; promoted = promoted; side = side; promotes = can })) ≡ true
-slider Pawn p side can a l h e = no_slide e
+slider Pawn p side can a l h e = absurd (false≢true e)
 slider Lance false side can a l h e = refl
-slider Lance true side can a l h e = no_slide e
-slider Knight p side can a l h e = no_slide e
-slider Silver p side can a l h e = no_slide e
-slider Gold p side can a l h e = no_slide e
+slider Lance true side can a l h e = absurd (false≢true e)
+slider Knight p side can a l h e = absurd (false≢true e)
+slider Silver p side can a l h e = absurd (false≢true e)
+slider Gold p side can a l h e = absurd (false≢true e)
 slider Bishop p side can a l h e = refl
 slider Rook p side can a l h e = refl
-slider King p side can a l h e = no_slide e
-
-line_back : (a b : ℕ) → share_line a b ≡ share_line b a
-line_back a b =
-    let files : distance (a / 9) (b / 9) ≡ distance (b / 9) (a / 9) = omega arith in
-    let rows : distance (a % 9) (b % 9) ≡ distance (b % 9) (a % 9) = omega arith in
-    ap (λ x. on_line x (distance (a % 9) (b % 9))) files ∙ ap (λ y. on_line (distance (b / 9) (a / 9)) y) rows
-
-own_side : (side : Side) → same_side side side ≡ true
-own_side Black = refl
-own_side White = refl
+slider King p side can a l h e = absurd (false≢true e)
 
 -- the piece in a cell of which something holds
 some_of : {P : Piece → Type 0} (cell : Option Piece) → IsSomeAnd cell P → (piece : Piece) × (cell ≡ Some piece) × P piece
@@ -143,4 +129,4 @@ kept_on_line near lined cells side s from to h i k =
       | inr slide ↦ and_from _ _ (line_back to from ∙ lined piece from to h i slide)
           (ap is_slider is ∙ slider piece.kind piece.promoted piece.side piece.promotes _ _ _ slide)
     ])
-    (ap (is_of_side side) is ∙ (ap (λ x. same_side x side) own ∙ own_side side))
+    (ap (is_of_side side) is ∙ (ap (λ x. same_side x side) own ∙ same_side_itself side))

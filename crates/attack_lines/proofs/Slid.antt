@@ -1,6 +1,7 @@
 -- Slides go in the directions of their kind, as far back as forth, and no square lies between those of a step.
-use Rattle.std.proofs.Common.{◌≡◌, ℕ, ◌-◌, ◌<◌, ◌≤◌, ◌%◌, ◌/◌, ◌⊎◌, Bool, true, false, arith, inl, inr, sym, ap, ◌∙◌, eq-eqb}
+use Rattle.std.proofs.Common.{◌≡◌, ℕ, ◌-◌, ◌<◌, ◌≤◌, ◌%◌, ◌/◌, ◌⊎◌, Bool, true, false, arith, inl, inr, sym, ◌∙◌, eq-eqb}
 use Rattle.std.proofs.lemmas.Bool.{cases_lt, eqb-true, leb-true, ltb-true, le-leb, lt-ltb, and_parts, and_from, or_left, or_right, or_cases}
+use Rattle.value_laws.proofs.Squares.{heights_apart, level, level_back, near_parts}
 use Rattle.bit_boards.specs.declared.piece.Kind.{Kind}
 use Rattle.bit_boards.specs.declared.piece.Kind.TheVariants.{Lance, Bishop, Rook}
 use Rattle.bit_boards.specs.declared.piece.Side.{Side}
@@ -8,7 +9,7 @@ use Rattle.bit_boards.specs.declared.piece.Side.TheVariants.{Black, White}
 use Rattle.bit_boards.specs.declared.direction.Direction.{Direction}
 use Rattle.bit_boards.specs.declared.direction.Direction.TheVariants.{Up, UpRight, Right, DownRight, Down, DownLeft, Left, UpLeft}
 use Rattle.bit_boards.specs.Direction.{opposite, IsAhead, LiesToward}
-use Rattle.bit_boards.specs.Movement.{distance, slides, in_reach, are_near, IsInside, IsOnDiagonal, IsBetween}
+use Rattle.bit_boards.specs.Movement.{distance, slides, are_near, IsInside, IsOnDiagonal, IsBetween}
 use Rattle.bit_boards.specs.Square.{height}
 use Rattle.attack_lines.specs.Parts.{ahead_of}
 
@@ -22,18 +23,6 @@ Diagonal P = P UpRight ⊎ (P DownRight ⊎ (P DownLeft ⊎ P UpLeft))
 -- a piece of the side and kind slides from the one square to the other
 abbrev pub sliding : Side → Kind → Bool → ℕ → ℕ → Bool
 sliding side kind promoted from to = slides kind promoted (distance (from / 9) (to / 9)) (height side from) (height side to)
-
-heights_apart : (s : Side) (a b : ℕ) → distance (height s a) (height s b) ≡ distance (a % 9) (b % 9)
-heights_apart Black a b = omega arith
-heights_apart White a b = omega arith
-
-level : (s : Side) (a b : ℕ) → height s a ≡ height s b → a % 9 ≡ b % 9
-level Black a b e = omega arith
-level White a b e = e
-
-level_back : (s : Side) (a b : ℕ) → a % 9 ≡ b % 9 → height s a ≡ height s b
-level_back Black a b e = ap (λ x. 8 - x) e
-level_back White a b e = e
 
 -- ---- the lance
 
@@ -152,12 +141,6 @@ between_back a m b (inr (inl r)) = inr (inl (record { here = r.there; there = r.
 between_back a m b (inr (inr g)) = inr (inr (record { here = other_end a m b g; there = omega arith; files = inside_back _ _ _ g.files; rows = inside_back _ _ _ g.rows }))
 
 -- ---- nothing lies between near squares
-
-near_parts : (aside along : ℕ) → in_reach aside along ≡ true → ((aside ≤ 1) × (along ≤ 1)) ⊎ ((aside ≡ 1) × (along ≡ 2))
-near_parts aside along h = elim (or_cases _ _ h) [
-  | inl beside ↦ let parts = and_parts _ _ (and_parts _ _ beside).0 in inl (leb-true _ _ parts.0, leb-true _ _ parts.1)
-  | inr jump ↦ let parts = and_parts _ _ jump in inr (eqb-true _ _ parts.0, eqb-true _ _ parts.1)
-]
 
 near_clear : (a m b : ℕ) → ((distance (a / 9) (b / 9) ≤ 1) × (distance (a % 9) (b % 9) ≤ 1)) ⊎ ((distance (a / 9) (b / 9) ≡ 1) × (distance (a % 9) (b % 9) ≡ 2))
     → IsBetween a m b → ⊥

@@ -4,7 +4,7 @@ use Rattle.std.specs.Int.{bit_at, bit_not, trailing_zeros, w128}
 use Rattle.std.specs.Prelude.{bit_and, bit_or, bit_xor}
 use Rattle.std.proofs.lemmas.Nat.{one_shl, pow_pos, pow_below, div-add-mod'}
 use Rattle.std.proofs.lemmas.Nat.Bits.{bit_at_and, bit_at_or, bit_at_xor, ones_shl, bit_at_mask_below, bit_at_mask_inside, bit_at_not, bit_at-lt, bit_at-pow_same, bit_at-pow_other, bit_at_above, bit_at_ones, bit_at_ones_above, bit_at_cat_low, bit_at_cat_high, bit_at-zero, same_from_bits_below, bit_at-trailing_zeros}
-use Rattle.std.proofs.lemmas.Bool.{cases_eq, cases_lt, lt-ltb, le-ltb, both_ways, eqb-true, and_parts, and_from}
+use Rattle.std.proofs.lemmas.Bool.{cases_eq, cases_lt, lt-ltb, le-ltb, both_ways, eqb-true, and_parts, and_from, or_parts}
 use Rattle.std.proofs.Math.Pow.{pow_mono}
 use Rattle.std.proofs.Math.Nat.{pow-suc, div-eq_of_lt-le}
 
@@ -215,10 +215,6 @@ up_to n i small within = elim (cases_eq n 0) [
   | inr other ↦ rw (less_wraps n (omega arith) small) (up_to_some n i (omega arith) small)
 ]
 
-or_left : (a b : Bool) → (a || b) ≡ false → a ≡ false
-or_left true b h = h
-or_left false b h = refl
-
 or_right : (a b : Bool) → b ≡ false → (a || b) ≡ true → a ≡ true
 or_right true b n h = refl
 or_right false b n h = absurd (both_ways b n h)
@@ -235,7 +231,7 @@ down_to n k i wide low high within = rw (ones_shl 128 k (omega arith)) (elim (ca
         absurd (both_ways _ (none k under) (or_right _ _ one top))),
   )
   | inr from ↦ (
-    (λ has j after. or_left (set n j) (set 1 j) (sym (set_or n 1 j) ∙ unset_is _ j (highest_above _ k j high (omega arith)))),
+    (λ has j after. (or_parts (set n j) (set 1 j) (sym (set_or n 1 j) ∙ unset_is _ j (highest_above _ k j high (omega arith)))).0),
     (λ none. set_is _ i (bit_at_mask_inside k 128 i from (omega arith))),
   )
 ])

@@ -1,9 +1,8 @@
 -- What is seen along a ray: of the squares ahead those before which no occupied one lies.
-use Rattle.std.proofs.Common.{◌≡◌, ℕ, ◌<◌, ◌&&◌, false, Option, Some, None, IfSome, sym, ◌∙◌, ◌↔◌, inl, inr}
+use Rattle.std.proofs.Common.{◌≡◌, ℕ, ◌<◌, ◌&&◌, false, sym, ◌∙◌, ◌↔◌, inl, inr}
 use Rattle.std.proofs.lemmas.Bool.{cases_Bool, and_parts, and_from, both_ways}
 use Rattle.bit_boards.specs.declared.direction.Direction.{Direction}
 use Rattle.bit_boards.specs.declared.mask.Mask.{Mask}
-use Rattle.bit_boards.specs.declared.square.Square.{Square}
 use Rattle.bit_boards.specs.Mask.{holds, Holds}
 use Rattle.bit_boards.specs.Direction.{IsAhead, LiesToward, IsSeen}
 use Rattle.bit_boards.proofs.Ahead.{nearer, between_by, between_within}
@@ -41,11 +40,3 @@ unseen occupied ahead met d from to Before order l s t before = elim (cases_Bool
       absurd (s.clear t (between_by d from s.toward.1 to lies.1 t s.toward.2 lies.2 j) parts.1)
   | inr none ↦ none
 ]
-
-pub some_seen : (occupied ahead met : Mask) (d : Direction) (from : ℕ) (Before : ℕ → ℕ → Type 0) → Orders d from Before
-    → Looks occupied ahead met d from → (found : Option Square) → IfSome found (λ square. Holds met square.number)
-    → IfSome found (λ square. (s : ℕ) → Before s square.number → holds met s ≡ false) → IfSome found (λ square. IsSeen occupied d from square.number)
-some_seen occupied ahead met d from Before order l None has first = tt
-some_seen occupied ahead met d from Before order l (Some square) has first =
-    let parts = and_parts _ _ (sym (l.meets square.number) ∙ has) in
-    seen occupied ahead met d from square.number Before order l parts.0 first

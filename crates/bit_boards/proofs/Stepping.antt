@@ -144,7 +144,7 @@ height_small : (s : Side) (n : ℕ) → height s n < 9
 height_small Black n = omega arith
 height_small White n = omega arith
 
-heights_apart : (s : Side) (a b : ℕ) → distance (height s a) (height s b) ≡ distance (a % 9) (b % 9)
+pub heights_apart : (s : Side) (a b : ℕ) → distance (height s a) (height s b) ≡ distance (a % 9) (b % 9)
 heights_apart Black a b = omega arith
 heights_apart White a b = omega arith
 

@@ -24,7 +24,7 @@ pub use laws::mask_laws;
 pub use mask::Mask;
 pub use movement::fits;
 pub use piece::{Kind, Piece, Side};
-pub use rays::{between, direction_to, first_met, lines, open_ray, ray};
+pub use rays::{between, direction_to, lines, open_ray, ray};
 pub use reach::{around, steps, steps_to};
 pub use square::Square;
 pub use squares::Squares;

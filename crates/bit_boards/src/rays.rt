@@ -30,20 +30,6 @@ pub fn ray(from: Square, direction: Direction, occupied: Mask) -> Mask
     }
 }
 
-/// The first occupied square in a direction from a square; none where all squares up to the edge are empty.
-pub fn first_met(from: Square, direction: Direction, occupied: Mask) -> Option<Square>
-    ensures seen { IfSome result (λ square. IsSeen occupied direction from.number square.number) }
-    ensures occupied { IfSome result (λ square. Holds occupied square.number) }
-    ensures none { IfNone result ((to : ℕ) → LiesToward direction from.number to → holds occupied to ≡ false) }
-{
-    let met = open_ray(from, direction).and(occupied);
-    if direction.rises() {
-        met.first()
-    } else {
-        met.last()
-    }
-}
-
 /// The direction in which a square lies from another; none where they share no file, row or diagonal, or are one.
 pub fn direction_to(from: Square, to: Square) -> Option<Direction>
     ensures toward { IfSome result (λ direction. LiesToward direction from.number to.number) }

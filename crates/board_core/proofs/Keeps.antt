@@ -62,7 +62,7 @@ pawn_side side p h = same_side_is p.side side ((and_parts _ _ (and_parts _ _ h).
 king_facts : (side : Side) (p : Piece) → is_king_of side (Some p) ≡ true → (p.kind ≡ King) × (p.side ≡ side)
 king_facts side p h = (same_kind_is p.kind King ((and_parts _ _ h).0), same_side_is p.side side ((and_parts _ _ h).1))
 
-one_if_most : (t : Bool) → one_if t ≤ 1
+pub one_if_most : (t : Bool) → one_if t ≤ 1
 one_if_most true = omega arith
 one_if_most false = omega arith
 

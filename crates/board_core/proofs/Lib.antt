@@ -15,3 +15,4 @@ pub mod RestKept
 pub mod Squares
 pub mod Packed
 pub mod Changed
+pub mod Built

@@ -6,7 +6,7 @@ use Rattle.board_core.specs.declared.moves.Move.{Move}
 use Rattle.board_core.specs.Order.{order_of, RisesFrom}
 
 -- a move of a list that rises from a place in the order comes no sooner than that place
-rises_at : (low : ℕ) (moves : List Move) → RisesFrom low moves → (i : ℕ) (a : Move) → slice_get moves i ≡ Some a → low ≤ order_of a
+pub rises_at : (low : ℕ) (moves : List Move) → RisesFrom low moves → (i : ℕ) (a : Move) → slice_get moves i ≡ Some a → low ≤ order_of a
 rises_at low [] r i a e = absurd (cc)
 rises_at low (m ∷ ms) r zero a e =
     let o = ap order_of (same_Some m a e) in

@@ -10,3 +10,4 @@ pub mod Code
 pub mod Sets
 pub mod Packed
 pub mod Rest
+pub mod KeyOrder

@@ -1,7 +1,7 @@
 // What is true of all squares, kinds and moves: each law is the clause of a call that does nothing.
 ghost use Rattle.board_core.specs.Laws.{SquaresApart};
 ghost use Rattle.board_core.specs.Laws.{PlacesApart, PlacesInHand};
-ghost use Rattle.board_core.specs.Laws.{LettersApart};
+ghost use Rattle.board_core.specs.Laws.{BuiltOnce, LettersApart};
 ghost use Rattle.board_core.specs.Order.{OrdersApart, OrdersByOrigin, OrdersWithin, PlacesInOrder};
 
 /// Laws about squares and kinds: no two squares have one number, and no two kinds one place in their order or one letter; those
@@ -23,3 +23,12 @@ pub fn order_laws()
     ensures within { OrdersWithin }
     ensures places { PlacesInOrder }
 {}
+
+/// A law about what is built of cells, hands and a side: it is one position, or has one first fault. Does nothing; whoever says of
+/// a text what it stands for calls it to know this. Takes no memory.
+pub fn build_laws()
+    ensures once { BuiltOnce }
+{
+    // No two squares have one number, and no two kinds one place: so no two faults have one place in their order.
+    value_laws();
+}

@@ -23,7 +23,7 @@ pub use bit_boards::{Kind, Piece, Side, Square};
 pub use build::BadPosition;
 pub use hand::Hand;
 pub use keys::Key;
-pub use laws::{order_laws, value_laws};
+pub use laws::{build_laws, order_laws, value_laws};
 pub use leftover::rest;
 pub use moves::Move;
 pub use pack::{key, same_key};

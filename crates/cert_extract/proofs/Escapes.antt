@@ -21,10 +21,11 @@ use Rattle.position_places.specs.Places.{ArePlacesOf, IsWith, IsPlaceOrNext}
 use Rattle.list_laws.proofs.Standing.{contained}
 use Rattle.notes.specs.Valid.{IsValid}
 use Rattle.notes.specs.Derivation.{Derivation, attacker_of, conclusion_of, position_of, tag_of}
+use Rattle.notes.proofs.Offered.{valid_kept}
 use Rattle.cert_extract.specs.Tree.{two_under}
 use Rattle.cert_extract.specs.Extracted.{IsEscapeFrom}
 use Rattle.cert_extract.proofs.Trees.{in_itself, in_reverse, of_reverse}
-use Rattle.cert_extract.proofs.Rules.{IsPending, EscapesDown, escapes_down, kept_at, problem_at}
+use Rattle.cert_extract.proofs.Rules.{IsPending, EscapesDown, escapes_down, problem_at}
 
 -- the position is that of a note that is yet to be walked
 abbrev pub IsAhead : List Derivation → Board → Type 0
@@ -116,7 +117,7 @@ module _ (p : Board) (top : Derivation) (positions : List Board) (rest : List De
     | inl before ↦ walk.listed b before
     | inr same ↦ subst (IsListed p.side top) same (record {
       from = record { note = note; within = here_pending.within; about = refl; concludes = here_pending.concludes };
-      kept = kept_at note here_pending.valid;
+      kept = valid_kept note here_pending.valid;
       is_problem = problem_at Escape p.side top note here_pending;
       turn = here_pending.turn;
     })

@@ -20,10 +20,11 @@ use Rattle.cert_order.specs.Entries.{AreMateEntries}
 use Rattle.notes.specs.declared.rule.Rule.TheVariants.{MateBy}
 use Rattle.notes.specs.declared.rule.Conclusion.TheVariants.{Mate}
 use Rattle.notes.specs.Derivation.{Derivation, position_of, rule_of, height_of}
+use Rattle.notes.proofs.Offered.{valid_kept}
 use Rattle.cert_extract.specs.Tree.{two_under}
 use Rattle.cert_extract.specs.Extracted.{IsMateFrom}
 use Rattle.cert_extract.proofs.Trees.{in_reverse, of_reverse}
-use Rattle.cert_extract.proofs.Rules.{IsPending, MatesDown, mates_down, kept_at, problem_at}
+use Rattle.cert_extract.proofs.Rules.{IsPending, MatesDown, mates_down, problem_at}
 use Rattle.position_places.specs.declared.places.Places.{Places}
 use Rattle.position_places.specs.Places.{ArePlacesOf, IsPlaceOrNext}
 use Rattle.shogi_rules.specs.Laws.{LegalBoardMoves}
@@ -179,10 +180,10 @@ module _ (p : Board) (top : Derivation) (entries : List MateEntry) (rest : List 
     pub its_listed : IsListedMate p.side top entry
     its_listed = record {
       from = record { note = note; within = here_pending.within; about = sym is.about; by = is.by; high = is.high };
-      kept = subst IsKept (sym is.about) (kept_at note here_pending.valid);
+      kept = subst IsKept (sym is.about) (valid_kept note here_pending.valid);
       is_problem = subst IsProblem (sym is.about) (problem_at Mate p.side top note here_pending);
       turn = ap (λ (b : Board). b.side) is.about ∙ here_pending.turn;
-      has_text = check_has_text goes p.side entry.at entry.by (subst IsKept (sym is.about) (kept_at note here_pending.valid)) its_check;
+      has_text = check_has_text goes p.side entry.at entry.by (subst IsKept (sym is.about) (valid_kept note here_pending.valid)) its_check;
     }
 
     its_borne : (more : List MateEntry) → IsBorne p.side more ahead entry

@@ -4,6 +4,7 @@ use Rattle.std.specs.Prelude.{nat_eq}
 use Rattle.std.specs.Cmp.Lexicographic.{pointwise, bytes_decides}
 use Rattle.std.proofs.lemmas.Bool.{cases_Bool}
 use Rattle.std.proofs.lemmas.Option.{slice_get-get_or}
+use Rattle.value_laws.proofs.Sides.{other_twice, other_apart}
 use Rattle.bit_boards.specs.declared.piece.Side.{Side}
 use Rattle.bit_boards.specs.declared.piece.Side.TheVariants.{Black, White}
 use Rattle.bit_boards.specs.Kind.{other}
@@ -13,9 +14,10 @@ use Rattle.board_core.specs.declared.moves.Move.TheVariants as moves
 use Rattle.board_core.specs.Board.{Board, kings_of}
 use Rattle.board_core.specs.Kept.{IsKept}
 use Rattle.board_core.specs.Key.{key_of}
-use Rattle.list_laws.proofs.Standing.{at_place, contained}
+use Rattle.list_laws.proofs.Standing.{at_place, contained, first_of}
 use Rattle.shogi_rules.specs.Rules.{after}
 use Rattle.shogi_rules.specs.Tsume.{IsCheck, IsEvasion, IsProblem}
+use Rattle.shogi_rules.proofs.Offered.{turn_after, after_check, after_evasion}
 use Rattle.mate_def.specs.Mate.{after_both, HasEvasionTo}
 use Rattle.notes.specs.declared.rule.Rule.{Rule}
 use Rattle.notes.specs.declared.rule.Rule.TheVariants.{MateEnd, MateAll, MateBy, EscapeEnd, EscapeBy, EscapeRepeat, EscapeAll}
@@ -23,32 +25,11 @@ use Rattle.notes.specs.declared.rule.Conclusion.{Conclusion}
 use Rattle.notes.specs.declared.rule.Conclusion.TheVariants.{Mate, Escape}
 use Rattle.notes.specs.Derivation.{Step, Derivation, derived, listed, step_of, under_of, rule_of, attacker_of, position_of, tag_of, height_of, conclusion_of, concluded, highest}
 use Rattle.notes.specs.Valid.{Says, SayEach, IsValid, IsKeyAlone, meets}
+use Rattle.notes.proofs.Offered.{note_after, height_le}
 use Rattle.cert_extract.specs.Tree.{IsIn, two_under}
 use Rattle.cert_extract.proofs.Trees.{under_in, valid_one, from_flat, in_flat}
 
 -- 1. Sides and lists
-
-other_apart : (side : Side) → other side ≡ side → ⊥
-other_apart Black e = absurd (cc)
-other_apart White e = absurd (cc)
-
-other_back : (side : Side) → other (other side) ≡ side
-other_back Black = refl
-other_back White = refl
-
-turn_after : (b : Board) (move : Move) → (after b move).side ≡ other b.side
-turn_after b (moves.Board from to promote) = refl
-turn_after b (moves.Drop dropped to) = refl
-
-after_check : (attacker : Side) (b : Board) (check : Move) → IsCheck attacker b check → (after b check).side ≡ other attacker
-after_check attacker b check is = turn_after b check ∙ ap other is.mover
-
-after_evasion : (attacker : Side) (b : Board) (evasion : Move) → IsEvasion attacker b evasion → (after b evasion).side ≡ attacker
-after_evasion attacker b evasion is = turn_after b evasion ∙ (ap other is.mover ∙ other_back attacker)
-
-first_of : {X : Type 0} (xs : List X) → 0 < length xs → (x : X) × Contains xs x
-first_of [] some = absurd (omega (arith, some))
-first_of (x ∷ xs) some = (x, (zero, omega arith, refl))
 
 none_of : {X : Type 0} (xs : List X) (x : X) → xs ≡ [] → Contains xs x → ⊥
 none_of {X} xs x none c = let gone = subst (λ (ys : List X). Contains ys x) none c in let inside = gone.1 in omega (arith, inside)
@@ -63,17 +44,6 @@ only_of {X} xs x y alone c = only (subst (λ (ys : List X). Contains ys y) alone
 in_alone : {X : Type 0} (xs : List X) (x : X) → xs ≡ x ∷ [] → Contains xs x
 in_alone {X} xs x alone = subst (λ (ys : List X). Contains ys x) (sym alone) (zero, omega arith, refl)
 
--- the note after a move of a list
-note_after : (conclusion : Conclusion) (attacker : Side) (b : Board) (all : List Move) (notes : List Derivation) (move : Move)
-    → SayEach conclusion attacker b all notes → Contains all move
-    → (note : Derivation) × Contains notes note × Says conclusion attacker (after b move) note
-note_after conclusion attacker b [] notes move say c = absurd (let inside = c.1 in omega (arith, inside))
-note_after conclusion attacker b (first ∷ rest) [] move say c = absurd (let many = say.as_many in omega (arith, many))
-note_after conclusion attacker b (first ∷ rest) (note ∷ notes) move say c =
-    let inside : c.0 < length (note ∷ notes) = let many = say.as_many in let within = c.1 in omega (arith, many, within) in
-    let there = slice_get-get_or (note ∷ notes) c.0 note inside in
-    (_, contained (note ∷ notes) c.0 _ there, say.each c.0 move _ (at_place (first ∷ rest) move c) there)
-
 -- the move of a list that leads to a note
 move_of : (conclusion : Conclusion) (attacker : Side) (b : Board) (all : List Move) (notes : List Derivation) (note : Derivation)
     → SayEach conclusion attacker b all notes → Contains notes note
@@ -83,11 +53,6 @@ move_of conclusion attacker b (first ∷ rest) notes note say c =
     let inside : c.0 < length (first ∷ rest) = let many = say.as_many in let within = c.1 in omega (arith, many, within) in
     let there = slice_get-get_or (first ∷ rest) c.0 first inside in
     (_, contained (first ∷ rest) c.0 _ there, say.each c.0 _ note there (at_place notes note c))
-
-height_le : (notes : List Derivation) (note : Derivation) → Contains notes note → height_of note ≤ highest notes
-height_le [] note c = absurd (let inside = c.1 in omega (arith, inside))
-height_le (first ∷ notes) note (zero, inside, e) = let same : height_of first ≡ height_of note = ap height_of e in omega (arith, same)
-height_le (first ∷ notes) note (suc k, inside, e) = let up = height_le notes note (k, omega (arith, inside), e) in omega (arith, up)
 
 -- 2. A step of an escape
 
@@ -225,9 +190,6 @@ pub record IsPending (conclusion : Conclusion) (attacker : Side) (top note : Der
 
 valid_below : (note next : Derivation) → IsValid note → Contains (under_of note) next → IsValid next
 valid_below (derived s notes) next v c = valid_one notes next c v.0
-
-pub kept_at : (note : Derivation) → IsValid note → IsKept (position_of note)
-kept_at (derived s notes) v = v.1.kept
 
 pub problem_at : (conclusion : Conclusion) (attacker : Side) (top note : Derivation) → IsPending conclusion attacker top note → IsProblem (position_of note)
 problem_at conclusion attacker top (derived s notes) h = record {

@@ -1,5 +1,6 @@
 -- A check has a text.
 use Rattle.std.proofs.Common.{◌≡◌, ◌≤◌, ℕ, zero, suc, List, [], ◌∷◌, length, get_or, arith, refl, sym, subst}
+use Rattle.std.proofs.lemmas.List.{get_or_past}
 use Rattle.bit_boards.specs.declared.piece.Kind.{Kind}
 use Rattle.bit_boards.specs.declared.piece.Kind.TheVariants.{King}
 use Rattle.bit_boards.specs.declared.piece.Side.{Side}
@@ -14,11 +15,6 @@ use Rattle.shogi_rules.specs.Laws.{LegalBoardMoves}
 use Rattle.shogi_rules.specs.declared.illegal.Illegal.TheVariants.{NotInHand}
 use Rattle.shogi_rules.specs.Tsume.{IsCheck}
 
-beyond : (xs : List ℕ) (k : ℕ) → length xs ≤ k → get_or xs k 0 ≡ 0
-beyond [] k h = refl
-beyond (x ∷ xs) zero h = absurd (omega (arith, h))
-beyond (x ∷ xs) (suc k) h = beyond xs k (omega (arith, h))
-
 hand_long : (b : Board) (side : Side) → IsKept b → length (hand_of b side) ≤ 7
 hand_long b Black kept = let e = kept.black in omega (arith, e)
 hand_long b White kept = let e = kept.white in omega (arith, e)
@@ -28,5 +24,5 @@ check_has_text goes attacker b (moves.Board from to promote) kept is =
     λ e. let can = (goes b from.number to.number promote).0 is.legal in can.free (subst (IsOwn b) e can.own)
 check_has_text goes attacker b (moves.Drop dropped to) kept is =
     λ e.
-    let none : hand_count (hand_of b b.side) King ≡ 0 = beyond (hand_of b b.side) 7 (hand_long b b.side kept) in
+    let none : hand_count (hand_of b b.side) King ≡ 0 = get_or_past (hand_of b b.side) 7 0 (hand_long b b.side kept) in
     is.legal NotInHand (subst (λ (k : Kind). hand_count (hand_of b b.side) k ≡ 0) (sym e) none)

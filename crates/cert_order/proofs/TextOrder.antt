@@ -17,7 +17,8 @@ use Rattle.std.proofs.lemmas.Map.Lookups.{exact_bytes}
 use Rattle.std.proofs.lemmas.Map.Entries.{place_from_lookup, btree_map_get_place}
 use Rattle.std.proofs.lemmas.Map.Keys.{Less-from_sorted, sorted_tail}
 use Rattle.std.proofs.lemmas.Option.{same_Some}
-use Rattle.list_laws.proofs.Mapped.{equal_from, written, unwritten}
+use Rattle.value_laws.proofs.Keys.{equal_of}
+use Rattle.list_laws.proofs.Mapped.{written, unwritten}
 use Rattle.board_core.specs.Board.{Board}
 use Rattle.board_core.specs.Kept.{IsKept}
 use Rattle.sfen_text.specs.Spelling.{sfen_of}
@@ -63,7 +64,7 @@ none_yet positions by_text empty = record {
 }
 
 same_text : (a k : Text) → is_at (text_cmp a) k ≡ true → a.items ≡ k.items
-same_text a k h = exact_bytes a.items k.items (equal_from (text_cmp a k) h)
+same_text a k h = exact_bytes a.items k.items (equal_of (text_cmp a k) h)
 
 at_itself : (a : Text) → is_at (text_cmp a) a ≡ true
 at_itself a = ap is_eq (tied_itself nat_list_cmp_total a.items)

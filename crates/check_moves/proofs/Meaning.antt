@@ -1,10 +1,12 @@
 -- What makes a legal move a check: the piece that moved reaches the king, or another is unveiled.
 use Rattle.std.proofs.Common.{◌≡◌, ◌≢◌, ◌<◌, ◌/◌, ◌&&◌, ◌||◌, ◌⊎◌, ◌↔◌, inl, inr, ℕ, List, Option, Some, None, Bool, true, false, length, not, IsTrue, IsSome, arith, refl, sym, ap, subst, ◌∙◌}
 use Rattle.std.specs.Prelude.{IsSomeAnd}
-use Rattle.std.proofs.lemmas.Bool.{cases_eq, and_parts}
+use Rattle.std.proofs.lemmas.Bool.{cases_eq, and_parts, or_cases, or_left, or_right, not-true}
+use Rattle.std.proofs.lemmas.Option.{same_Some}
+use Rattle.value_laws.proofs.Cells.{piece_at-set_same, piece_at-set_other, no_king_here}
+use Rattle.value_laws.proofs.Sides.{other_twice, sides_differ}
 use Rattle.bit_boards.specs.declared.piece.Kind.{Kind}
 use Rattle.bit_boards.specs.declared.piece.Side.{Side}
-use Rattle.bit_boards.specs.declared.piece.Side.TheVariants.{Black, White}
 use Rattle.bit_boards.specs.declared.piece.Piece.{Piece}
 use Rattle.bit_boards.specs.declared.square.Square.{Square}
 use Rattle.bit_boards.specs.Kind.{other, same_side, can_promote}
@@ -17,7 +19,6 @@ use Rattle.board_core.specs.Board.{Board, piece_at, is_king_of}
 use Rattle.board_core.specs.Kept.{IsKept}
 use Rattle.board_core.specs.declared.moves.Move.{Move}
 use Rattle.board_core.specs.declared.moves.Move.TheVariants as moves
-use Rattle.attack_laws.proofs.Cells.{piece_at-set_same, piece_at-set_other}
 use Rattle.shogi_rules.specs.declared.illegal.Illegal.{Illegal}
 use Rattle.shogi_rules.specs.declared.illegal.Illegal.TheVariants.{NotThere, OwnPiece}
 use Rattle.shogi_rules.specs.Rules.{landed_piece, after_board, after_drop, promotion_fits, Reaches, IsClear, AttacksFrom, IsInCheck, IsQuiet, IsOwn, RefusesBoard, RefusesDrop}
@@ -37,10 +38,6 @@ pub record StandsQuiet (b : Board) (end : ℕ) : Type 0 where
   pub only : (s : ℕ) → is_king_of (other b.side) (piece_at b.cells s) ≡ true → s ≡ end
   pub unattacked : (s : ℕ) → s < 81 → ¬ AttacksFrom b.cells b.side s end
 
-other_twice : (s : Side) → other (other s) ≡ s
-other_twice Black = refl
-other_twice White = refl
-
 pub stands_quiet : (b : Board) (end : ℕ) → IsKept b → IsQuiet b → end < 81 → is_king_of (other b.side) (piece_at b.cells end) ≡ true
     → ((s : ℕ) → is_king_of (other b.side) (piece_at b.cells s) ≡ true → s ≡ end) → StandsQuiet b end
 stands_quiet b end kept quiet low king only = record {
@@ -58,19 +55,9 @@ stands_quiet b end kept quiet low king only = record {
   );
 }
 
-and_second : (p q : Bool) → (p && q) ≡ true → q ≡ true
-and_second p q h = let t = and_parts p q h in t.1
-
-sides_differ : (side : Side) → same_side side (other side) ≡ true → ⊥
-sides_differ Black h = cc
-sides_differ White h = cc
-
 -- a piece of the one side is no king of the other
 no_foe : (piece : Piece) (side : Side) → piece.side ≡ side → is_king_of (other side) (Some piece) ≡ true → ⊥
-no_foe piece side own is = sides_differ side (subst (λ (s : Side). same_side s (other side) ≡ true) own (and_second _ _ is))
-
-foe_gone : (cell : Option Piece) (side : Side) → cell ≡ None → is_king_of side cell ≡ true → ⊥
-foe_gone cell side e h = let f : is_king_of side cell ≡ false = ap (is_king_of side) e in absurd (cc)
+no_foe piece side own is = sides_differ side (subst (λ (s : Side). same_side s (other side) ≡ true) own ((and_parts _ _ is).1))
 
 in_check_of : (cells : List (Option Piece)) (side : Side) (end s : ℕ) → end < 81 → is_king_of (other side) (piece_at cells end) ≡ true → s < 81
     → AttacksFrom cells side s end → IsInCheck cells (other side)
@@ -149,7 +136,7 @@ king_was b from to promote piece long g s is =
     elim (cases_eq s to) [
       | inl e ↦ absurd (no_foe (landed_piece promote piece) b.side g.own (subst (λ (c : Option Piece). is_king_of (other b.side) c ≡ true) (ap (piece_at new) e ∙ a.stands) is))
       | inr n ↦ elim (cases_eq s from) [
-        | inl e ↦ absurd (foe_gone (piece_at new s) (other b.side) (ap (piece_at new) e ∙ a.left) is)
+        | inl e ↦ absurd (no_king_here (piece_at new s) (other b.side) (ap (piece_at new) e ∙ a.left) is)
         | inr m ↦ ap (is_king_of (other b.side)) (sym (a.elsewhere s n m)) ∙ is
       ]
     ]
@@ -162,9 +149,6 @@ only_after b from to promote piece end q g s is = q.only s (king_was b from to p
 abbrev pub Aims : Board → ℕ → ℕ → Piece → ℕ → Type 0
 Aims b from to landed end = Reaches b.cells landed to end ⊎ IsUnveiled b.cells b.side from to end
 
-same_some : (a b : Piece) → Some a ≡ Some b → a ≡ b
-same_some a b h = cc
-
 aims_of : StepsAreNear → (b : Board) (from to : ℕ) (promote : Bool) (piece : Piece) (end : ℕ) → StandsQuiet b end → Goes b from to piece
     → Attacker (after_board b from to promote).cells b.side end → Aims b from to (landed_piece promote piece) end
 aims_of near b from to promote piece end q g k =
@@ -173,7 +157,7 @@ aims_of near b from to promote piece end q g k =
     elim (cases_eq k.from to) [
       | inl e ↦
           let t = some_of (piece_at new k.from) _ k.attack in
-          let same : t.0 ≡ landed_piece promote piece = same_some _ _ (sym t.1 ∙ (ap (piece_at new) e ∙ a.stands)) in
+          let same : t.0 ≡ landed_piece promote piece = same_Some _ _ (sym t.1 ∙ (ap (piece_at new) e ∙ a.stands)) in
           let reach = subst (λ (x : ℕ). Reaches new (landed_piece promote piece) x end) e (subst (λ (p : Piece). Reaches new p k.from end) same t.2.1) in
           inl (reaches_before near b.cells new from to promote piece end g.on_board q.low a g.there
           (subst (λ (s : Side). ¬ AttacksFrom b.cells s from end) (sym g.own) (q.unattacked from g.start)) reach)
@@ -255,7 +239,7 @@ attacks_undropped old new side to piece from end s apart attack =
 king_dropped : (b : Board) (kind : Kind) (to end : ℕ) → StandsQuiet b end → Stands b.cells (after_drop b kind to).cells to (plain_piece kind b.side)
     → is_king_of (other b.side) (piece_at (after_drop b kind to).cells end) ≡ true
 king_dropped b dropped to end q s =
-    let n : end ≢ to = λ e. foe_gone (piece_at b.cells end) (other b.side) (ap (piece_at b.cells) e ∙ s.before) q.king in
+    let n : end ≢ to = λ e. no_king_here (piece_at b.cells end) (other b.side) (ap (piece_at b.cells) e ∙ s.before) q.king in
     ap (is_king_of (other b.side)) (s.elsewhere end n) ∙ q.king
 
 king_stood : (b : Board) (kind : Kind) (to : ℕ) → Stands b.cells (after_drop b kind to).cells to (plain_piece kind b.side)
@@ -279,7 +263,7 @@ reach_of_drop b kind to end q s k =
     elim (cases_eq k.from to) [
       | inl e ↦
           let t = some_of (piece_at new k.from) _ k.attack in
-          let same : t.0 ≡ piece = same_some _ _ (sym t.1 ∙ (ap (piece_at new) e ∙ s.now)) in
+          let same : t.0 ≡ piece = same_Some _ _ (sym t.1 ∙ (ap (piece_at new) e ∙ s.now)) in
           let reach = subst (λ (x : ℕ). Reaches new piece x end) e (subst (λ (p : Piece). Reaches new p k.from end) same t.2.1) in
           reaches_undropped b.cells new to piece end s reach
       | inr n ↦ absurd (q.unattacked k.from k.low (attacks_undropped b.cells new b.side to piece k.from end s n k.attack))
@@ -352,25 +336,9 @@ reached_alike cells aims p q to end kind promoted side are = (
   λ r. are.1 (r.0, reaches_alike cells q p to end (sym kind) (sym promoted) (sym side) r.1),
 )
 
-either_of : (p q : Bool) → (p || q) ≡ true → (p ≡ true) ⊎ (q ≡ true)
-either_of true q h = inl refl
-either_of false q h = inr h
-
-or_one : (p q : Bool) → p ≡ true → (p || q) ≡ true
-or_one true q e = refl
-or_one false q e = absurd (cc)
-
-not_true : (p : Bool) → not p ≡ true → p ≡ false
-not_true false h = refl
-not_true true h = absurd (cc)
-
 pub or_false : (p : Bool) → (p || false) ≡ p
 or_false true = refl
 or_false false = refl
-
-pub or_true : (p q : Bool) → q ≡ true → (p || q) ≡ true
-or_true true q e = refl
-or_true false q e = e
 
 -- a piece that is promoted by a legal move wasn't, and can be
 pub promotable : LegalBoardMoves → (b : Board) (from to : ℕ) (piece : Piece) → piece_at b.cells from ≡ Some piece
@@ -380,7 +348,7 @@ promotable laws b from to piece there legal =
     let fit = subst (λ (c : Option Piece). IsSomeAnd c (λ p. IsTrue (promotion_fits p from to true))) there can.promotion in
     let both = and_parts (not piece.promoted && can_promote piece.kind) _ fit in
     let parts = and_parts (not piece.promoted) (can_promote piece.kind) both.0 in
-    (not_true piece.promoted parts.0, parts.1)
+    (not-true piece.promoted parts.0, parts.1)
 
 -- the squares where a piece's move opens a line or aims at the king, as far as it may go there, are those of its checks
 pub board_checks_are : StepsAreNear → LegalBoardMoves → (b : Board) (end : ℕ) → StandsQuiet b end → (from to : Square) (promote : Bool) (piece : Piece)
@@ -398,7 +366,7 @@ board_checks_are near laws b end q from to promote piece there made wanted unvei
           let free : ¬ IsOwn b to.number = λ own. m.1 OwnPiece own in
           means.1 (
             m.1,
-            elim (either_of _ _ (sym either ∙ m.0)) [
+            elim (or_cases _ _ (sym either ∙ m.0)) [
               | inl u ↦ inr ((unveil free).0 u)
               | inr r ↦ inl (let t = (aim m.1).0 r in t.1)
             ],
@@ -408,8 +376,8 @@ board_checks_are near laws b end q from to promote piece there made wanted unvei
           let free : ¬ IsOwn b to.number = λ own. m.0 OwnPiece own in
           are.1 (
             either ∙ elim m.1 [
-              | inr u ↦ or_one _ _ ((unveil free).1 u)
-              | inl r ↦ or_true _ _ ((aim m.0).1 (to.on_board, r))
+              | inr u ↦ or_left _ _ ((unveil free).1 u)
+              | inl r ↦ or_right _ _ ((aim m.0).1 (to.on_board, r))
             ],
             m.0,
           ),

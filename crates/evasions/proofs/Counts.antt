@@ -4,6 +4,7 @@ use Rattle.std.specs.List.{filter, list_any, range_with_len}
 use Rattle.std.proofs.lemmas.Bool.{cases_lt, eqb-true, or_cases, or_left, or_right}
 use Rattle.std.proofs.lemmas.List.Sums.{length-filter, sum_by-cons}
 use Rattle.std.proofs.lemmas.List.Folds.{Any-from_list_any, list_any-from_Any}
+use Rattle.value_laws.proofs.Truth.{same_truth}
 use Rattle.bit_boards.specs.declared.square.Square.{Square}
 use Rattle.bit_boards.specs.declared.piece.Kind.{Kind}
 use Rattle.bit_boards.specs.declared.piece.Kind.TheVariants.{Pawn, Lance, Knight, Silver, Gold, Bishop, Rook, King}
@@ -16,9 +17,10 @@ use Rattle.board_core.specs.Board.{Board}
 use Rattle.board_core.specs.Kept.{IsKept}
 use Rattle.board_core.specs.Laws.{PlacesApart}
 use Rattle.board_core.specs.Order.{order_of, RisesFrom, Lists, OrdersApart, OrdersByOrigin}
-use Rattle.list_laws.proofs.MoveLists.{Before, lists_one}
+use Rattle.list_laws.proofs.MoveLists.{Before, lists_one, first_or_rest}
 use Rattle.list_laws.proofs.Counted.{AreBefore, square_of}
 use Rattle.list_laws.proofs.Adding.{lists_nothing}
+use Rattle.list_laws.proofs.Totals.{counted}
 use Rattle.evasions.specs.Answers.{is_on_board, is_drop_on, answers_of}
 use Rattle.evasions.specs.Before.{IsDropSquare, AreDropSquares}
 use Rattle.evasions.proofs.Evading.{Evasion, no_king_drop}
@@ -36,10 +38,6 @@ rises_one false low x xs up h = rises_lower low (order_of x + 1) xs (omega (arit
 rises_kept : (p : Move → Bool) (low : ℕ) (xs : List Move) → RisesFrom low xs → RisesFrom low (filter p xs)
 rises_kept p low [] h = tt
 rises_kept p low (x ∷ xs) h = rises_one (p x) low x (filter p xs) h.0 (rises_kept p (order_of x + 1) xs h.1)
-
-first_or_rest : (x : Move) (xs : List Move) (m : Move) → Contains (x ∷ xs) m → (x ≡ m) ⊎ Contains xs m
-first_or_rest x xs m (zero, in_range, is) = inl is
-first_or_rest x xs m (suc i, in_range, is) = inr (i, omega (arith, in_range), is)
 
 in_rest : (b : Bool) (x : Move) (xs : List Move) (m : Move) → Contains xs m → Contains (cond b (x ∷ xs) xs) m
 in_rest true x xs m c = (suc c.0, omega (arith, c.1), c.2)
@@ -116,11 +114,6 @@ drop_at b kept squares are s (moves.Drop dropped to) evasion e =
     subst (λ (n : ℕ). holds squares n ≡ true) (eqb-true to.number s e)
     ((are to).1 (record { dropped = dropped; evades = evasion; early = in_hand b kept dropped to evasion }))
 
-same_truth : (a b : Bool) → (a ≡ true → b ≡ true) → (b ≡ true → a ≡ true) → a ≡ b
-same_truth true b there back = sym (there refl)
-same_truth false true there back = back refl
-same_truth false false there back = refl
-
 listed_there : (b : Board) (squares : Mask) → AreDropSquares b 7 squares → (xs : List Move) → Lists (Evasion b) xs → (s : ℕ) → s < 81
     → holds squares s ≡ true → list_any (is_drop_on s) xs ≡ true
 listed_there b squares are xs l s within has =
@@ -145,10 +138,6 @@ as_many_pass p q (suc k) t agree =
     let one = sum_by-cons (λ y. cond (p y) 1 0) t (range_with_len (t + 1) k) in
     let two = sum_by-cons (λ y. cond (q y) 1 0) t (range_with_len (t + 1) k) in
     one ∙ ap (λ (b : Bool). cond b 1 0 + count_by p (range_with_len (t + 1) k)) first ∙ ap (λ (n : ℕ). cond (q t) 1 0 + n) rest ∙ sym two
-
-counted : (mask : Mask) → count mask ≡ count_by (holds mask) (range_with_len 0 81)
-unfolding count
-counted mask = refl
 
 drops_counted : (b : Board) → IsKept b → (squares : Mask) → AreDropSquares b 7 squares → (xs : List Move) → Lists (Evasion b) xs
     → count squares ≡ count_by (λ square. list_any (is_drop_on square) xs) (range_with_len 0 81)

@@ -1,6 +1,7 @@
 -- When a move is an evasion, by the sets of squares that are made of legal moves.
 use Rattle.std.proofs.Common.{◌≡◌, ◌↔◌, ℕ, Bool, true, refl, ◌∙◌, nat_lt}
 use Rattle.std.proofs.lemmas.Bool.{lt-ltb}
+use Rattle.value_laws.proofs.Cells.{own_is, no_king_in}
 use Rattle.bit_boards.specs.declared.square.Square.{Square}
 use Rattle.bit_boards.specs.declared.piece.Kind.{Kind}
 use Rattle.bit_boards.specs.declared.piece.Kind.TheVariants.{King}
@@ -18,7 +19,6 @@ use Rattle.shogi_rules.specs.declared.illegal.Illegal.TheVariants.{NotInHand}
 use Rattle.shogi_rules.specs.Laws.{LegalBoardMoves}
 use Rattle.shogi_rules.specs.Tsume.{IsEvasion}
 use Rattle.legal_moves.specs.Legal.{IsLegalBoard, IsLegalDrop}
-use Rattle.list_laws.proofs.Boards.{no_king_in, own_is}
 
 twice : (side : Side) → side ≡ other (other side)
 twice Black = refl

@@ -5,5 +5,4 @@ pub mod Hands
 pub mod Rows
 pub mod Said
 pub mod Many
-pub mod Built
 pub mod Outcome

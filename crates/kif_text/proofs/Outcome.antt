@@ -13,7 +13,7 @@ use Rattle.board_core.specs.declared.build.BadPosition.{BadPosition as Bad}
 use Rattle.board_core.specs.Board.{Board, HasDefender, piece_at, content_of}
 use Rattle.board_core.specs.Kept.{IsKept}
 use Rattle.board_core.specs.Build.{IsBuilt}
-use Rattle.board_core.specs.Laws.{SquaresApart, PlacesApart, PlacesInHand}
+use Rattle.board_core.specs.Laws.{BuiltOnce}
 use Rattle.kif_text.specs.declared.fault.KifFault.{KifFault}
 use Rattle.kif_text.specs.declared.fault.KifFault.TheVariants as faults
 use Rattle.kif_text.specs.declared.header.Diagram.{Diagram}
@@ -25,8 +25,8 @@ use Rattle.kif_text.specs.Header.{rows_of, HasFaultSaid, HasLineFault, Shows}
 use Rattle.kif_text.specs.Reading.{header_of, Spells, HasFirstLineFault, HasFirstFault, IsReadingOutcome}
 use Rattle.kif_text.specs.Steps.{IsReadFrom}
 use Rattle.kif_text.proofs.First.{one_first, none_or_first}
-use Rattle.kif_text.proofs.Rows.{piece_get}
-use Rattle.kif_text.proofs.Built.{built_once, no_fault}
+use Rattle.value_laws.proofs.Kept.{no_fault}
+use Rattle.value_laws.proofs.Cells.{piece_at_is}
 
 -- ---- the cells of nine rows
 
@@ -35,7 +35,7 @@ unfolding cells_of
 all_cells rows cells size each =
     let at : ℕ → Option Piece = λ square. content_of (cell_in (slice_index_or rows (square % 9) []) (9 - square / 9)) in
     ext_get_or None cells (map at (range_with_len 0 81)) (size ∙ sym (length-map-range_with_len at 0 81))
-    (λ s lt. sym (piece_get cells s) ∙ ap (λ k. piece_at cells k) (place s (omega arith)) ∙ each (s % 9) (9 - s / 9) (omega arith) (omega arith) (omega arith) ∙ sym (get_or-map-range_with_len at 0 81 s s None (omega arith) (omega arith)))
+    (λ s lt. sym (piece_at_is cells s) ∙ ap (λ k. piece_at cells k) (place s (omega arith)) ∙ each (s % 9) (9 - s / 9) (omega arith) (omega arith) (omega arith) ∙ sym (get_or-map-range_with_len at 0 81 s s None (omega arith) (omega arith)))
   where
     place : (s : ℕ) → s < 81 → s ≡ 9 * (9 - (9 - s / 9)) + s % 9
     place s lt = omega arith
@@ -171,27 +171,27 @@ way input (Err (faults.HandTwice line)) h = faulty h.utf8 (faults.HandTwice line
 way input (Err faults.NoDiagram) h = short h.0 h.1 h.2 refl
 way input (Err (faults.BadPosition bad)) h = whole h.1.utf8 h.0 h.1.shows (Err bad) h.2 refl
 
-one_way : PlacesInHand → SquaresApart → PlacesApart → (input : List ℕ) (x y : Result Board KifFault) → Way input x → Way input y → x ≡ y
-one_way held_low squares places input x y (broken not_text p) (broken neither q) = p ∙ sym q
-one_way held_low squares places input x y (broken not_text p) (faulty u g first q) = absurd (not_text u)
-one_way held_low squares places input x y (broken not_text p) (short u none few q) = absurd (not_text u)
-one_way held_low squares places input x y (broken not_text p) (whole u b shows built is q) = absurd (not_text u)
-one_way held_low squares places input x y (faulty u f one p) (broken not_text q) = absurd (not_text u)
-one_way held_low squares places input x y (faulty u f one p) (faulty v g two q) = p ∙ ap (λ (h : KifFault). Err h) (one_line_fault (header_of input) f g one two) ∙ sym q
-one_way held_low squares places input x y (faulty u f one p) (short v none few q) = absurd (none_or_first HasLineFault (header_of input) f none one)
-one_way held_low squares places input x y (faulty u f one p) (whole v b shows built is q) = absurd (none_or_first HasLineFault (header_of input) f shows.well one)
-one_way held_low squares places input x y (short u none few p) (broken not_text q) = absurd (not_text u)
-one_way held_low squares places input x y (short u none few p) (faulty v g two q) = absurd (none_or_first HasLineFault (header_of input) g none two)
-one_way held_low squares places input x y (short u none few p) (short v also less q) = p ∙ sym q
-one_way held_low squares places input x y (short u none few p) (whole v b shows built is q) = let nine = shows.nine in absurd (omega arith)
-one_way held_low squares places input x y (whole u a shows built is p) (broken not_text q) = absurd (not_text u)
-one_way held_low squares places input x y (whole u a shows built is p) (faulty v g two q) = absurd (none_or_first HasLineFault (header_of input) g shows.well two)
-one_way held_low squares places input x y (whole u a shows built is p) (short v none few q) = let nine = shows.nine in absurd (omega arith)
-one_way held_low squares places input x y (whole u a one built is p) (whole v b two also was q) =
-    p ∙ ap as_kif (built_once held_low squares places b built also (subst (λ (c : Board). IsBuilt c built) (one_shown (header_of input) a b one two) is) was) ∙ sym q
+one_way : BuiltOnce → (input : List ℕ) (x y : Result Board KifFault) → Way input x → Way input y → x ≡ y
+one_way once input x y (broken not_text p) (broken neither q) = p ∙ sym q
+one_way once input x y (broken not_text p) (faulty u g first q) = absurd (not_text u)
+one_way once input x y (broken not_text p) (short u none few q) = absurd (not_text u)
+one_way once input x y (broken not_text p) (whole u b shows built is q) = absurd (not_text u)
+one_way once input x y (faulty u f one p) (broken not_text q) = absurd (not_text u)
+one_way once input x y (faulty u f one p) (faulty v g two q) = p ∙ ap (λ (h : KifFault). Err h) (one_line_fault (header_of input) f g one two) ∙ sym q
+one_way once input x y (faulty u f one p) (short v none few q) = absurd (none_or_first HasLineFault (header_of input) f none one)
+one_way once input x y (faulty u f one p) (whole v b shows built is q) = absurd (none_or_first HasLineFault (header_of input) f shows.well one)
+one_way once input x y (short u none few p) (broken not_text q) = absurd (not_text u)
+one_way once input x y (short u none few p) (faulty v g two q) = absurd (none_or_first HasLineFault (header_of input) g none two)
+one_way once input x y (short u none few p) (short v also less q) = p ∙ sym q
+one_way once input x y (short u none few p) (whole v b shows built is q) = let nine = shows.nine in absurd (omega arith)
+one_way once input x y (whole u a shows built is p) (broken not_text q) = absurd (not_text u)
+one_way once input x y (whole u a shows built is p) (faulty v g two q) = absurd (none_or_first HasLineFault (header_of input) g shows.well two)
+one_way once input x y (whole u a shows built is p) (short v none few q) = let nine = shows.nine in absurd (omega arith)
+one_way once input x y (whole u a one built is p) (whole v b two also was q) =
+    p ∙ ap as_kif (once b built also (subst (λ (c : Board). IsBuilt c built) (one_shown (header_of input) a b one two) is) was) ∙ sym q
 
-pub one_outcome : PlacesInHand → SquaresApart → PlacesApart → (input : List ℕ) (x y : Result Board KifFault) → IsReadingOutcome input x → IsReadingOutcome input y → x ≡ y
-one_outcome held_low squares places input x y p q = one_way held_low squares places input x y (way input x p) (way input y q)
+pub one_outcome : BuiltOnce → (input : List ℕ) (x y : Result Board KifFault) → IsReadingOutcome input x → IsReadingOutcome input y → x ≡ y
+one_outcome once input x y p q = one_way once input x y (way input x p) (way input y q)
 
 -- A position that is spelled, kept and has a defender's king is an outcome.
 pub spelled_outcome : (input : List ℕ) (p : Board) → Spells input p → IsKept p → HasDefender p → IsReadingOutcome input (Ok p)

@@ -1,24 +1,17 @@
 -- Cells stand in a row one behind the other.
-use Rattle.std.proofs.Common.{◌≡◌, ℕ, ◌+◌, ◌-◌, ◌*◌, ◌<◌, ◌≤◌, true, false, List, [], ◌∷◌, length, drop, get_or, refl, sym, ap, inl, inr, ◌∙◌, arith, Option, Some, None, below_more, zero, suc}
+use Rattle.std.proofs.Common.{◌≡◌, ℕ, ◌+◌, ◌-◌, ◌*◌, ◌<◌, ◌≤◌, true, false, List, length, drop, refl, sym, ap, inl, inr, ◌∙◌, arith, Option, Some, None, below_more}
 use borrow.Author.Tests.{ne_eqb}
 use Rattle.std.specs.Prelude.{slice_index, slice_set, is_some}
 use Rattle.std.proofs.lemmas.Bool.Decides.{eqb_tells}
-use Rattle.std.proofs.lemmas.List.{get_or-drop, drop-drop, get_or-set_same, get_or-set_other}
+use Rattle.std.proofs.lemmas.List.{get_or-drop, drop-drop, get_or-set_other}
+use Rattle.value_laws.proofs.Cells.{piece_at-set_same, piece_at_is}
 use Rattle.bit_boards.specs.declared.piece.Piece.{Piece}
 use Rattle.board_core.specs.Board.{piece_at, content_of}
 use Rattle.kif_text.specs.Characters.{is, cell_of}
 use Rattle.kif_text.specs.Rows.{cell_in, is_well, HasBadColumn}
 
-pub piece_get : (cells : List (Option Piece)) (k : ℕ) → piece_at cells k ≡ get_or cells k None
-piece_get [] k = refl
-piece_get (x ∷ cells) zero = refl
-piece_get (x ∷ cells) (suc k) = piece_get cells k
-
-there : (cells : List (Option Piece)) (place : ℕ) (cell : Option Piece) → place < length cells → piece_at (slice_set cells place cell) place ≡ cell
-there cells place cell fits = piece_get (slice_set cells place cell) place ∙ get_or-set_same cells place cell None fits
-
 elsewhere : (cells : List (Option Piece)) (place k : ℕ) (cell : Option Piece) → k < place → piece_at (slice_set cells place cell) k ≡ piece_at cells k
-elsewhere cells place k cell other = piece_get (slice_set cells place cell) k ∙ get_or-set_other cells place k cell None (λ e. omega arith) ∙ sym (piece_get cells k)
+elsewhere cells place k cell other = piece_at_is (slice_set cells place cell) k ∙ get_or-set_other cells place k cell None (λ e. omega arith) ∙ sym (piece_at_is cells k)
 
 -- The cell of the next column is what stands next.
 pub next_cell : (row rest : List ℕ) (place : ℕ) → rest ≡ drop (2 * place) row → cell_in row (place + 1) ≡ cell_of (slice_index rest 0) (slice_index rest 1)
@@ -36,7 +29,7 @@ pub cells_more : (row : List ℕ) (cells : List (Option Piece)) (place : ℕ) (c
     → ((k : ℕ) → k < place → cell_in row (k + 1) ≡ Some (piece_at cells k)) → (k : ℕ) → k < place + 1 → cell_in row (k + 1) ≡ Some (piece_at (slice_set cells place cell) k)
 cells_more row cells place cell fits is before = below_more (λ k. cell_in row (k + 1) ≡ Some (piece_at (slice_set cells place cell) k)) place
     (λ k lt. before k lt ∙ ap (λ (x : Option Piece). Some x) (sym (elsewhere cells place k cell (omega arith))))
-    (is ∙ ap (λ (x : Option Piece). Some x) (sym (there cells place cell fits)))
+    (is ∙ ap (λ (x : Option Piece). Some x) (sym (piece_at-set_same cells place cell fits)))
 
 -- A column before the tenth is as it must be where it is a cell.
 well_cell : (row : List ℕ) (column : ℕ) → column ≤ 9 → is_well row column ≡ is_some (cell_in row column)

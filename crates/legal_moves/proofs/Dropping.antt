@@ -1,6 +1,7 @@
 -- When a king is attacked after a drop, and from which square a dropped pawn attacks one.
 use Rattle.std.proofs.Common.{◌≡◌, ◌≢◌, ◌<◌, ◌+◌, ◌||◌, ◌==◌, ◌/◌, ◌%◌, inl, inr, ℕ, Option, Some, None, Bool, true, false, length, IsTrue, arith, refl, sym, ap, subst, ◌∙◌}
 use Rattle.std.proofs.lemmas.Bool.{cases_eq, and_parts, eqb-true, both_ways}
+use Rattle.std.proofs.lemmas.Option.{same_Some}
 use Rattle.bit_boards.specs.declared.piece.Kind.{Kind}
 use Rattle.bit_boards.specs.declared.piece.Kind.TheVariants.{Pawn, King}
 use Rattle.bit_boards.specs.declared.piece.Side.{Side}
@@ -16,9 +17,10 @@ use Rattle.bit_boards.specs.Movement.{distance, fits, goes_by_step}
 use Rattle.board_core.specs.Board.{Board, piece_at, is_king_of}
 use Rattle.shogi_rules.specs.Rules.{after_drop, IsInCheck, IsQuiet}
 use Rattle.attack_laws.proofs.Arrived.{some_of}
-use Rattle.legal_moves.specs.Legal.{AreGuarding, IsGuarded}
+use Rattle.legal_moves.specs.Legal.{AreGuarding}
 use Rattle.legal_moves.specs.Droppable.{IsEnemyKing}
-use Rattle.legal_moves.proofs.Sheltered.{IsOnlyKing, attacker_there, attacked_there, attacked_before, king_dropped, not_king, same_some, Dropped, dropped, drop_safe_of, drop_stopping_of}
+use Rattle.legal_moves.proofs.Sheltered.{IsOnlyKing, attacker_there, attacked_there, attacked_before, king_dropped, not_king, Dropped, dropped, drop_safe_of, drop_stopping_of}
+use Rattle.legal_moves.proofs.Stepping.{only_king}
 
 -- 1. THE MOVER'S KING.
 
@@ -32,9 +34,6 @@ none_dropped b wanted to s d plain none is =
       | inr n ↦ both_ways _ (none s) (ap (is_king_of b.side) (sym (d.elsewhere s n)) ∙ is)
     ]
 
-only_of : (b : Board) (king : Square) (stopping shielding : Mask) → IsGuarded b king stopping shielding → IsOnlyKing b.cells b.side king.number
-only_of b king stopping shielding g = record { low = king.on_board; here = g.here; only = g.only }
-
 -- where a drop stops whoever attacks the mover's king, he isn't attacked after it
 pub drop_safe : (b : Board) (wanted : Kind) (to : ℕ) (king : Option Square) (stopping shielding : Mask) → AreGuarding b king stopping shielding
     → length b.cells ≡ 81 → wanted ≢ King → to < 81 → piece_at b.cells to ≡ None → Holds stopping to → ¬ IsInCheck (after_drop b wanted to).cells b.side
@@ -42,7 +41,7 @@ drop_safe b wanted to None stopping shielding g long plain low empty has check =
     none_dropped b wanted to check.0 (dropped b wanted to long low empty) plain g.none check.2.king
 drop_safe b wanted to (Some king) stopping shielding g long plain low empty has check =
     drop_safe_of b to (plain_piece wanted b.side) (after_drop b wanted to).cells king.number (dropped b wanted to long low empty) plain refl
-    (only_of b king stopping shielding g) ((g.blocks to).0 has).1 check
+    (only_king b king stopping shielding g) ((g.blocks to).0 has).1 check
 
 -- and only there
 pub drop_stops : (b : Board) (wanted : Kind) (to : ℕ) (king : Option Square) (stopping shielding : Mask) → AreGuarding b king stopping shielding
@@ -52,7 +51,7 @@ drop_stops b wanted to (Some king) stopping shielding g long plain low empty saf
     (g.blocks to).1 (
       low,
       drop_stopping_of b to (plain_piece wanted b.side) (after_drop b wanted to).cells king.number (dropped b wanted to long low empty) plain
-          (only_of b king stopping shielding g) safe,
+          (only_king b king stopping shielding g) safe,
     )
 
 -- 2. THE OTHER KING.
@@ -78,7 +77,7 @@ check_by_pawn b to king long low high empty quiet foe check =
     elim (cases_eq h.from to) [
       | inl e ↦
           let t = some_of (piece_at new h.from) _ h.attack in
-          let same : t.0 ≡ pawn = same_some t.0 pawn (sym t.1 ∙ (ap (piece_at new) e ∙ d.now)) in
+          let same : t.0 ≡ pawn = same_Some t.0 pawn (sym t.1 ∙ (ap (piece_at new) e ∙ d.now)) in
           let fit : IsTrue (fits pawn h.from king) = subst (λ (p : Piece). IsTrue (fits p h.from king)) same t.2.1.fit in
           pawn_steps b.side to king (subst (λ (s : ℕ). IsTrue (fits pawn s king)) e fit)
       | inr n ↦ absurd (quiet (attacked_there b.cells (other b.side) king h.from k h.low

@@ -1,11 +1,14 @@
 -- When a side's own king is attacked after its move, by the board before it.
-use Rattle.std.proofs.Common.{◌≡◌, ◌≢◌, ◌<◌, ◌||◌, ◌/◌, ◌%◌, ◌⊎◌, inl, inr, ℕ, List, Option, Some, None, Bool, true, false, length, IsTrue, arith, refl, sym, ap, subst, ◌∙◌}
+use Rattle.std.proofs.Common.{◌≡◌, ◌≢◌, ◌<◌, ◌/◌, ◌%◌, ◌⊎◌, inl, inr, ℕ, List, Option, Some, None, Bool, true, false, length, IsTrue, arith, refl, sym, ap, subst, ◌∙◌}
 use Rattle.std.specs.Prelude.{IsSomeAnd}
-use Rattle.std.proofs.lemmas.Bool.{cases_eq, and_parts}
+use Rattle.std.proofs.lemmas.Bool.{cases_eq, and_parts, or_cases}
+use Rattle.std.proofs.lemmas.Option.{same_Some}
+use Rattle.value_laws.proofs.Cells.{piece_at-set_same, piece_at-set_other, no_king_here}
+use Rattle.value_laws.proofs.Sides.{same_side_itself, same_side_is, sides_differ}
+use Rattle.value_laws.proofs.Squares.{nowhere}
 use Rattle.bit_boards.specs.declared.piece.Kind.{Kind}
 use Rattle.bit_boards.specs.declared.piece.Kind.TheVariants.{Pawn, Lance, Knight, Silver, Gold, Bishop, Rook, King}
 use Rattle.bit_boards.specs.declared.piece.Side.{Side}
-use Rattle.bit_boards.specs.declared.piece.Side.TheVariants.{Black, White}
 use Rattle.bit_boards.specs.declared.piece.Piece.{Piece}
 use Rattle.bit_boards.specs.Kind.{other, same_side, same_kind}
 use Rattle.bit_boards.specs.Piece.{plain_piece}
@@ -13,39 +16,14 @@ use Rattle.bit_boards.specs.Movement.{distance, in_reach, on_line, are_near, sha
 use Rattle.board_core.specs.Board.{Board, piece_at, is_king_of}
 use Rattle.shogi_rules.specs.Rules.{landed_piece, after_board, after_drop, AttacksFrom, IsInCheck, IsOwn}
 use Rattle.attack_lines.specs.Lines.{AttacksWithout}
-use Rattle.attack_laws.proofs.Cells.{piece_at-set_same, piece_at-set_other}
 use Rattle.attack_laws.proofs.Lying.{not_last}
 use Rattle.attack_laws.proofs.Arrived.{Arrives, arrives_board, some_of, some_by, none_some, clear_with, clear_without}
 use Rattle.attack_laws.proofs.Stopped.{between_decided}
 
 -- 1. KINGS.
 
-no_sides : (side : Side) → same_side side (other side) ≡ true → ⊥
-no_sides Black h = cc
-no_sides White h = cc
-
-pub same_as : (p q : Side) → same_side p q ≡ true → p ≡ q
-same_as Black Black h = refl
-same_as Black White h = absurd (cc)
-same_as White Black h = absurd (cc)
-same_as White White h = refl
-
-pub itself : (s : Side) → same_side s s ≡ true
-itself Black = refl
-itself White = refl
-
-pub same_some : (p q : Piece) → Some p ≡ Some q → p ≡ q
-same_some p q h = cc
-
-nowhere : (x : ℕ) → distance x x ≡ 0
-nowhere x = omega arith
-
-either : (p q : Bool) → (p || q) ≡ true → (p ≡ true) ⊎ (q ≡ true)
-either true q h = inl refl
-either false q h = inr h
-
 pub king_by : (side : Side) (piece : Piece) → piece.kind ≡ King → piece.side ≡ side → is_king_of side (Some piece) ≡ true
-king_by side piece kind own = rw (kind, own) (itself side)
+king_by side piece kind own = rw (kind, own) (same_side_itself side)
 
 king_kind : (k : Kind) → same_kind k King ≡ true → k ≡ King
 king_kind Pawn h = absurd (cc)
@@ -60,10 +38,7 @@ king_kind King h = refl
 -- a side's king is a piece of it, of the kind
 pub king_parts : (side : Side) (cell : Option Piece) → is_king_of side cell ≡ true → IsSomeAnd cell (λ piece. (piece.kind ≡ King) × (piece.side ≡ side))
 king_parts side None h = absurd (cc)
-king_parts side (Some piece) h = let t = and_parts _ _ h in (king_kind piece.kind t.0, same_as piece.side side t.1)
-
-no_king_here : (cell : Option Piece) (side : Side) → cell ≡ None → is_king_of side cell ≡ true → ⊥
-no_king_here cell side e h = let f : is_king_of side cell ≡ false = ap (is_king_of side) e in absurd (cc)
+king_parts side (Some piece) h = let t = and_parts _ _ h in (king_kind piece.kind t.0, same_side_is piece.side side t.1)
 
 -- a piece that isn't a king is no side's king
 pub not_king : (side : Side) (piece : Piece) → piece.kind ≢ King → is_king_of side (Some piece) ≡ true → ⊥
@@ -71,7 +46,7 @@ not_king side piece plain is = let t = king_parts side (Some piece) is in plain 
 
 -- a piece of the one side is none of the other
 no_side : (piece : Piece) (side : Side) → piece.side ≡ side → piece.side ≡ other side → ⊥
-no_side piece side own foe = no_sides side (subst (λ (s : Side). same_side side s ≡ true) (sym own ∙ foe) (itself side))
+no_side piece side own foe = sides_differ side (subst (λ (s : Side). same_side side s ≡ true) (sym own ∙ foe) (same_side_itself side))
 
 -- the side's king stands there, and no other king of it
 pub record IsOnlyKing (cells : List (Option Piece)) (side : Side) (king : ℕ) : Type 0 where
@@ -144,7 +119,7 @@ foe_not_there b from to promote piece s end g attack e =
     let a = arrived b from to promote piece g in
     let t = some_of (piece_at new s) _ attack in
     let same : Some t.0 ≡ Some (landed_piece promote piece) = sym t.1 ∙ (ap (piece_at new) e ∙ a.stands) in
-    no_side (landed_piece promote piece) b.side g.own (subst (λ (p : Piece). p.side ≡ other b.side) (same_some t.0 _ same) t.2.0)
+    no_side (landed_piece promote piece) b.side g.own (subst (λ (p : Piece). p.side ≡ other b.side) (same_Some t.0 _ same) t.2.0)
 
 foe_stays : (b : Board) (from to : ℕ) (promote : Bool) (piece : Piece) (s end : ℕ) → Leaves b from to piece → s ≢ to
     → AttacksWithout b.cells (other b.side) from s end → ¬ IsBetween s to end
@@ -154,7 +129,7 @@ foe_stays b from to promote piece s end g apart attack aside =
     let a = arrived b from to promote piece g in
     let t = some_of (piece_at b.cells s) _ attack in
     let n : s ≢ from = λ e. no_side t.0 b.side
-    (subst (λ (p : Piece). p.side ≡ b.side) (same_some piece t.0 (sym g.there ∙ (sym (ap (piece_at b.cells) e) ∙ t.1))) g.own) t.2.0 in
+    (subst (λ (p : Piece). p.side ≡ b.side) (same_Some piece t.0 (sym g.there ∙ (sym (ap (piece_at b.cells) e) ∙ t.1))) g.own) t.2.0 in
     some_by (piece_at new s) _ t.0 (a.elsewhere s apart n ∙ t.1)
     (t.2.0, record { fit = t.2.1.0; clear = clear_with b.cells new from to (landed_piece promote piece) s end a t.2.1.1 aside })
 
@@ -200,7 +175,7 @@ stopping_of b from to promote piece king g plain k safe s low attack =
 -- 3. THE KING MOVES.
 
 not_itself : StepsAreNear → SlidesShareLine → (piece : Piece) (x : ℕ) → x < 81 → IsTrue (fits piece x x) → ⊥
-not_itself near lined piece x low fit = elim (either (goes_by_step piece x x) (goes_by_slide piece x x) fit) [
+not_itself near lined piece x low fit = elim (or_cases (goes_by_step piece x x) (goes_by_slide piece x x) fit) [
   | inl step ↦
       let e : are_near x x ≡ false = ap (λ d. in_reach d (distance (x % 9) (x % 9))) (nowhere (x / 9)) ∙ ap (λ d. in_reach 0 d) (nowhere (x % 9)) in
       let t = near piece x x low low step in
@@ -311,7 +286,7 @@ drop_safe_of b to piece new king d kind own k stopping check =
     let h = attacker_there new b.side king (king_dropped b.cells new b.side to piece king d kind k) check in
     let apart : h.from ≢ to = λ e.
     let t = some_of (piece_at new h.from) _ h.attack in
-    no_side piece b.side own (subst (λ (p : Piece). p.side ≡ other b.side) (same_some t.0 piece (sym t.1 ∙ (ap (piece_at new) e ∙ d.now))) t.2.0) in
+    no_side piece b.side own (subst (λ (p : Piece). p.side ≡ other b.side) (same_Some t.0 piece (sym t.1 ∙ (ap (piece_at new) e ∙ d.now))) t.2.0) in
     let before = attacked_before b.cells new (other b.side) to piece h.from king d apart h.attack in
     elim (stopping h.from h.low before.0) [
       | inl e ↦ apart (sym e)

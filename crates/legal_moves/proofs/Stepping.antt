@@ -1,8 +1,10 @@
 -- Which squares are left of those to which a piece goes.
 use Rattle.std.proofs.Common.{◌≡◌, ◌≢◌, ◌<◌, ◌&&◌, ◌==◌, ◌↔◌, inl, inr, ℕ, Option, Some, None, Bool, true, false, not, length, sym, ap, subst, ◌∙◌, refl, IsTrue, nat_lt, ◌||◌}
 use Rattle.std.specs.Prelude.{IsSomeAnd}
-use Rattle.std.proofs.lemmas.Bool.{lt-ltb}
+use Rattle.std.proofs.lemmas.Bool.{lt-ltb, both_ways}
 use Rattle.std.proofs.lemmas.Bool.{cases_eq}
+use Rattle.value_laws.proofs.Sides.{same_side_itself, same_side_is}
+use Rattle.value_laws.proofs.Truth.{others_left, gone_before}
 use Rattle.bit_boards.specs.declared.piece.Kind.TheVariants.{King}
 use Rattle.bit_boards.specs.declared.piece.Side.{Side}
 use Rattle.bit_boards.specs.declared.piece.Piece.{Piece}
@@ -20,8 +22,8 @@ use Rattle.legal_moves.specs.declared.guard.Guard.{Guard}
 use Rattle.legal_moves.specs.Legal.{IsLegalBoard, IsGuarded, AreGuarding, IsGuardOf}
 use Rattle.legal_moves.specs.Steps.{KeepsKing, IsOpenTo, LeavesFor, MayGo, MovesFrom}
 use Rattle.attack_laws.proofs.Arrived.{some_of, some_by}
-use Rattle.legal_moves.proofs.Masked.{others_left, gone_before, shared, first_of, second_of, remains, not_taken, from_first, from_second, either_of}
-use Rattle.legal_moves.proofs.Sheltered.{Leaves, IsOnlyKing, itself, same_as, king_by, safe_of, stopping_of, king_safe_of, king_none_of, kingless_moved}
+use Rattle.legal_moves.proofs.Masked.{shared, first_of, second_of, remains, not_taken, from_first, from_second, either_of}
+use Rattle.legal_moves.proofs.Sheltered.{Leaves, IsOnlyKing, king_by, safe_of, stopping_of, king_safe_of, king_none_of, kingless_moved}
 
 -- one more of the king's squares
 pub steps_more : (b : Board) (king to : ℕ) (wanted left rest safe safer : Mask) → Holds left to → ((t : ℕ) → holds rest t ≡ (holds left t && not (t == to)))
@@ -60,10 +62,7 @@ leaves on_board b piece from squares to long l has = record {
   free = l.free to has;
 }
 
-no_king : {X : Type 0} (p : Bool) → p ≡ false → p ≡ true → X
-no_king p e h = absurd (cc)
-
-only_king : (b : Board) (king : Square) (stopping shielding : Mask) → IsGuarded b king stopping shielding → IsOnlyKing b.cells b.side king.number
+pub only_king : (b : Board) (king : Square) (stopping shielding : Mask) → IsGuarded b king stopping shielding → IsOnlyKing b.cells b.side king.number
 only_king b king stopping shielding g = record { low = king.on_board; here = g.here; only = g.only }
 
 king_here : (b : Board) (piece : Piece) (from : ℕ) → piece_at b.cells from ≡ Some piece → piece.side ≡ b.side → piece.kind ≡ King
@@ -74,7 +73,7 @@ king_here b piece from there own kind = ap (is_king_of b.side) there ∙ king_by
 king_from : (b : Board) (king : Option Square) (stopping shielding : Mask) (piece : Piece) (from : Square) → AreGuarding b king stopping shielding
     → piece_at b.cells from.number ≡ Some piece → piece.side ≡ b.side → piece.kind ≡ King → IsOnlyKing b.cells b.side from.number
 king_from b None stopping shielding piece from g there own kind =
-    no_king (is_king_of b.side (piece_at b.cells from.number)) (g.none from.number) (king_here b piece from.number there own kind)
+    absurd (both_ways (is_king_of b.side (piece_at b.cells from.number)) (g.none from.number) (king_here b piece from.number there own kind))
 king_from b (Some king) stopping shielding piece from g there own kind =
     let k = only_king b king stopping shielding g in
     let e = k.only from.number (king_here b piece from.number there own kind) in
@@ -117,11 +116,11 @@ others_safe on_board b guard piece from wanted result long g l plain are to prom
 -- the squares where the side's pieces stand are its own
 
 own_held : (b : Board) (side : Side) (cell : Option Piece) → side ≡ b.side → IsSomeAnd cell (λ piece. piece.side ≡ b.side) → is_of_side side cell ≡ true
-own_held b side cell e own = let t = some_of cell _ own in ap (is_of_side side) t.1 ∙ (ap (λ (s : Side). same_side t.0.side s) (e ∙ sym t.2) ∙ itself t.0.side)
+own_held b side cell e own = let t = some_of cell _ own in ap (is_of_side side) t.1 ∙ (ap (λ (s : Side). same_side t.0.side s) (e ∙ sym t.2) ∙ same_side_itself t.0.side)
 
 held_own : (b : Board) (side : Side) (cell : Option Piece) → side ≡ b.side → is_of_side side cell ≡ true → IsSomeAnd cell (λ piece. piece.side ≡ b.side)
 held_own b side None e h = absurd (cc)
-held_own b side (Some piece) e h = same_as piece.side side h ∙ e
+held_own b side (Some piece) e h = same_side_is piece.side side h ∙ e
 
 none_held : (p : Bool) → (p ≡ true → ⊥) → p ≡ false
 none_held true h = absurd (h refl)
@@ -130,7 +129,7 @@ none_held false h = refl
 -- where one's own piece stands, and where not
 
 pub not_own_of : (b : Board) (side : Side) (to : ℕ) (occupied : Bool) → side ≡ b.side → occupied ≡ is_of_side side (piece_at b.cells to) → occupied ≡ false → ¬ IsOwn b to
-not_own_of b side to occupied e is none own = no_king occupied none (is ∙ own_held b side (piece_at b.cells to) e own)
+not_own_of b side to occupied e is none own = absurd (both_ways occupied none (is ∙ own_held b side (piece_at b.cells to) e own))
 
 pub not_occupied : (b : Board) (side : Side) (to : ℕ) (occupied : Bool) → side ≡ b.side → occupied ≡ is_of_side side (piece_at b.cells to) → ¬ IsOwn b to → occupied ≡ false
 not_occupied b side to occupied e is free = none_held occupied (λ h. free (held_own b side (piece_at b.cells to) e (sym is ∙ h)))

@@ -1,6 +1,6 @@
 -- A list of moves that is filled from the squares of a set in rising order, then with the drops of each kind in turn.
 use Rattle.std.proofs.Common.{◌≡◌, ◌<◌, ◌≤◌, ◌+◌, ◌*◌, inl, inr, ℕ, List, [], arith, sym, ◌∙◌, subst, true, false, Bool}
-use Rattle.std.proofs.lemmas.Bool.{cases_eq, cases_lt}
+use Rattle.std.proofs.lemmas.Bool.{cases_eq, cases_lt, true≢false}
 use Rattle.board_core.specs.declared.moves.Move.{Move}
 use Rattle.board_core.specs.declared.moves.Move.TheVariants as moves
 use Rattle.board_core.specs.Order.{order_of, Lists, OrdersByOrigin}
@@ -23,9 +23,6 @@ fills_none P own = record { place = 0; within = omega arith; lists = lists_none 
 abbrev pub FromOwn : (Move → Type 0) → (ℕ → Bool) → Type 0
 FromOwn P own = (from to : Rattle.bit_boards.specs.declared.square.Square.Square) (promote : Bool) → P (moves.Board from to promote) → own from.number ≡ true
 
-absurd_true : {X : Type 0} → true ≡ false → X
-absurd_true e = absurd (cc)
-
 -- no move with the property lies between the place and a square that is the first one left
 none_between : OrdersByOrigin → (P : Move → Type 0) (own left : ℕ → Bool) (place s : ℕ) → FromOwn P own → s ≤ 81
     → ((t : ℕ) → place ≤ t → own t ≡ true → left t ≡ true) → ((t : ℕ) → t < s → left t ≡ false)
@@ -34,7 +31,7 @@ none_between origins P own left place s from_own within kept least (moves.Board 
     let at = origins from to promote in
     let after : place ≤ from.number = omega (arith, at.0, at.1, low) in
     let before : from.number < s = omega (arith, at.0, at.1, high) in
-    absurd_true (sym (kept from.number after (from_own from to promote holds)) ∙ least from.number before)
+    absurd (true≢false (sym (kept from.number after (from_own from to promote holds)) ∙ least from.number before))
 none_between origins P own left place s from_own within kept least (moves.Drop dropped to) holds low high =
     omega (arith, high, within)
 
@@ -60,7 +57,7 @@ fills_more P own left rest xs ys s within here least taken stays f lists = recor
         | inr above ↦ above
         | inl below ↦ elim (cases_eq t s) [
           | inl same ↦ absurd (was.1 same)
-          | inr other ↦ absurd_true (sym was.0 ∙ least t (omega (arith, below, other)))
+          | inr other ↦ absurd (true≢false (sym was.0 ∙ least t (omega (arith, below, other))))
         ]
       ];
   kept = λ t up is.

@@ -5,4 +5,3 @@ pub mod Filling
 pub mod Counted
 pub mod Adding
 pub mod Totals
-pub mod Boards

@@ -1,15 +1,8 @@
 -- What a map has after one key was written.
 use Rattle.std.proofs.Common.{◌≡◌, subst, cond, true, false, Bool}
 use Rattle.std.specs.Prelude.{Some}
-use Rattle.std.specs.Ordering.{is_eq}
 use Rattle.std.specs.declared.cmp.Ordering.{Ordering}
-use Rattle.std.specs.declared.cmp.Ordering.TheVariants.{Less, Equal, Greater}
 use Rattle.std.specs.BTreeMap.{get, is_at, BTreeMap, Updates}
-
-pub equal_from : (o : Ordering) → is_eq o ≡ true → o ≡ Equal
-equal_from Less h = absurd (cc)
-equal_from Equal h = cc
-equal_from Greater h = absurd (cc)
 
 -- at the key, the value
 pub written : {K V : Type 0} (cmp : K → K → Ordering) (old new : BTreeMap K V) (key : K) (value : V) → Updates cmp old new key (Some value)

@@ -4,6 +4,8 @@ use Rattle.std.proofs.lemmas.Bool.{cases_eq, cases_lt}
 use Rattle.std.proofs.lemmas.List.Elements.{Contains-push, Contains-push_cases, Contains-append_left}
 use Rattle.board_core.specs.declared.moves.Move.{Move}
 use Rattle.board_core.specs.Order.{order_of, RisesFrom, Lists, OrdersApart}
+-- a later move of rising ones comes later in the order
+pub use Rattle.board_core.proofs.MoveLists.{rises_at}
 
 -- the move has the property, and comes before a place in the order
 abbrev pub Before : (Move → Type 0) → ℕ → Move → Type 0
@@ -112,7 +114,7 @@ rises_low low (x ∷ ms) h m (suc i, in_range, is) =
     let rest = rises_low (order_of x + 1) ms h.1 m (i, omega (arith, in_range), is) in
     omega (arith, rest, h.0)
 
-first_or_rest : (x : Move) (xs : List Move) (m : Move) → Contains (x ∷ xs) m → (x ≡ m) ⊎ Contains xs m
+pub first_or_rest : (x : Move) (xs : List Move) (m : Move) → Contains (x ∷ xs) m → (x ≡ m) ⊎ Contains xs m
 first_or_rest x xs m (zero, in_range, is) = inl is
 first_or_rest x xs m (suc i, in_range, is) = inr (i, omega (arith, in_range), is)
 

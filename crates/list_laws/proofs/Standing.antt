@@ -1,9 +1,11 @@
 -- Where the elements of a list stand.
-use Rattle.std.proofs.Common.{◌≡◌, ◌<◌, ◌≤◌, ◌+◌, ◌++◌, ◌⊎◌, inl, inr, ℕ, zero, suc, List, [], ◌∷◌, get_or, length, map, take, Contains, arith, ap, sym, refl, ◌∙◌, subst, length-take, get_or-take, below_more}
+use Rattle.std.proofs.Common.{◌≡◌, ◌<◌, ◌≤◌, ◌+◌, ◌++◌, ◌⊎◌, inl, inr, ℕ, zero, suc, List, [], ◌∷◌, get_or, length, map, take, Contains, arith, ap, sym, refl, ◌∙◌, subst, length-take, get_or-take, below_more, Bool, true, false, if◌then◌else◌}
 use Rattle.std.specs.Prelude.{Some, slice_get}
 use Rattle.std.specs.Option.{option_map}
 use Rattle.std.proofs.lemmas.Bool.{cases_eq}
 use Rattle.std.proofs.lemmas.Option.{get_or_from_slice_get, slice_get_within, slice_get_read, slice_get-get_or, slice_get-map, same_Some}
+use Rattle.std.specs.List.{All}
+use Rattle.std.proofs.lemmas.List.Elements.{All-push}
 
 -- 1. What stands at a place is contained, and what is contained stands at a place.
 
@@ -101,3 +103,17 @@ each_more {X} P xs i x h is px below k a lt e =
     let here = λ (f : get_or xs i a ≡ a).
     subst P (sym (get_or_from_slice_get xs i x a (slice_get_read xs (length xs) i x refl h is)) ∙ f) px in
     below_more (λ n. get_or xs n a ≡ a → P a) i (λ n l. below n a l) here k lt e
+
+-- a list of some has a first one
+pub first_of : {X : Type 0} (xs : List X) → 0 < length xs → (x : X) × Contains xs x
+first_of [] some = absurd (omega (arith, some))
+first_of (x ∷ xs) some = (x, (zero, omega arith, refl))
+
+pub none_in_none : {X : Type 0} (x : X) → Contains [] x → ⊥
+none_in_none x c = let inside = c.1 in omega arith
+
+-- what holds of each of a list holds of each once one more of which it holds may have been put behind
+pub all_pushed : {X : Type 0} (P : X → Type 0) (before after : List X) (x : X) (b : Bool) → after ≡ (if b then before ++ x ∷ [] else before)
+    → All P before → P x → All P after
+all_pushed P before after x true e all one = subst (All P) (sym e) (All-push P before x all one)
+all_pushed P before after x false e all one = subst (All P) (sym e) all

@@ -29,7 +29,7 @@ few_before P place many a =
     let long = a.long in
     omega arith
 
-counted : (mask : Mask) → count mask ≡ count_by (holds mask) (range_with_len 0 81)
+pub counted : (mask : Mask) → count mask ≡ count_by (holds mask) (range_with_len 0 81)
 unfolding count
 counted mask = refl
 

@@ -13,6 +13,7 @@ use Rattle.table_shard.specs.Row.{HoldsAt, IsRow, Looks, Enters, left}
 use Rattle.table_shard.specs.Shard.{row_of, with_row, EntersIn}
 use Rattle.table_shard.specs.Spot.{place_of, spot_of}
 use Rattle.table_shard.specs.declared.hash.Spot.{Spot}
+use Rattle.table_shard.proofs.Offered.{holds_within, length-left, place_within}
 use Rattle.visit_log.specs.declared.words.Request.TheVariants.{Look, Enter, Leave}
 use Rattle.visit_log.specs.declared.words.Reply.TheVariants.{Enter as Entered, Leave as LeftIt}
 use Rattle.visit_log.specs.Round.{MayShow}
@@ -22,9 +23,9 @@ use Rattle.worker_core.specs.Port.{IsBooked, Suits, shown}
 use Rattle.board_core.specs.Board.{Board}
 use Rattle.std.proofs.lemmas.List.Folds.{sum_by-replicate}
 use Rattle.lone_port.specs.Lone.{LonePortView, IsLone, AreFor, Turns, book_of, held_in, pins_of, with_pins, pinned, unpinned, alone_at_first, worker_at_first}
-use Rattle.lone_port.proofs.Slots.{held_entered, held_left, held_there, once_apart, once_itself, holds_left, holds_within, get_left_other, length-left}
+use Rattle.lone_port.proofs.Slots.{held_entered, held_left, held_there, once_apart, once_itself, holds_left, get_left_other}
 use Rattle.lone_port.proofs.Rows.{IsEntered, entered, left_for, looks_may}
-use Rattle.lone_port.proofs.Places.{place_within, held_moves, size_moves, there_moves, there_at}
+use Rattle.lone_port.proofs.Places.{held_moves, size_moves, there_moves, there_at}
 
 -- 1. WHERE THE COUNTS ARE.
 

@@ -15,6 +15,7 @@ use Rattle.table_shard.specs.Entry.{EntryView}
 use Rattle.table_shard.specs.Row.{Enters, fresh, left}
 use Rattle.table_shard.specs.Shard.{row_of, with_row}
 use Rattle.table_shard.specs.Spot.{place_of}
+use Rattle.table_shard.proofs.Offered.{length-left, place_within}
 use Rattle.visit_log.specs.declared.words.Request.{Request}
 use Rattle.visit_log.specs.declared.words.Request.TheVariants.{Poll, Draw as Draws, Claim as Claims, Look, Enter, Leave, Post}
 use Rattle.visit_log.specs.declared.words.Reply.{Reply}
@@ -24,8 +25,6 @@ use Rattle.visit_log.specs.Counts.{enters, leaves, enters_some, leaves_some}
 use Rattle.worker_core.specs.Port.{units_by, rooms_by}
 use Rattle.lone_port.specs.Lone.{LonePortView, AreFor, Turns, held_in, pins_of, pinned}
 use Rattle.lone_port.specs.Keeps.{IsKeptPort, MayAsk, IsCountedBy, TurnsAreCounted}
-use Rattle.lone_port.proofs.Places.{place_within}
-use Rattle.lone_port.proofs.Slots.{length-left}
 use Rattle.lone_port.proofs.Asked.{after_enter, enter_keeps_at, enter_books_at, after_leave, leave_keeps_at, leave_books_at, own}
 
 -- 1. ROWS.

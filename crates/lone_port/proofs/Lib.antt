@@ -1,5 +1,4 @@
 -- Lemmas about the table of a worker alone, and about worlds.
-pub mod Keys
 pub mod Slots
 pub mod Rows
 pub mod Places
@@ -7,3 +6,5 @@ pub mod Asked
 mod Renewed
 pub mod Stepped
 pub mod Counted
+pub mod Offered
+pub mod Sent

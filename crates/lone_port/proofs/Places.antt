@@ -8,11 +8,8 @@ use Rattle.board_core.specs.declared.keys.Key.{Key}
 use Rattle.table_shard.specs.Entry.{EntryView}
 use Rattle.table_shard.specs.Shard.{row_of, with_row}
 use Rattle.table_shard.specs.Spot.{hash_of, place_of}
+use Rattle.table_shard.proofs.Offered.{place_within}
 use Rattle.lone_port.specs.Lone.{held_at, held_in, pins_of, with_pins}
-
--- A key's place lies within the rows.
-pub place_within : (key : Key) (rows : ℕ) → 0 < rows → place_of key rows < rows
-place_within key rows some = let h = hash_of key.0 in let low : h % rows < rows = omega (arith, some) in low
 
 -- What stands at a key's place.
 abbrev pub at_key : {X : Type 0} → List X → X → Key → X

@@ -16,10 +16,11 @@ use Rattle.notes.specs.declared.words.Update.{Update}
 use Rattle.notes.specs.declared.words.Update.TheVariants.{Numbers as SetNumbers, Note as AddNote, Nothing as ChangeNothing}
 use Rattle.table_shard.specs.Entry.{EntryView, IsEntry, IsFirstWithin, IsFactAbout, Shows, is_closed, has_closed, noted, updated}
 use Rattle.table_shard.specs.Row.{HoldsAt, IsRow, Looks, Enters, IsGivenUp, fresh, left}
+use Rattle.table_shard.proofs.Offered.{holds_end, holds_within, holds_put}
 use Rattle.visit_log.specs.Round.{MayShow}
 use Rattle.visit_log.specs.Sound.{IsSoundUpdate}
 use Rattle.lone_port.specs.Lone.{AreFor}
-use Rattle.lone_port.proofs.Slots.{get_set_other, get_push_other, holds_pushed, holds_set, holds_within}
+use Rattle.lone_port.proofs.Slots.{get_set_other, get_push_other}
 
 -- 1. ENTERING.
 
@@ -52,7 +53,7 @@ entered attacker row counts key numbers slot after few there (inl h) = record {
 }
 entered attacker row counts key numbers slot after few there (inr (none, inl (room, at, is))) = record {
   holds = subst (λ (r : List EntryView). HoldsAt r slot key) (sym is)
-      (subst (λ (s : ℕ). HoldsAt (row ++ fresh key numbers ∷ []) s key) (sym at) (holds_pushed row (fresh key numbers)));
+      (subst (λ (s : ℕ). HoldsAt (row ++ fresh key numbers ∷ []) s key) (sym at) (holds_end row (fresh key numbers)));
   others = λ s not. ap (λ (r : List EntryView). slice_get r s) is ∙ get_push_other row s (fresh key numbers) (λ q. not (q ∙ sym at));
   before = elim (zero_or_some (get_or counts slot 0)) [ inl z ↦ inr z | inr some ↦ let w = there slot some in absurd (omega (arith, w, at)) ];
   within = omega (arith, at, room);
@@ -60,7 +61,7 @@ entered attacker row counts key numbers slot after few there (inr (none, inl (ro
   notes = λ notes. subst (All (AreFor attacker)) (sym is) (All-push (AreFor attacker) row (fresh key numbers) notes (fresh_for attacker key numbers));
 }
 entered attacker row counts key numbers slot after few there (inr (none, inr (full, given, is))) = record {
-  holds = subst (λ (r : List EntryView). HoldsAt r slot key) (sym is) (holds_set row slot (fresh key numbers) (idle given).0);
+  holds = subst (λ (r : List EntryView). HoldsAt r slot key) (sym is) (holds_put row slot (fresh key numbers) (idle given).0);
   others = λ s not. ap (λ (r : List EntryView). slice_get r s) is ∙ get_set_other row slot s (fresh key numbers) not;
   before = inr (idle given).1;
   within = let w = (idle given).0 in omega (arith, w, full);

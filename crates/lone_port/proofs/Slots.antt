@@ -6,15 +6,16 @@ use Rattle.std.proofs.lemmas.Bool.{cases_eq}
 use Rattle.std.proofs.lemmas.Bool.Decides.{eqb_tells}
 use Rattle.std.proofs.lemmas.List.{get_or-set_same, get_or-set_other}
 use Rattle.board_core.specs.declared.keys.Key.{Key}
-use Rattle.path_tags.specs.Tag.{key_cmp}
+use Rattle.board_core.specs.KeyOrder.{key_cmp}
 use Rattle.notes.specs.declared.words.Kept.TheVariants.{Slot}
 use Rattle.notes.specs.declared.words.Update.{Update}
 use Rattle.notes.specs.declared.words.Update.TheVariants.{Numbers as SetNumbers, Note as AddNote, Nothing as ChangeNothing}
 use Rattle.table_shard.specs.Entry.{EntryView, updated}
 use Rattle.table_shard.specs.Row.{HoldsAt, left}
+use Rattle.table_shard.proofs.Offered.{updated-key}
 use Rattle.visit_log.specs.Counts.{slot_once}
 use Rattle.lone_port.specs.Lone.{held_at}
-use Rattle.lone_port.proofs.Keys.{same_from_test, test_itself}
+use Rattle.value_laws.proofs.Keys.{same_from_test, test_itself}
 
 -- Another slot of a row stays where one is set.
 pub get_set_other : (row : List EntryView) (i s : ℕ) (e : EntryView) → s ≢ i → slice_get (set row i e) s ≡ slice_get row s
@@ -39,39 +40,11 @@ get_left_other (x ∷ xs) zero (suc s) update not = refl
 get_left_other (x ∷ xs) (suc i) zero update not = refl
 get_left_other (x ∷ xs) (suc i) (suc s) update not = get_left_other xs i s update (λ q. not (ap suc q))
 
--- An entry that is put behind a row is the last of it.
-pub holds_pushed : (row : List EntryView) (e : EntryView) → HoldsAt (row ++ e ∷ []) (length row) e.key
-holds_pushed [] e = refl
-holds_pushed (x ∷ xs) e = holds_pushed xs e
-
--- An entry that is put into a slot is there.
-pub holds_set : (row : List EntryView) (i : ℕ) (e : EntryView) → i < length row → HoldsAt (set row i e) i e.key
-holds_set [] i e there = absurd (omega (arith, there))
-holds_set (x ∷ xs) zero e there = refl
-holds_set (x ∷ xs) (suc i) e there = holds_set xs i e (omega (arith, there))
-
-updated-key : (e : EntryView) (update : Update) → (updated e update).key ≡ e.key
-updated-key e (SetNumbers numbers) = refl
-updated-key e (AddNote note) = refl
-updated-key e ChangeNothing = refl
-
 -- A slot's entry is of the same position once it is left.
 pub holds_left : (row : List EntryView) (i : ℕ) (update : Update) (key : Key) → HoldsAt row i key → HoldsAt (left row i update) i key
 holds_left [] i update key h = absurd h
 holds_left (x ∷ xs) zero update key h = updated-key x update ∙ h
 holds_left (x ∷ xs) (suc i) update key h = holds_left xs i update key h
-
--- A slot with an entry lies within the row.
-pub holds_within : (row : List EntryView) (key : Key) (slot : ℕ) → HoldsAt row slot key → slot < length row
-holds_within [] key slot h = absurd h
-holds_within (x ∷ xs) key zero h = omega arith
-holds_within (x ∷ xs) key (suc slot) h = let r = holds_within xs key slot h in omega (arith, r)
-
--- A row that is left is as long as before.
-pub length-left : (row : List EntryView) (slot : ℕ) (update : Update) → length (left row slot update) ≡ length row
-length-left [] slot update = refl
-length-left (x ∷ xs) zero update = refl
-length-left (x ∷ xs) (suc slot) update = ap suc (length-left xs slot update)
 
 -- What a test of two keys lets through.
 abbrev pub let_through : Key → Key → ℕ → ℕ

@@ -4,7 +4,7 @@ use Rattle.std.specs.Ordering.{is_eq}
 use Rattle.bit_boards.specs.declared.piece.Side.{Side}
 use Rattle.board_core.specs.Board.{Board}
 use Rattle.board_core.specs.declared.keys.Key.{Key}
-use Rattle.path_tags.specs.Tag.{key_cmp}
+use Rattle.board_core.specs.KeyOrder.{key_cmp}
 use Rattle.notes.specs.Derivation.{attacker_of}
 use Rattle.notes.specs.declared.words.Kept.{Kept}
 use Rattle.notes.specs.declared.words.Kept.TheVariants.{Slot, Unkept}

@@ -1,6 +1,7 @@
 -- Closed positions put together.
 use Rattle.std.proofs.Common.{◌≡◌, ◌++◌, ◌⊎◌, inl, inr, zero, suc, List, [], ◌∷◌, Contains, arith, refl, sym, subst}
 use Rattle.std.proofs.lemmas.List.Elements.{Contains-append_left, Contains-append_right, Contains-append_cases}
+use Rattle.list_laws.proofs.Standing.{none_in_none}
 use Rattle.bit_boards.specs.declared.piece.Side.{Side}
 use Rattle.board_core.specs.declared.moves.Move.{Move}
 use Rattle.board_core.specs.Board.{Board}
@@ -17,9 +18,6 @@ later x xs q h = (suc h.0, omega (arith, h.1), h.2)
 
 pub first : {X : Type 0} (x : X) (xs : List X) → Contains (x ∷ xs) x
 first x xs = (zero, omega arith, refl)
-
-none_there : {X : Type 0} (q : X) → Contains [] q → ⊥
-none_there q h = let w = h.1 in omega (arith, w)
 
 -- the same evasion, where what it leads to has another property
 pub leads_on : (attacker : Side) (P Q : Board → Type 0) (b : Board) (check : Move) → ((q : Board) → P q → Q q)
@@ -94,7 +92,7 @@ gather_one attacker b t c checks e rest (inr on) = (
 gather : (attacker : Side) (b : Board) (t : List Board) (checks : List Move)
     → ((check : Move) → Contains checks check → HasEvasionTo attacker (λ q. Contains t q ⊎ EscapesInto attacker q t) b check)
     → Gathered attacker b t checks
-gather attacker b t [] all = ([], record { turn = λ q h. absurd (none_there q h); answered = λ q c h is. absurd (none_there q h) }, λ c h. absurd (none_there c h))
+gather attacker b t [] all = ([], record { turn = λ q h. absurd (none_in_none q h); answered = λ q c h is. absurd (none_in_none q h) }, λ c h. absurd (none_in_none c h))
 gather attacker b t (c ∷ checks) all =
     let e = all c (first c checks) in
     gather_one attacker b t c checks e (gather attacker b t checks (λ check member. all check (later c checks check member))) e.leads

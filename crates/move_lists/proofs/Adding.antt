@@ -1,9 +1,10 @@
 -- What is added to a list, a move at a time.
-use Rattle.std.proofs.Common.{◌≡◌, ◌≢◌, ◌<◌, ◌≤◌, ◌+◌, ◌*◌, ◌&&◌, ◌||◌, ◌==◌, inl, inr, ℕ, suc, List, [], ◌∷◌, ◌++◌, Contains, Bool, true, false, not, arith, refl, sym, ap, ◌∙◌, subst, eq-eqb, ne_eqb}
-use Rattle.std.proofs.lemmas.Bool.{cases_eq, cases_lt}
+use Rattle.std.proofs.Common.{◌≡◌, ◌<◌, ◌≤◌, ◌+◌, ◌*◌, ◌&&◌, ◌||◌, ◌==◌, inl, inr, ℕ, suc, List, [], ◌∷◌, ◌++◌, Contains, Bool, true, false, not, arith, refl, sym, ap, ◌∙◌, subst, eq-eqb}
+use Rattle.std.proofs.lemmas.Bool.{cases_eq, cases_lt, false≢true, true≢false, and_right, or_left, or_right}
 use Rattle.bit_boards.specs.Kind.{place_of}
 use Rattle.board_core.specs.Laws.{SquaresApart}
 use Rattle.std.proofs.lemmas.List.Elements.{Contains-push, Contains-push_cases, Contains-append_left}
+use Rattle.value_laws.proofs.Truth.{others_left, gone_before}
 use Rattle.board_core.specs.declared.moves.Move.{Move}
 use Rattle.board_core.specs.declared.moves.Move.TheVariants as moves
 use Rattle.board_core.specs.Order.{order_of, RisesFrom}
@@ -24,12 +25,9 @@ one_added old by = record {
   ];
 }
 
-not_wanted : {X : Type 0} → false ≡ true → X
-not_wanted e = absurd (cc)
-
 -- one that isn't wanted
 pub none_added : (old : List Move) (by : Move) → Adds (IsOne false by) old old
-none_added old by = record { kept = λ m c. c; added = λ m h. not_wanted h.0; sound = λ m c. inl c }
+none_added old by = record { kept = λ m c. c; added = λ m h. absurd (false≢true h.0); sound = λ m c. inl c }
 
 -- where the moves rise, and one comes after all of them, they rise with it
 pub rises_one : (low : ℕ) (ms : List Move) (by : Move) → RisesFrom low ms → low ≤ order_of by
@@ -50,13 +48,6 @@ goal_of (moves.Drop dropped to) = to.number
 abbrev pub IsDone : (Move → Type 0) → Mask → Move → Type 0
 IsDone P left m = P m × (holds left (goal_of m) ≡ false)
 
-absurd_from : {X : Type 0} → true ≡ false → X
-absurd_from e = absurd (cc)
-
-and_false : (p : Bool) → (p && false) ≡ false
-and_false true = refl
-and_false false = refl
-
 and_true : (p : Bool) → (p && true) ≡ true → p ≡ true
 and_true true h = refl
 and_true false h = h
@@ -65,27 +56,10 @@ and_true_false : (p : Bool) → (p && true) ≡ false → p ≡ false
 and_true_false true h = h
 and_true_false false h = refl
 
-or_true_left : (p q : Bool) → p ≡ true → (p || q) ≡ true
-or_true_left true q h = refl
-or_true_left false q h = absurd_from (sym h)
-
-or_true_right : (p q : Bool) → q ≡ true → (p || q) ≡ true
-or_true_right true q h = refl
-or_true_right false q h = h
-
 -- of a set without one square
 
-left_else : (left rest : Bool) (t s : ℕ) → rest ≡ (left && not (t == s)) → rest ≡ true → (left ≡ true) × (t ≢ s)
-left_else left rest t s e is = elim (cases_eq t s) [
-  | inl same ↦ absurd_from (sym is ∙ (e ∙ (ap (λ b. left && not b) (eq-eqb t s same) ∙ and_false left)))
-  | inr other ↦ (and_true left (sym (ap (λ b. left && not b) (ne_eqb t s other)) ∙ (sym e ∙ is)), other)
-]
-
-gone_else : (left rest : Bool) (t s : ℕ) → rest ≡ (left && not (t == s)) → rest ≡ false → t ≢ s → left ≡ false
-gone_else left rest t s e is other = and_true_false left (sym (ap (λ b. left && not b) (ne_eqb t s other)) ∙ (sym e ∙ is))
-
 gone_here : (left rest : Bool) (t s : ℕ) → rest ≡ (left && not (t == s)) → t ≡ s → rest ≡ false
-gone_here left rest t s e same = e ∙ (ap (λ b. left && not b) (eq-eqb t s same) ∙ and_false left)
+gone_here left rest t s e same = e ∙ (ap (λ b. left && not b) (eq-eqb t s same) ∙ (and_right left false refl))
 
 gone_still : (left rest : Bool) (t s : ℕ) → rest ≡ (left && not (t == s)) → left ≡ false → rest ≡ false
 gone_still left rest t s e is = e ∙ ap (λ b. b && not (t == s)) is
@@ -96,11 +70,11 @@ TakesFirst left rest s = ((t : ℕ) → t < s → holds left t ≡ false) × ((t
 
 pub after_first : (left rest : Mask) (s t : ℕ) → TakesFirst left rest s → holds rest t ≡ true → (holds left t ≡ true) × (s < t)
 after_first left rest s t taken is =
-    let was = left_else (holds left t) (holds rest t) t s (taken.1 t) is in (
+    let was = others_left (holds left t) (holds rest t) t s (taken.1 t) is in (
       was.0,
       elim (cases_lt s t) [
         | inl after ↦ after
-        | inr before ↦ absurd_from (sym was.0 ∙ taken.0 t (omega (arith, before, was.1)))
+        | inr before ↦ absurd (true≢false (sym was.0 ∙ taken.0 t (omega (arith, before, was.1))))
       ],
     )
 
@@ -116,7 +90,7 @@ board_added apart from to plain promoted left rest old now one two stays turns i
           let e = apart t to same in
           let wanted : stays ≡ true = is_plain ∙ (ap (holds plain) (sym same) ∙ goes.1) in
           second.kept _ (first.added (moves.Board f t false) (wanted, λ i. moves.Board (goes.0 i) (e i) false))
-      | inr other ↦ second.kept _ (first.kept _ (so_far.added (moves.Board f t false) (goes, gone_else _ _ t.number to.number (taken.1 t.number) gone other)))
+      | inr other ↦ second.kept _ (first.kept _ (so_far.added (moves.Board f t false) (goes, gone_before _ _ t.number to.number (taken.1 t.number) gone other)))
     ]
 board_added apart from to plain promoted left rest old now one two stays turns is_plain is_promoted taken so_far first second (moves.Board f t true) goes gone =
     elim (cases_eq t.number to.number) [
@@ -124,7 +98,7 @@ board_added apart from to plain promoted left rest old now one two stays turns i
           let e = apart t to same in
           let wanted : turns ≡ true = is_promoted ∙ (ap (holds promoted) (sym same) ∙ goes.1) in
           second.added (moves.Board f t true) (wanted, λ i. moves.Board (goes.0 i) (e i) true)
-      | inr other ↦ second.kept _ (first.kept _ (so_far.added (moves.Board f t true) (goes, gone_else _ _ t.number to.number (taken.1 t.number) gone other)))
+      | inr other ↦ second.kept _ (first.kept _ (so_far.added (moves.Board f t true) (goes, gone_before _ _ t.number to.number (taken.1 t.number) gone other)))
     ]
 board_added apart from to plain promoted left rest old now one two stays turns is_plain is_promoted taken so_far first second (moves.Drop dropped t) goes gone = absurd goes
 
@@ -172,7 +146,7 @@ drop_added apart wanted to squares left rest old now one is taken so_far first (
       | inl same ↦
           let e = apart t to same in
           first.added (moves.Drop dropped t) (refl, λ i. moves.Drop (goes.0 i) (e i))
-      | inr other ↦ first.kept _ (so_far.added (moves.Drop dropped t) (goes, gone_else _ _ t.number to.number (taken.1 t.number) gone other))
+      | inr other ↦ first.kept _ (so_far.added (moves.Drop dropped t) (goes, gone_before _ _ t.number to.number (taken.1 t.number) gone other))
     ]
 
 -- the drop on one more square
@@ -204,7 +178,7 @@ drop_more apart wanted to squares left rest old now one holds_it taken so_far la
 
 -- before the first square nothing is added
 pub added_none : (P : Move → Type 0) (left : Mask) (old : List Move) → ((m : Move) → P m → holds left (goal_of m) ≡ true) → Adds (IsDone P left) old old
-added_none P left old all = record { kept = λ m c. c; added = λ m h. absurd_from (sym (all m h.0) ∙ h.1); sound = λ m c. inl c }
+added_none P left old all = record { kept = λ m c. c; added = λ m h. absurd (true≢false (sym (all m h.0) ∙ h.1)); sound = λ m c. inl c }
 
 -- where no square is left all is added
 pub added_all : (P : Move → Type 0) (left : Mask) (old new : List Move) → ((t : ℕ) → holds left t ≡ false) → Adds (IsDone P left) old new → Adds P old new
@@ -220,8 +194,8 @@ added_all P left old new none a = record {
 -- moves from a square go to one of either set
 pub goes_to_either : (from : Square) (plain promoted both : Mask) → ((t : ℕ) → holds both t ≡ (holds plain t || holds promoted t))
     → (m : Move) → GoesFrom from plain promoted m → holds both (goal_of m) ≡ true
-goes_to_either from plain promoted both e (moves.Board f t false) h = e t.number ∙ or_true_left _ _ h.1
-goes_to_either from plain promoted both e (moves.Board f t true) h = e t.number ∙ or_true_right _ _ h.1
+goes_to_either from plain promoted both e (moves.Board f t false) h = e t.number ∙ or_left _ _ h.1
+goes_to_either from plain promoted both e (moves.Board f t true) h = e t.number ∙ or_right _ _ h.1
 goes_to_either from plain promoted both e (moves.Drop dropped t) h = absurd h
 
 pub drops_on_set : (wanted : Kind) (squares : Mask) (m : Move) → IsDropOn wanted squares m → holds squares (goal_of m) ≡ true

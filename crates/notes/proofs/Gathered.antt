@@ -4,6 +4,7 @@ use Rattle.std.specs.Prelude.{Some, slice_get}
 use Rattle.std.proofs.lemmas.List.{take_more}
 use Rattle.std.proofs.lemmas.Option.{slice_get_within, get_or_from_slice_get}
 use Rattle.std.proofs.lemmas.List.Elements.{Contains-append_left, Contains-push, Contains-push_cases}
+use Rattle.value_laws.proofs.Keys.{same_key}
 use Rattle.board_core.specs.declared.keys.Key.{Key}
 use Rattle.board_core.specs.Board.{Board}
 use Rattle.board_core.specs.Key.{key_of}
@@ -25,9 +26,6 @@ valid_more (first ∷ notes) note all one = (all.0, valid_more notes note all.1 
 
 pub joins_none : (b : Board) → JoinsTags [] b []
 joins_none b key = ((λ c. absurd (let inside = c.1 in omega (arith, inside))), (λ from. absurd (let inside = from.0.1.1 in omega (arith, inside))))
-
-same_key : (a b : Key) → a.0 ≡ b.0 → a ≡ b
-same_key a b e = λ i. record { 0 = e i }
 
 -- the tags joined of one note more
 pub joins_more : (own : Key) (b : Board) (old new : List Key) (notes : List Derivation) (note : Derivation) → own.0 ≡ key_of b → JoinsTags old b notes

@@ -1,3 +1,5 @@
 mod Gathered
 mod Meeting
 mod Truth
+pub mod Offered
+pub mod Sent

@@ -4,18 +4,17 @@ use Rattle.std.specs.Prelude.{nat_eq}
 use Rattle.std.specs.Cmp.Lexicographic.{pointwise, bytes_decides}
 use Rattle.std.proofs.lemmas.Bool.{cases_Bool}
 use Rattle.std.proofs.lemmas.Option.{slice_get-get_or}
+use Rattle.value_laws.proofs.Sides.{other_apart}
 use Rattle.bit_boards.specs.declared.piece.Side.{Side}
-use Rattle.bit_boards.specs.declared.piece.Side.TheVariants.{Black, White}
 use Rattle.bit_boards.specs.Kind.{other}
 use Rattle.board_core.specs.declared.keys.Key.{Key}
 use Rattle.board_core.specs.declared.moves.Move.{Move}
-use Rattle.board_core.specs.declared.moves.Move.TheVariants as moves
 use Rattle.board_core.specs.Board.{Board}
 use Rattle.board_core.specs.Kept.{IsKept}
 use Rattle.board_core.specs.Key.{key_of}
-use Rattle.list_laws.proofs.Standing.{at_place, contained}
+use Rattle.list_laws.proofs.Standing.{at_place, contained, first_of}
 use Rattle.shogi_rules.specs.Rules.{after}
-use Rattle.shogi_rules.specs.Tsume.{IsCheck, IsEvasion}
+use Rattle.shogi_rules.proofs.Offered.{after_check, after_evasion}
 use Rattle.mate_def.specs.Mate.{RankAtMost, RankGrows, IsMatedWithin, EscapesInto, EscapesJoined, CanEvadeTo}
 use Rattle.notes.specs.declared.rule.Rule.{Rule}
 use Rattle.notes.specs.declared.rule.Rule.TheVariants.{MateEnd, MateAll, MateBy, EscapeEnd, EscapeBy, EscapeRepeat, EscapeAll}
@@ -27,24 +26,6 @@ use Rattle.notes.specs.Truth.{StandFor, IsTrueMate, IsTrueMated, IsTrueEscape, I
 
 -- 1. Sides
 
-other_apart : (side : Side) → other side ≡ side → ⊥
-other_apart Black e = absurd (cc)
-other_apart White e = absurd (cc)
-
-other_back : (side : Side) → other (other side) ≡ side
-other_back Black = refl
-other_back White = refl
-
-turn_after : (b : Board) (move : Move) → (after b move).side ≡ other b.side
-turn_after b (moves.Board from to promote) = refl
-turn_after b (moves.Drop dropped to) = refl
-
-after_check : (attacker : Side) (b : Board) (check : Move) → IsCheck attacker b check → (after b check).side ≡ other attacker
-after_check attacker b check is = turn_after b check ∙ ap other is.mover
-
-after_evasion : (attacker : Side) (b : Board) (evasion : Move) → IsEvasion attacker b evasion → (after b evasion).side ≡ attacker
-after_evasion attacker b evasion is = turn_after b evasion ∙ (ap other is.mover ∙ other_back attacker)
-
 -- who is to move where a rule is met
 abbrev turn_by : Rule → Side → Side
 turn_by MateEnd attacker = other attacker
@@ -54,11 +35,6 @@ turn_by EscapeEnd attacker = attacker
 turn_by (EscapeBy evasion) attacker = other attacker
 turn_by (EscapeRepeat evasion) attacker = other attacker
 turn_by EscapeAll attacker = attacker
-
--- the first of some elements
-first_of : {X : Type 0} (xs : List X) → 0 < length xs → (x : X) × Contains xs x
-first_of [] some = absurd (omega (arith, some))
-first_of (x ∷ xs) some = (x, (zero, omega arith, refl))
 
 turn_met : (rule : Rule) (s : Step) (notes : List Derivation) → meets rule s notes → s.position.side ≡ turn_by rule s.attacker
 turn_met MateEnd s notes m = m.0.turn
@@ -168,7 +144,7 @@ evading_after attacker q note k says at t stand =
     (subst (λ (side : Side). CanEvadeTo side (λ p. Contains t p ⊎ EscapesInto side p t) (position_of note)) says.same_attacker own)
 
 -- the note after a move of a list
-note_after : (conclusion : Conclusion) (attacker : Side) (b : Board) (listed_moves : List Move) (notes : List Derivation) (move : Move)
+pub note_after : (conclusion : Conclusion) (attacker : Side) (b : Board) (listed_moves : List Move) (notes : List Derivation) (move : Move)
     → SayEach conclusion attacker b listed_moves notes → Contains listed_moves move
     → (note : Derivation) × Contains notes note × Says conclusion attacker (after b move) note
 note_after conclusion attacker b [] notes move say c = absurd (let inside = c.1 in omega (arith, inside))
@@ -180,7 +156,7 @@ note_after conclusion attacker b (first ∷ rest) (note ∷ notes) move say c =
 
 -- 4. Heights
 
-height_le : (notes : List Derivation) (note : Derivation) → Contains notes note → height_of note ≤ highest notes
+pub height_le : (notes : List Derivation) (note : Derivation) → Contains notes note → height_of note ≤ highest notes
 height_le [] note c = absurd (let inside = c.1 in omega (arith, inside))
 height_le (first ∷ notes) note (zero, inside, e) = let same : height_of first ≡ height_of note = ap height_of e in omega (arith, same)
 height_le (first ∷ notes) note (suc k, inside, e) = let up = height_le notes note (k, omega (arith, inside), e) in omega (arith, up)
@@ -365,3 +341,7 @@ notes_are_true grows joins note v =
       escapes = λ is at none. known_escape note k is at [] (λ key held. absurd (let gone = subst (λ (keys : List Key). Contains keys key) none held in let inside = gone.1 in omega (arith, inside)));
       keys = keys_of note v;
     }
+
+-- a right derivation's position is kept
+pub valid_kept : (note : Derivation) → IsValid note → IsKept (position_of note)
+valid_kept (derived step notes) valid = valid.1.kept

@@ -1,4 +1,3 @@
-mod Keys
 mod Members
 mod Rising
 mod Joining

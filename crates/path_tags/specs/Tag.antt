@@ -1,15 +1,10 @@
 -- Tags: lists of keys in their order, each key once.
 use Rattle.std.specs.Prelude.{List, [], ◌∷◌, not, Contains, filter}
-use Rattle.std.specs.Ordering.{nat_cmp, is_eq}
-use Rattle.std.specs.declared.cmp.Ordering.{Ordering}
-use Rattle.std.specs.Cmp.Lexicographic.{slice_cmp}
+use Rattle.std.specs.Ordering.{is_eq}
 use Rattle.std.specs.List.Sorted.{IsStrictlySortedBy}
 use Rattle.std.specs.BTreeSet.{insert_key}
 use Rattle.board_core.specs.declared.keys.Key.{Key}
-
--- The order of keys: by their words, the first first.
-abbrev pub key_cmp : Key → Key → Ordering
-key_cmp a b = slice_cmp nat_cmp a.0 b.0
+use Rattle.board_core.specs.KeyOrder.{key_cmp}
 
 -- Each key of the list comes before all those behind it, so that none stands in it twice.
 abbrev pub IsRising : List Key → Type 0

@@ -12,17 +12,10 @@ use Rattle.position_places.specs.Places.{IsWith}
 use Rattle.plain_search.specs.Queue.{IsStep, IsWithAll, IsExpansion, IsQueue}
 use Rattle.plain_search.specs.Plain.{EndsLevel}
 use Rattle.list_laws.proofs.Standing.{contained, at_place}
+use Rattle.list_laws.proofs.MoveLists.{rises_at}
 use Rattle.plain_search.proofs.Queues.{with_all_kept, not_shorter}
 
 -- 1. Lists of the same moves in their order are one list.
-
-rises_above : (low : ℕ) (moves : List Move) → RisesFrom low moves → (k : ℕ) (m : Move) → slice_get moves k ≡ Some m → low ≤ order_of m
-rises_above low [] r k m e = absurd (cc)
-rises_above low (x ∷ xs) r zero m e = subst (λ (y : Move). low ≤ order_of y) (same_Some x m e) r.0
-rises_above low (x ∷ xs) r (suc k) m e =
-    let above : order_of x + 1 ≤ order_of m = rises_above (order_of x + 1) xs r.1 k m e in
-    let first : low ≤ order_of x = r.0 in
-    omega arith
 
 not_first : (b : Move) (bs : List Move) (m : Move) (k : ℕ) → slice_get (b ∷ bs) k ≡ Some m → order_of b < order_of m → Contains bs m
 not_first b bs m zero e less = let same = ap order_of (same_Some b m e) in absurd (omega arith)
@@ -32,13 +25,13 @@ rest_in : (a b : Move) (xs ys : List Move) → a ≡ b → RisesFrom (order_of a
     → ((m : Move) → Contains (a ∷ xs) m → Contains (b ∷ ys) m) → (m : Move) → Contains xs m → Contains ys m
 rest_in a b xs ys same r all m c =
     let at = at_place xs m c in
-    let above : order_of a + 1 ≤ order_of m = rises_above (order_of a + 1) xs r c.0 m at in
+    let above : order_of a + 1 ≤ order_of m = rises_at (order_of a + 1) xs r c.0 m at in
     let there = all m (contained (a ∷ xs) (suc c.0) m at) in
     let order = ap order_of same in
     not_first b ys m there.0 (at_place (b ∷ ys) m there) (omega arith)
 
 not_before : (a b : Move) (ys : List Move) → RisesFrom (order_of b + 1) ys → Contains (b ∷ ys) a → order_of b ≤ order_of a
-not_before a b ys r c = rises_above (order_of b) (b ∷ ys) (omega arith, r) c.0 a (at_place (b ∷ ys) a c)
+not_before a b ys r c = rises_at (order_of b) (b ∷ ys) (omega arith, r) c.0 a (at_place (b ∷ ys) a c)
 
 same_moves : OrdersApart → (low high : ℕ) (xs ys : List Move) → RisesFrom low xs → RisesFrom high ys
     → ((m : Move) → Contains xs m → Contains ys m) → ((m : Move) → Contains ys m → Contains xs m) → xs ≡ ys

@@ -10,6 +10,7 @@ use Rattle.board_core.specs.Board.{Board}
 use Rattle.board_core.specs.Order.{RisesFrom, order_of, OrdersApart, PlacesInOrder}
 use Rattle.shogi_rules.specs.Rules.{after}
 use Rattle.shogi_rules.specs.Tsume.{IsCheck}
+use Rattle.shogi_rules.proofs.Offered.{turn_after}
 use Rattle.mate_def.specs.Mate.{after_both}
 use Rattle.plain_search.specs.declared.graph.Step.{Step}
 use Rattle.plain_search.specs.declared.graph.Graph.{Graph}
@@ -21,7 +22,7 @@ use Rattle.plain_search.specs.Agenda.{AreListed}
 use Rattle.cert_order.specs.Entries.{AreEscapeEntries}
 use Rattle.list_laws.proofs.Standing.{contained, at_place, get_cases, more}
 use Rattle.plain_search.proofs.Ranking.{Ranks, not_both}
-use Rattle.plain_search.proofs.Steps.{step_by, by_of, after_side, step_evasions, step_checks}
+use Rattle.plain_search.proofs.Steps.{step_by, by_of, step_evasions, step_checks}
 use Rattle.plain_search.proofs.Agendas.{Grows, grows_contains, grows_more, grows_none, added_cases}
 use Rattle.plain_search.proofs.Mates.{met, in_play_entry, in_play_kept}
 use Rattle.plain_search.proofs.MoveOrder.{before_in}
@@ -128,7 +129,7 @@ module _ (p : Board) (graph : Graph) (ranks : Ranks) (g : IsGraph p graph) (all 
       let lead' : slice_get (met graph) next ≡ Some (after_both b check.by step.by) =
       subst (λ (to : ℕ). slice_get (met graph) to ≡ Some (after_both b check.by step.by)) way.leads (steps.lead step is_way) in
       let side = free.side b at in
-      let side' : (after b check.by).side ≡ other p.side = after_side b check.by ∙ ap other side in
+      let side' : (after b check.by).side ≡ other p.side = turn_after b check.by ∙ ap other side in
       record {
         lead = lead';
         first = record {

@@ -10,6 +10,7 @@ use Rattle.bit_boards.specs.Kind.{other}
 use Rattle.board_core.specs.Board.{Board}
 use Rattle.board_core.specs.Order.{order_of}
 use Rattle.shogi_rules.specs.Rules.{after}
+use Rattle.shogi_rules.proofs.Offered.{turn_after}
 use Rattle.mate_def.specs.Mate.{after_both}
 use Rattle.plain_search.specs.declared.graph.Step.{Step}
 use Rattle.plain_search.specs.declared.graph.Graph.{Graph}
@@ -19,7 +20,7 @@ use Rattle.plain_search.specs.Within.{RankWithin}
 use Rattle.plain_search.specs.Plain.{WinsWithin, IsPlainEntry}
 use Rattle.plain_search.specs.Decision.{known_of}
 use Rattle.list_laws.proofs.Standing.{contained_first}
-use Rattle.plain_search.proofs.Steps.{step_by, by_of, after_side, step_checks, step_evasions}
+use Rattle.plain_search.proofs.Steps.{step_by, by_of, step_checks, step_evasions}
 use Rattle.plain_search.proofs.Ranking.{Ranks, won_along, rank_cases, within}
 use Rattle.plain_search.proofs.Told.{known_place, rank_known}
 use Rattle.plain_search.proofs.Mates.{known_beaten, known_ranked}
@@ -94,7 +95,7 @@ module _ (p : Board) (graph : Graph) (ranks : Ranks) (g : IsGraph p graph) (r : 
       let known : s.step.to < expansions_of graph =
       known_place (positions_met graph) (expansions_of graph) s.step.to (after b check) g.kept.places.apart w.between lead in
       let next = g.steps s.step.to (after b check) known lead in
-      let side : (after b check).side ≡ other p.side = after_side b check ∙ ap other w.is_check.mover in
+      let side : (after b check).side ≡ other p.side = turn_after b check ∙ ap other w.is_check.mover in
       let answered : (a : Step) → Contains (steps_at graph s.step.to) a → IsRanked false ranks (Some (suc n)) a.to = λ a is.
       let evasion = step_evasions p.side (after b check) a.by side (next.lists.sound a.by (by_of (steps_at graph s.step.to) a is)) in
       let at = next.lead a is in

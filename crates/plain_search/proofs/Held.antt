@@ -3,6 +3,7 @@ use Rattle.std.proofs.Common.{◌≡◌, ◌<◌, ◌⊎◌, inl, inr, ℕ, zero
 use Rattle.std.specs.Prelude.{Some, None, Option, slice_get}
 use Rattle.std.proofs.lemmas.Bool.{cases_lt}
 use Rattle.std.proofs.lemmas.Option.{same_Some}
+use Rattle.value_laws.proofs.Sides.{same_side_itself, other_twice, same_side_is}
 use Rattle.bit_boards.specs.declared.piece.Side.{Side}
 use Rattle.bit_boards.specs.declared.piece.Side.TheVariants.{Black, White}
 use Rattle.board_core.specs.declared.moves.Move.{Move}
@@ -10,6 +11,7 @@ use Rattle.bit_boards.specs.Kind.{other}
 use Rattle.board_core.specs.Board.{Board}
 use Rattle.shogi_rules.specs.Rules.{after}
 use Rattle.shogi_rules.specs.Tsume.{IsCheck}
+use Rattle.shogi_rules.proofs.Offered.{turn_after}
 use Rattle.mate_def.specs.Mate.{after_both, HasEvasionTo}
 use Rattle.plain_search.specs.declared.graph.Step.{Step}
 use Rattle.plain_search.specs.declared.graph.Graph.{Graph}
@@ -19,16 +21,12 @@ use Rattle.plain_search.specs.Within.{IsHeldWithin}
 use Rattle.plain_search.specs.Decision.{known_of}
 use Rattle.list_laws.proofs.Standing.{contained_first}
 use Rattle.plain_search.proofs.Ranking.{Ranks, rank_cases}
-use Rattle.plain_search.proofs.Steps.{step_by, by_of, after_side, step_evasions}
+use Rattle.plain_search.proofs.Steps.{step_by, by_of, step_evasions}
 
 -- 1. Two moves on, the same side is to move.
 
-other_again : (s : Side) → other (other s) ≡ s
-other_again Black = refl
-other_again White = refl
-
 pub both_side : (b : Board) (check evasion : Move) → (after_both b check evasion).side ≡ b.side
-both_side b check evasion = after_side (after b check) evasion ∙ (ap other (after_side b check) ∙ other_again b.side)
+both_side b check evasion = turn_after (after b check) evasion ∙ (ap other (turn_after b check) ∙ other_twice b.side)
 
 -- 2. The positions of the attacker at whose places there is no rank.
 
@@ -38,26 +36,16 @@ same_side Black White = false
 same_side White Black = false
 same_side White White = true
 
-same_side_yes : (s : Side) → same_side s s ≡ true
-same_side_yes Black = refl
-same_side_yes White = refl
-
-same_side_told : (s t : Side) → same_side s t ≡ true → s ≡ t
-same_side_told Black Black e = refl
-same_side_told Black White e = absurd (cc)
-same_side_told White Black e = absurd (cc)
-same_side_told White White e = refl
-
 abbrev is_free : Side → Board → Option ℕ → Bool
 is_free attacker b None = same_side b.side attacker
 is_free attacker b (Some n) = false
 
 is_free_yes : (attacker : Side) (b : Board) (rank : Option ℕ) → rank ≡ None → b.side ≡ attacker → is_free attacker b rank ≡ true
-is_free_yes attacker b None none side = subst (λ (s : Side). same_side b.side s ≡ true) side (same_side_yes b.side)
+is_free_yes attacker b None none side = subst (λ (s : Side). same_side b.side s ≡ true) side (same_side_itself b.side)
 is_free_yes attacker b (Some n) none side = absurd (cc)
 
 is_free_told : (attacker : Side) (b : Board) (rank : Option ℕ) → is_free attacker b rank ≡ true → (rank ≡ None) × (b.side ≡ attacker)
-is_free_told attacker b None e = (refl, same_side_told b.side attacker e)
+is_free_told attacker b None e = (refl, same_side_is b.side attacker e)
 is_free_told attacker b (Some n) e = absurd (cc)
 
 abbrev put : {X : Type 0} → Bool → X → List X → List X
@@ -182,7 +170,7 @@ module _ (p : Board) (graph : Graph) (ranks : Ranks) (g : IsGraph p graph) (all 
                 is_known first.step.to (after b check) known lead,
                 record {
                   evasion = evasion;
-                  is_evasion = step_evasions p.side (after b check) evasion (after_side b check ∙ ap other side)
+                  is_evasion = step_evasions p.side (after b check) evasion (turn_after b check ∙ ap other side)
                       (next.lists.sound evasion (by_of (steps_at graph first.step.to) way.step way.is_step));
                   leads = free_in p.side (positions_met graph) ranks way.step.to (after_both b check evasion) (next.lead way.step way.is_step)
                       way.below way.unranked (both_side b check evasion ∙ side);

@@ -3,6 +3,7 @@ use Rattle.std.proofs.Common.{◌≡◌, ◌<◌, ◌≤◌, ◌+◌, ◌⊎◌,
 use Rattle.std.specs.Prelude.{Some, Option, Bool, slice_get}
 use Rattle.std.proofs.lemmas.Option.{same_Some, slice_get_cases, slice_get_within, slice_get_read, slice_get-get_or}
 use Rattle.std.proofs.lemmas.List.{length_push}
+use Rattle.value_laws.proofs.Sides.{other_apart}
 use Rattle.bit_boards.specs.declared.piece.Side.{Side}
 use Rattle.bit_boards.specs.declared.piece.Side.TheVariants.{Black, White}
 use Rattle.board_core.specs.declared.moves.Move.{Move}
@@ -13,6 +14,7 @@ use Rattle.board_core.specs.Kept.{IsKept}
 use Rattle.board_core.specs.Order.{RisesFrom}
 use Rattle.shogi_rules.specs.Rules.{after}
 use Rattle.shogi_rules.specs.Tsume.{IsCheck, IsEvasion}
+use Rattle.shogi_rules.proofs.Offered.{turn_after}
 use Rattle.mate_def.specs.Mate.{after_both}
 use Rattle.board_core.specs.Text.{HasText}
 use Rattle.cert_text.specs.Certificate.{IsEntry}
@@ -26,7 +28,7 @@ use Rattle.plain_search.specs.Agenda.{AreListed}
 use Rattle.cert_order.specs.Entries.{AreMateEntries}
 use Rattle.list_laws.proofs.Standing.{contained, at_place, from_map, contains_map, get_cases, more}
 use Rattle.plain_search.proofs.Ranking.{Ranks, within, rank_cases, some_unranked, unranked-is}
-use Rattle.plain_search.proofs.Steps.{step_by, by_of, after_side, step_checks}
+use Rattle.plain_search.proofs.Steps.{step_by, by_of, step_checks}
 use Rattle.plain_search.proofs.Agendas.{Grows, grows_contains, grows_more, grows_none, added_cases}
 
 -- 1. Positions.
@@ -197,10 +199,6 @@ evasion_at graph ranks below to beaten items same n evasion inside is =
     let ranked = known_ranked ranks below evasion.to ((known_beaten graph ranks below to beaten).1 evasion c) in
     (ranked.0, (ranked.1.0, ranked.1.1), e)
 
-other_side : (s : Side) → other s ≡ s → ⊥
-other_side Black e = absurd (cc)
-other_side White e = absurd (cc)
-
 -- a rank is less than the number of known places: one of them is the defender's, which its check leads to and which has none
 pub rank_below : (p : Board) (graph : Graph) (ranks : Ranks) → IsGraph p graph → AreRanks false p graph ranks → (place rank : ℕ)
     → rank_at ranks place ≡ Some rank → rank < expansions_of graph
@@ -220,8 +218,8 @@ rank_below p graph ranks g r place rank has = elim (slice_get_cases (met graph) 
             omega arith
         | inr also ↦
             let mine = (r.won step.to also.0 (after e.0 step.by) also.1 lead).0 in
-            let his = after_side e.0 step.by ∙ ap other won.0 in
-            absurd (other_side p.side (sym his ∙ mine))
+            let his = turn_after e.0 step.by ∙ ap other won.0 in
+            absurd (other_apart p.side (sym his ∙ mine))
       ]
   | inr past ↦ let inside = within ranks place rank has in let short = past.0 in let all = r.all in let w = g.within in absurd (omega arith)
 ]

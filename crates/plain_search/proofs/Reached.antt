@@ -10,6 +10,7 @@ use Rattle.bit_boards.specs.Kind.{other}
 use Rattle.board_core.specs.Board.{Board}
 use Rattle.board_core.specs.Order.{order_of, RisesFrom, PlacesInOrder}
 use Rattle.shogi_rules.specs.Rules.{after}
+use Rattle.shogi_rules.proofs.Offered.{turn_after}
 use Rattle.mate_def.specs.Mate.{after_both}
 use Rattle.plain_search.specs.declared.graph.Step.{Step}
 use Rattle.plain_search.specs.declared.graph.Graph.{Graph}
@@ -21,7 +22,7 @@ use Rattle.plain_search.specs.Entries.{mating_of, ArePlainEntries}
 use Rattle.list_laws.proofs.Standing.{contained, at_place}
 use Rattle.plain_search.proofs.MoveOrder.{before_in}
 use Rattle.plain_search.proofs.Ranking.{Ranks}
-use Rattle.plain_search.proofs.Steps.{by_of, after_side, step_evasions}
+use Rattle.plain_search.proofs.Steps.{by_of, step_evasions}
 use Rattle.plain_search.proofs.Agendas.{added_cases}
 use Rattle.plain_search.proofs.Mates.{AreShown, IsNext, known_beaten}
 use Rattle.plain_search.proofs.Exact.{plain_entry}
@@ -82,7 +83,7 @@ module _ (p : Board) (graph : Graph) (ranks : Ranks) (g : IsGraph p graph) (r : 
       subst (λ (m : Move). slice_get (positions_met graph) step.to ≡ Some (after entry.at m)) by (steps.lead step is) in
       let below = (known_beaten graph ranks (Some entry.rank.number) step.to beaten).0 in
       let later = g.steps step.to (after entry.at entry.by) (omega (arith, all, below)) lead in
-      let defends : (after entry.at entry.by).side ≡ other p.side = after_side entry.at entry.by ∙ ap other side in
+      let defends : (after entry.at entry.by).side ≡ other p.side = turn_after entry.at entry.by ∙ ap other side in
       record {
         plain = λ e c. elim (Contains-push_cases entries entry e c) [
           | inl before ↦ so_far.plain e before

@@ -27,10 +27,6 @@ pub other_side : (side : Side) → side ≡ other side → ⊥
 other_side Black e = cc
 other_side White e = cc
 
-pub after_side : (b : Board) (move : Move) → (after b move).side ≡ other b.side
-after_side b (moves.Board _ _ _) = refl
-after_side b (moves.Drop _ _) = refl
-
 pub step_legal : (attacker : Side) (b : Board) (move : Move) → IsStep attacker b move → IsLegal b move
 step_legal attacker b move (inl check) = check.legal
 step_legal attacker b move (inr evasion) = evasion.legal

@@ -8,6 +8,7 @@ use Rattle.bit_boards.specs.Kind.{other}
 use Rattle.board_core.specs.Board.{Board}
 use Rattle.shogi_rules.specs.Rules.{after}
 use Rattle.shogi_rules.specs.Tsume.{IsCheck, IsEvasion}
+use Rattle.shogi_rules.proofs.Offered.{turn_after}
 use Rattle.mate_def.specs.Mate.{after_both}
 use Rattle.plain_search.specs.declared.graph.Step.{Step}
 use Rattle.plain_search.specs.declared.graph.Graph.{Graph}
@@ -16,7 +17,7 @@ use Rattle.plain_search.specs.Graph.{IsGraph, steps_at, expansions_of, positions
 use Rattle.plain_search.specs.Ranks.{rank_at, HasRank, IsRanked, IsBeaten, AreWon, AreLost, AreRanks}
 use Rattle.plain_search.specs.Within.{RankWithin, IsHeldWithin, IsUndecided}
 use Rattle.plain_search.proofs.Ranking.{Ranks, rank_cases, not_both}
-use Rattle.plain_search.proofs.Steps.{IsStepBy, step_by, by_of, after_side, step_checks, step_evasions}
+use Rattle.plain_search.proofs.Steps.{IsStepBy, step_by, by_of, step_checks, step_evasions}
 
 -- a position of a list of which none stands twice stands among the first so many where these hold it
 pub known_place : (positions : List Board) (expansions place : ℕ) (b : Board) → AreApart positions → Contains (take expansions positions) b
@@ -78,7 +79,7 @@ module _ (p : Board) (graph : Graph) (kept : IsGraph p graph) where
       let between : slice_get (positions_met graph) found.step.to ≡ Some (after b check) =
       subst (λ (m : Move). slice_get (positions_met graph) found.step.to ≡ Some (after b m)) found.by (leads place b h there found.step found.is_step) in
       let known : found.step.to < expansions_of graph = known_expansion found.step.to (after b check) r.1.2 between in
-      let side : (after b check).side ≡ other p.side = after_side b check ∙ ap other r.1.1.mover in
+      let side : (after b check).side ≡ other p.side = turn_after b check ∙ ap other r.1.1.mover in
       let answered : (step : Step) → Contains (steps_at graph found.step.to) step → IsRanked false ranks None step.to = λ step is.
       let evasion = is_evasion found.step.to (after b check) known between step is side in
       let next = r.1.3 step.by evasion in

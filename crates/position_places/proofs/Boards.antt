@@ -4,7 +4,6 @@ use Rattle.std.specs.Prelude.{Some, None, slice_get, slice_set, IsSome}
 use Rattle.std.specs.List.{All, filter, IsDistinct}
 use Rattle.std.specs.List.Sorted.{IsPermutation, IsSorted}
 use Rattle.std.specs.Ordering.{nat_cmp, is_gt, ordering_then}
-use Rattle.std.specs.Cmp.{IsTotalOrder}
 use Rattle.std.specs.declared.cmp.Ordering.{Ordering}
 use Rattle.std.specs.declared.cmp.Ordering.TheVariants.{Less, Equal, Greater}
 use Rattle.std.specs.declared.ops.Bound.TheVariants.{Included}
@@ -12,7 +11,7 @@ use Rattle.std.specs.Cmp.Lexicographic.{slice_cmp}
 use Rattle.std.specs.Map.{values_of, keys_of}
 use Rattle.std.specs.BTreeMap.{get, is_at, BTreeMap, IsOrdered}
 use Rattle.std.specs.BTreeMap.Range.{IsInRange, IsEntryInRange, range_contains, entries_between, EntryPlaces}
-use Rattle.std.proofs.lemmas.Cmp.{nat_list_cmp_total, nat_cmp_total, tied_itself, on_total, ranked, nat_eq_equiv}
+use Rattle.std.proofs.lemmas.Cmp.{nat_list_cmp_total, nat_cmp_total, tied_itself, ranked, nat_eq_equiv}
 use Rattle.std.specs.Option.{option_map}
 use Rattle.std.proofs.Math.ListN.{length-map}
 use Rattle.std.proofs.lemmas.Bool.{cases_Bool}
@@ -28,10 +27,11 @@ use Rattle.board_core.specs.declared.keys.Key.{Key}
 use Rattle.board_core.specs.Board.{Board}
 use Rattle.board_core.specs.Kept.{IsKept}
 use Rattle.board_core.specs.Key.{key_word, hands_word, key_of}
-use Rattle.board_core.proofs.KeyExact.{cells_exact, key_exact, hand_small, modest_black, modest_white}
+use Rattle.value_laws.proofs.Keys.{cells_exact, position_exact, hand_small, modest_black, modest_white, key_total}
 use Rattle.list_laws.proofs.Standing.{contained, at_place, from_map, contains_map}
 use Rattle.position_places.specs.declared.places.Places.{Places}
-use Rattle.position_places.specs.Places.{key_cmp, ArePlacesOf}
+use Rattle.position_places.specs.Places.{ArePlacesOf}
+use Rattle.board_core.specs.KeyOrder.{key_cmp}
 use Rattle.position_places.specs.Boards.{IsOnBoardOf, StandsOnBoard, ArePlacesOnBoard, AreBoardKeys, least_hands}
 use Rattle.position_places.proofs.Finding.{same_words}
 
@@ -164,9 +164,6 @@ ends_in_order p least greatest ends =
 
 -- 3. The places between the ends.
 
-key_total : IsTotalOrder key_cmp
-key_total = on_total (λ (k : Key). k.0) nat_list_cmp_total
-
 -- what passes a test is among what passes
 passes : {X : Type 0} (test : X → Bool) (xs : List X) (i : ℕ) (x : X) → slice_get xs i ≡ Some x → test x ≡ true → Contains (filter test xs) x
 passes test [] i x e h = absurd (cc)
@@ -204,7 +201,7 @@ listed_key places positions place b known there key words (Some other) e some =
     let s = known.right key other (sym e) in
     let kept = known.kept b (contained positions place b there) in
     let too = known.kept s.position (contained positions other s.position s.there) in
-    let same : s.position ≡ b = key_exact s.position b too kept (s.has_key ∙ sym words) in
+    let same : s.position ≡ b = position_exact s.position b too kept (s.has_key ∙ sym words) in
     ap Some (known.apart other place b (s.there ∙ ap (λ (x : Board). Some x) same) there)
 
 all_places : (places : Places) (p : Board) (least greatest : Key) (entries : List (Key × ℕ)) (positions : List Board)

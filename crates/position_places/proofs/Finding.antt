@@ -10,18 +10,20 @@ use Rattle.std.proofs.lemmas.List.Elements.{Contains-push_cases}
 use Rattle.std.proofs.lemmas.Option.{get_or_from_slice_get, slice_get_within}
 use Rattle.std.proofs.lemmas.List.{length_push}
 use Rattle.std.proofs.lemmas.Bool.{cases_Bool}
+use Rattle.value_laws.proofs.Keys.{equal_of}
 use Rattle.list_laws.proofs.Standing.{get_kept, get_last, apart_more, contained}
-use Rattle.list_laws.proofs.Mapped.{equal_from, written, unwritten}
+use Rattle.list_laws.proofs.Mapped.{written, unwritten}
 use Rattle.board_core.specs.declared.keys.Key.{Key}
 use Rattle.board_core.specs.Board.{Board}
 use Rattle.board_core.specs.Kept.{IsKept}
 use Rattle.board_core.specs.Key.{key_of}
 use Rattle.position_places.specs.declared.places.Places.{Places}
-use Rattle.position_places.specs.Places.{key_cmp, StandsAt, ArePlacesOf, IsPlace, IsPlaceOrNext, IsWith}
+use Rattle.position_places.specs.Places.{StandsAt, ArePlacesOf, IsPlace, IsPlaceOrNext, IsWith}
+use Rattle.board_core.specs.KeyOrder.{key_cmp}
 
 -- keys are found as one exactly where their words are the same
 pub same_words : (a k : Key) → is_at (key_cmp a) k ≡ true → a.0 ≡ k.0
-same_words a k h = exact_bytes a.0 k.0 (equal_from (key_cmp a k) h)
+same_words a k h = exact_bytes a.0 k.0 (equal_of (key_cmp a k) h)
 
 at_words : (a k : Key) → a.0 ≡ k.0 → is_at (key_cmp a) k ≡ true
 at_words a k e = subst (λ (w : List ℕ). is_eq (slice_cmp nat_cmp a.0 w) ≡ true) e (ap is_eq (tied_itself nat_list_cmp_total a.0))

@@ -1,19 +1,13 @@
 -- Where a position stands in a list, and how it is found there by its key.
 use Rattle.std.specs.Prelude.{◌≡◌, ◌⊎◌, ◌++◌, ℕ, List, [], ◌∷◌, Option, Some, None, IsSome, Contains, length, slice_get}
-use Rattle.std.specs.Ordering.{nat_cmp}
-use Rattle.std.specs.declared.cmp.Ordering.{Ordering}
-use Rattle.std.specs.Cmp.Lexicographic.{slice_cmp}
 use Rattle.std.specs.BTreeMap.{get, btree_map_len}
 use Rattle.board_core.specs.declared.keys.Key.{Key}
 use Rattle.board_core.specs.Board.{Board}
 use Rattle.board_core.specs.Kept.{IsKept}
 use Rattle.board_core.specs.Key.{key_of}
+use Rattle.board_core.specs.KeyOrder.{key_cmp}
 use Rattle.mate_facts.specs.Entries.{AreApart}
 use Rattle.position_places.specs.declared.places.Places.{Places}
-
--- The order of keys: by their words.
-abbrev pub key_cmp : Key → Key → Ordering
-key_cmp a b = slice_cmp nat_cmp a.0 b.0
 
 -- A position of the list stands at the place, and has the key.
 pub record StandsAt (positions : List Board) (place : ℕ) (key : Key) : Type 0 where

@@ -37,11 +37,6 @@ pub told_there : (s : SettingsView) (f : CollectionView) (lines : List Line) (pl
 told_there s f lines place e report true_of has = λ d low.
     subst (λ (line : Line). IsReportOn s f line report) (get_or_default lines place e d low) (record { true_of = true_of; has_line = has })
 
--- One more holds too, where it was put behind the others.
-pub all_pushed : {X : Type 0} (P : X → Type 0) (before after : List X) (x : X) (b : Bool) → after ≡ (if b then before ++ x ∷ [] else before) → All P before → P x → All P after
-all_pushed P before after x true e all one = subst (All P) (sym e) (All-push P before x all one)
-all_pushed P before after x false e all one = subst (All P) (sym e) all
-
 -- The last holds, and so do those before it.
 pub all_last : {X : Type 0} (P : X → Type 0) (all before : List X) (x : X) → all ≡ before ++ x ∷ [] → All P all → P x
 all_last P all before x e holds =

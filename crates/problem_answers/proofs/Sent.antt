@@ -5,6 +5,8 @@ use denote.Hole.{as_row}
 use Rattle.std.proofs.Crossing.{crosses}
 use Rattle.notes.proofs.note.Note.TheLaws.TheKnot as knot
 use Rattle.app_texts.proofs.report.LineFault.TheSendSync as of_linefault
+use Rattle.notes.proofs.Offered.{note_send}
+use Rattle.search_pool.proofs.Offered.{crew_send, table_send}
 use Rattle.board_core.proofs.Kind.TheSendSync as of_kind
 use Rattle.board_core.proofs.Side.TheSendSync as of_side
 use Rattle.board_core.proofs.Square.TheSendSync as of_square
@@ -25,43 +27,14 @@ use Rattle.board_core.proofs.hand.Hand.TheSendSync as of_hand
 use Rattle.board_core.proofs.position.Position.TheSendSync as of_position
 use Rattle.shogi_rules.proofs.problem.Problem.TheSendSync as of_problem
 use Rattle.path_tags.proofs.path.Path.TheSendSync as of_path
-use Rattle.notes.specs.contracts.note.Note as note
-use Rattle.visit_frame.specs.contracts.frame.Frame as frame
-use Rattle.worker_core.specs.contracts.stack.Stack as stack
-use Rattle.worker_core.specs.contracts.machine.Core as core
-use Rattle.worker_core.specs.contracts.worker.Worker as worker
-use Rattle.search_pool.specs.contracts.end.Crew as crew
 use Rattle.app_texts.specs.contracts.answer.Solution as solution
 use Rattle.app_texts.specs.contracts.report.Report as report
 use Rattle.app_texts.specs.contracts.report.LineFault as line_fault
 use Rattle.problem_answers.specs.contracts.seat.Made as made
-use Rattle.table_shard.specs.contracts.entry.Entry as entry
-use Rattle.table_shard.specs.contracts.row.Row as row
-use Rattle.table_shard.specs.contracts.shard.Shard as shard
-use Rattle.unit_desk.specs.contracts.desk.Desk as desk
-use Rattle.lone_port.specs.contracts.lone.LonePort as lone
 use Rattle.search_pool.specs.contracts.table.Table as table
 use Rattle.problem_answers.specs.contracts.seat.Seat as seat
 
 pub ruleset parts = (of_linefault.the_send, of_linefault.the_field_send, of_kind.the_send, of_kind.the_field_send, of_side.the_send, of_side.the_field_send, of_square.the_send, of_square.the_field_send, of_code.the_send, of_code.the_field_send, of_key.the_send, of_key.the_field_send, of_move.the_send, of_move.the_field_send, of_sets.the_send, of_sets.the_field_send, of_rule.the_send, of_rule.the_field_send, of_numbers.the_send, of_numbers.the_field_send, of_child_pn.the_send, of_child_pn.the_field_send, of_entry_visit.the_send, of_entry_visit.the_field_send, of_look.the_send, of_look.the_field_send, of_workend.the_send, of_workend.the_field_send, of_cause.the_send, of_cause.the_field_send, of_settings.the_send, of_settings.the_field_send, of_tag.the_send, of_hand.the_send, of_position.the_send, of_problem.the_send, of_path.the_send, crosses, knot.crosses, sendable)
-
-pub note_send : IsSend note.the_row
-note_send = search (parts) depth 60 fits 20000
-
-pub frame_send : IsSend frame.the_row
-frame_send = search (note_send, parts) depth 60 fits 20000
-
-pub stack_send : IsSend stack.the_row
-stack_send = search (frame_send, parts) depth 60 fits 20000
-
-pub core_send : IsSend core.the_row
-core_send = search (stack_send, note_send, parts) depth 60 fits 20000
-
-pub worker_send : IsSend worker.the_row
-worker_send = search (core_send, parts) depth 60 fits 20000
-
-pub crew_send : IsSend crew.the_row
-crew_send = search (worker_send, parts) depth 60 fits 20000
 
 pub solution_send : IsSend solution.the_row
 solution_send = search (crew_send, parts) depth 60 fits 20000
@@ -83,24 +56,6 @@ report_field_send = search (report_send, parts) depth 60 fits 20000
 
 pub made_send : IsSend made.the_row
 made_send = search (declared_send, as_row_send, report_field_send, sendable) depth 20 fits 20000
-
-pub entry_send : IsSend entry.the_row
-entry_send = search (note_send, parts) depth 60 fits 20000
-
-pub row_send : IsSend row.the_row
-row_send = search (entry_send, parts) depth 60 fits 20000
-
-pub shard_send : IsSend shard.the_row
-shard_send = search (row_send, parts) depth 60 fits 20000
-
-pub desk_send : IsSend desk.the_row
-desk_send = search (note_send, parts) depth 60 fits 20000
-
-pub lone_send : IsSend lone.the_row
-lone_send = search (shard_send, desk_send, parts) depth 60 fits 20000
-
-pub table_send : IsSend table.the_row
-table_send = search (lone_send, parts) depth 60 fits 20000
 
 pub table_field_send : IsSend (as_row table.the_field)
 table_field_send = search (table_send, parts) depth 60 fits 20000

@@ -4,6 +4,7 @@ use Rattle.std.specs.Prelude.{IsSomeAnd}
 use Rattle.std.specs.List.{count_by}
 use Rattle.std.proofs.lemmas.Bool.{cases_eq}
 use Rattle.std.proofs.lemmas.List.Sums.{sum_by-cons}
+use Rattle.value_laws.proofs.Cells.{one_if_most, none_everywhere}
 use Rattle.bit_boards.specs.declared.piece.Piece.{Piece}
 use Rattle.bit_boards.specs.declared.piece.Kind.{Kind}
 use Rattle.bit_boards.specs.declared.piece.Kind.TheVariants.{Pawn, Lance, Knight, Silver, Gold, Bishop, Rook, King}
@@ -26,11 +27,6 @@ king = Some (plain_piece King White)
 abbrev pub cells_with : ℕ → ℕ → List (Option Piece)
 cells_with n square = slice_set (replicate n None) square king
 
-empty_at : (n s : ℕ) → piece_at (replicate n None) s ≡ None
-empty_at zero s = refl
-empty_at (suc n) zero = refl
-empty_at (suc n) (suc s) = empty_at n s
-
 pub king_at : (n square : ℕ) → square < n → piece_at (cells_with n square) square ≡ king
 king_at zero square h = absurd (omega arith)
 king_at (suc n) zero h = refl
@@ -39,7 +35,7 @@ king_at (suc n) (suc square) h = king_at n square (omega arith)
 pub none_at : (n square s : ℕ) → s ≢ square → piece_at (cells_with n square) s ≡ None
 none_at zero square s h = refl
 none_at (suc n) zero zero h = absurd (h refl)
-none_at (suc n) zero (suc s) h = empty_at n s
+none_at (suc n) zero (suc s) h = none_everywhere n s
 none_at (suc n) (suc square) zero h = refl
 none_at (suc n) (suc square) (suc s) h = none_at n square s (λ e. h (ap suc e))
 
@@ -96,10 +92,6 @@ two_at_least Bishop = omega arith
 two_at_least Rook = omega arith
 two_at_least King = omega arith
 
-one_at_most : (b : Bool) → one_if b ≤ 1
-one_at_most true = omega arith
-one_at_most false = omega arith
-
 kings_few : (n square : ℕ) (side : Side) → square < n → kings_of (board_with n square) side ≤ 1
 kings_few n square Black below = omega (arith, black_kings n square below)
 kings_few n square White below = omega (arith, white_kings n square below)
@@ -126,7 +118,7 @@ no_pawn n square s side below h = elim (cases_eq s square) [
 
 -- A board with White's king alone has none of the faults.
 pub no_fault : (n square : ℕ) → square < n → (fault : BadPosition) → ¬ HasFault (board_with n square) fault
-no_fault n square below (TooMany k) h = absurd (omega (arith, king_count n square k below, two_at_least k, one_at_most (same_kind King k), h.1))
+no_fault n square below (TooMany k) h = absurd (omega (arith, king_count n square k below, two_at_least k, one_if_most (same_kind King k), h.1))
 no_fault n square below NoDefenderKing h = absurd (omega (arith, white_kings n square below, h))
 no_fault n square below TwoKings h = absurd (omega (arith, kings_few n square h.0 below, h.1))
 no_fault n square below (DeadPiece at) h = nothing_dead n square at.number below h

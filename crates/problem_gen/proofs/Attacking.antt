@@ -2,6 +2,7 @@
 use Rattle.std.proofs.Common.{◌≡◌, ◌≢◌, ◌<◌, ◌⊎◌, inl, inr, ◌↔◌, ◌∙◌, ℕ, List, Option, Some, None, true, false, arith, ap, sym, refl, subst}
 use Rattle.std.specs.Prelude.{IsSomeAnd}
 use Rattle.std.proofs.lemmas.Bool.{cases_eq}
+use Rattle.value_laws.proofs.Pieces.{not_the_king}
 use Rattle.bit_boards.specs.declared.piece.Piece.{Piece}
 use Rattle.bit_boards.specs.declared.piece.Kind.{Kind}
 use Rattle.bit_boards.specs.declared.piece.Kind.TheVariants.{Pawn, Lance, Knight, Silver, Gold, Bishop, Rook, King}
@@ -10,6 +11,7 @@ use Rattle.bit_boards.specs.declared.piece.Side.TheVariants.{Black, White}
 use Rattle.bit_boards.specs.Kind.{same_kind}
 use Rattle.board_core.specs.Board.{Board, piece_at, is_king_of, kings_of, ChangesCell}
 use Rattle.shogi_rules.specs.Rules.{Reaches, AttacksFrom, Attacks}
+use Rattle.shogi_rules.proofs.Offered.{kings_dropped}
 use Rattle.problem_gen.specs.declared.drawn.Drawn.{Drawn}
 use Rattle.problem_gen.specs.Generator.{piece_of, square_for, with_piece, MayStand, IsUnderWay}
 
@@ -43,22 +45,6 @@ pub attack_of_put : (b c : Board) (king square : ℕ) (piece : Piece) → ¬ Att
 attack_of_put b c king square piece safe within change =
     (λ h. elim (attack_put b c square piece Black king change h) [ inl own ↦ own | inr old ↦ absurd (safe old) ], λ h. (square, within, h))
 
-not_the_king : (k : Kind) → k ≢ King → same_kind k King ≡ false
-not_the_king Pawn h = refl
-not_the_king Lance h = refl
-not_the_king Knight h = refl
-not_the_king Silver h = refl
-not_the_king Gold h = refl
-not_the_king Bishop h = refl
-not_the_king Rook h = refl
-not_the_king King h = absurd (h refl)
-
-kings_kept : (b c : Board) (square : ℕ) (piece : Piece) (side : Side) → piece.kind ≢ King → piece_at b.cells square ≡ None
-    → ChangesCell b c square (Some piece) → kings_of c side ≡ kings_of b side
-kings_kept b c square piece side king free change =
-    let counted = rw (free, not_the_king piece.kind king) at (change.kings side) in
-    omega arith
-
 king_kept : (b c : Board) (king square : ℕ) (piece : Piece) → piece_at b.cells square ≡ None → ChangesCell b c square (Some piece)
     → is_king_of White (piece_at b.cells king) ≡ true → is_king_of White (piece_at c.cells king) ≡ true
 king_kept b c king square piece free change there = elim (cases_eq king square) [
@@ -89,8 +75,8 @@ stands_under_way b c king piece under may other same change = record {
   turn = rw same under.turn;
   there = king_kept b c king (square_for piece) (piece_of piece) may.free change under.there;
   only = only_kept b c king (square_for piece) (piece_of piece) other change under.only;
-  defender = kings_kept b c (square_for piece) (piece_of piece) White other may.free change ∙ under.defender;
-  attacker = kings_kept b c (square_for piece) (piece_of piece) Black other may.free change ∙ under.attacker;
+  defender = kings_dropped b c (square_for piece) (piece_of piece) White other may.free change ∙ under.defender;
+  attacker = kings_dropped b c (square_for piece) (piece_of piece) Black other may.free change ∙ under.attacker;
   safe = λ h. elim (attack_put b c (square_for piece) (piece_of piece) Black king change h) [
     | inl own ↦
         may.safe (black_attacks (piece_at c.cells (square_for piece)) (piece_of piece) c.cells (square_for piece) king change.there own)

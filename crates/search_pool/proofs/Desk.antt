@@ -2,6 +2,7 @@
 use Rattle.std.proofs.Common.{◌≡◌, ◌⊎◌, inl, inr, List, [], ◌∷◌, ◌++◌, arith, refl, sym, ap, ◌∙◌, subst, Bool, true, false}
 use Rattle.std.specs.Prelude.{Option, Some, None, IsSome}
 use Rattle.std.proofs.lemmas.List.Elements.{Contains-push_cases}
+use Rattle.std.proofs.lemmas.Bool.{false≢true}
 use Rattle.board_core.specs.declared.keys.Key.{Key}
 use Rattle.notes.specs.Derivation.{Derivation}
 use Rattle.notes.specs.declared.words.Draw.TheVariants.{Go, Done, Spent as AllDrawn}
@@ -12,6 +13,7 @@ use Rattle.visit_log.specs.declared.words.Reply.{Reply}
 use Rattle.visit_log.specs.declared.words.Reply.TheVariants.{Poll as Polled, Draw as Drew, Claim as Claimed, Look as Looked, Enter as Entered, Leave as LeftIt, Post as PostedIt}
 use Rattle.visit_log.specs.Visit.{Exchange}
 use Rattle.unit_desk.specs.Desk.{DeskView, first_posted}
+use Rattle.unit_desk.proofs.Offered.{first_is}
 use Rattle.lone_port.specs.Lone.{LonePortView, Turns, opened}
 use Rattle.search_pool.specs.Inside.{says_spent, says_full, says_posted, WasSaid, IsToldDesk}
 
@@ -24,27 +26,20 @@ pub record DeskMoves (before : DeskView) (says : Exchange) (after : DeskView) : 
   pub posted : IsSome before.posted ⊎ (says_posted says ≡ true) → IsSome after.posted
   pub is_said : IsSome after.posted → IsSome before.posted ⊎ (says_posted says ≡ true)
 
-no : {A : Type 0} → false ≡ true → A
-no e = absurd (cc)
-
 -- Nothing happens to the desk, and nothing of it is said.
 stays : (d : DeskView) (says : Exchange) → says_spent says ≡ false → says_full says ≡ false → says_posted says ≡ false → DeskMoves d says d
 stays d says one two three = record {
   expansions = refl;
   room = refl;
-  spent = λ h. elim h as (λ _. d.drawn ≡ d.expansions) [ inl e ↦ e | inr e ↦ no (sym one ∙ e) ];
-  full = λ h. elim h as (λ _. d.claimed ≡ d.room) [ inl e ↦ e | inr e ↦ no (sym two ∙ e) ];
-  posted = λ h. elim h as (λ _. IsSome d.posted) [ inl e ↦ e | inr e ↦ no (sym three ∙ e) ];
+  spent = λ h. elim h as (λ _. d.drawn ≡ d.expansions) [ inl e ↦ e | inr e ↦ absurd (false≢true (sym one ∙ e)) ];
+  full = λ h. elim h as (λ _. d.claimed ≡ d.room) [ inl e ↦ e | inr e ↦ absurd (false≢true (sym two ∙ e)) ];
+  posted = λ h. elim h as (λ _. IsSome d.posted) [ inl e ↦ e | inr e ↦ absurd (false≢true (sym three ∙ e)) ];
   is_said = λ k. inl k;
 }
 
 stays_at : (before after : LonePortView) (says : Exchange) → after.desk ≡ before.desk → says_spent says ≡ false → says_full says ≡ false → says_posted says ≡ false
     → DeskMoves before.desk says after.desk
 stays_at before after says e one two three = subst (λ (d : DeskView). DeskMoves before.desk says d) (sym e) (stays before.desk says one two three)
-
-first_is : (posted : Option Derivation) (note : Derivation) → IsSome (first_posted posted note)
-first_is None note = refl
-first_is (Some first) note = refl
 
 moves : (before : LonePortView) (path : List Key) (q : Request) (a : Option Reply) (after : LonePortView) → Turns before path q a after → DeskMoves before.desk (q, a) after.desk
 moves before path Poll None after h = absurd h
@@ -65,9 +60,9 @@ moves before path Draws (Some (Drew (Go unit))) after h =
     (record {
       expansions = refl;
       room = refl;
-      spent = λ k. elim k as (λ _. unit ≡ before.desk.expansions) [ inl e ↦ absurd (let low = h.0.1 in omega (arith, low, e)) | inr e ↦ no e ];
-      full = λ k. elim k as (λ _. before.desk.claimed ≡ before.desk.room) [ inl e ↦ e | inr e ↦ no e ];
-      posted = λ k. elim k as (λ _. IsSome before.desk.posted) [ inl e ↦ e | inr e ↦ no e ];
+      spent = λ k. elim k as (λ _. unit ≡ before.desk.expansions) [ inl e ↦ absurd (let low = h.0.1 in omega (arith, low, e)) | inr e ↦ absurd (false≢true e) ];
+      full = λ k. elim k as (λ _. before.desk.claimed ≡ before.desk.room) [ inl e ↦ e | inr e ↦ absurd (false≢true e) ];
+      posted = λ k. elim k as (λ _. IsSome before.desk.posted) [ inl e ↦ e | inr e ↦ absurd (false≢true e) ];
       is_said = λ k. inl k;
     })
 moves before path Draws (Some (Drew Done)) after h =
@@ -75,8 +70,8 @@ moves before path Draws (Some (Drew Done)) after h =
     (record {
       expansions = refl;
       room = refl;
-      spent = λ k. elim k as (λ _. before.desk.drawn ≡ before.desk.expansions) [ inl e ↦ e | inr e ↦ no e ];
-      full = λ k. elim k as (λ _. before.desk.claimed ≡ before.desk.room) [ inl e ↦ e | inr e ↦ no e ];
+      spent = λ k. elim k as (λ _. before.desk.drawn ≡ before.desk.expansions) [ inl e ↦ e | inr e ↦ absurd (false≢true e) ];
+      full = λ k. elim k as (λ _. before.desk.claimed ≡ before.desk.room) [ inl e ↦ e | inr e ↦ absurd (false≢true e) ];
       posted = λ k. h.0.0;
       is_said = λ k. inl k;
     })
@@ -86,8 +81,8 @@ moves before path Draws (Some (Drew AllDrawn)) after h =
       expansions = refl;
       room = refl;
       spent = λ k. h.0.1;
-      full = λ k. elim k as (λ _. before.desk.claimed ≡ before.desk.room) [ inl e ↦ e | inr e ↦ no e ];
-      posted = λ k. elim k as (λ _. IsSome before.desk.posted) [ inl e ↦ e | inr e ↦ no e ];
+      full = λ k. elim k as (λ _. before.desk.claimed ≡ before.desk.room) [ inl e ↦ e | inr e ↦ absurd (false≢true e) ];
+      posted = λ k. elim k as (λ _. IsSome before.desk.posted) [ inl e ↦ e | inr e ↦ absurd (false≢true e) ];
       is_said = λ k. inl k;
     })
 moves before path Draws (Some (Claimed (Room room))) after h = absurd h
@@ -106,9 +101,9 @@ moves before path Claims (Some (Claimed (Room room))) after h =
     (record {
       expansions = refl;
       room = refl;
-      spent = λ k. elim k as (λ _. before.desk.drawn ≡ before.desk.expansions) [ inl e ↦ e | inr e ↦ no e ];
-      full = λ k. elim k as (λ _. room ≡ before.desk.room) [ inl e ↦ absurd (let low = h.0.0 in omega (arith, low, e)) | inr e ↦ no e ];
-      posted = λ k. elim k as (λ _. IsSome before.desk.posted) [ inl e ↦ e | inr e ↦ no e ];
+      spent = λ k. elim k as (λ _. before.desk.drawn ≡ before.desk.expansions) [ inl e ↦ e | inr e ↦ absurd (false≢true e) ];
+      full = λ k. elim k as (λ _. room ≡ before.desk.room) [ inl e ↦ absurd (let low = h.0.0 in omega (arith, low, e)) | inr e ↦ absurd (false≢true e) ];
+      posted = λ k. elim k as (λ _. IsSome before.desk.posted) [ inl e ↦ e | inr e ↦ absurd (false≢true e) ];
       is_said = λ k. inl k;
     })
 moves before path Claims (Some (Claimed Full)) after h =
@@ -116,9 +111,9 @@ moves before path Claims (Some (Claimed Full)) after h =
     (record {
       expansions = refl;
       room = refl;
-      spent = λ k. elim k as (λ _. before.desk.drawn ≡ before.desk.expansions) [ inl e ↦ e | inr e ↦ no e ];
+      spent = λ k. elim k as (λ _. before.desk.drawn ≡ before.desk.expansions) [ inl e ↦ e | inr e ↦ absurd (false≢true e) ];
       full = λ k. h.0.0;
-      posted = λ k. elim k as (λ _. IsSome before.desk.posted) [ inl e ↦ e | inr e ↦ no e ];
+      posted = λ k. elim k as (λ _. IsSome before.desk.posted) [ inl e ↦ e | inr e ↦ absurd (false≢true e) ];
       is_said = λ k. inl k;
     })
 moves before path Claims (Some (Looked seen)) after h = absurd h
@@ -173,8 +168,8 @@ moves before path (Post note) (Some PostedIt) after h =
     (record {
       expansions = refl;
       room = refl;
-      spent = λ k. elim k as (λ _. before.desk.drawn ≡ before.desk.expansions) [ inl e ↦ e | inr e ↦ no e ];
-      full = λ k. elim k as (λ _. before.desk.claimed ≡ before.desk.room) [ inl e ↦ e | inr e ↦ no e ];
+      spent = λ k. elim k as (λ _. before.desk.drawn ≡ before.desk.expansions) [ inl e ↦ e | inr e ↦ absurd (false≢true e) ];
+      full = λ k. elim k as (λ _. before.desk.claimed ≡ before.desk.room) [ inl e ↦ e | inr e ↦ absurd (false≢true e) ];
       posted = λ k. first_is before.desk.posted note;
       is_said = λ k. inr refl;
     })

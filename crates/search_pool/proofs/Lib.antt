@@ -4,3 +4,5 @@ pub mod Quiet
 pub mod Winding
 pub mod Way
 pub mod Ends
+pub mod Sent
+pub mod Offered

@@ -1,6 +1,7 @@
 -- A worker is told at a poll what the stop said.
 use Rattle.std.proofs.Common.{◌≡◌, List, refl, Bool, true, false}
 use Rattle.std.specs.Prelude.{Option, Some, None}
+use Rattle.std.proofs.lemmas.Bool.{false≢true}
 use Rattle.board_core.specs.declared.keys.Key.{Key}
 use Rattle.visit_log.specs.declared.words.Request.{Request}
 use Rattle.visit_log.specs.declared.words.Request.TheVariants.{Poll, Draw as Draws, Claim as Claims, Look, Enter, Leave, Post, End}
@@ -33,9 +34,6 @@ says_no before path q (Some (Entered kept)) after h not = refl
 says_no before path q (Some LeftIt) after h not = refl
 says_no before path q (Some PostedIt) after h not = refl
 
-no : {A : Type 0} → false ≡ true → A
-no e = absurd (cc)
-
 told_yes : (stop told : Bool) → stop ≡ told → told ≡ true → says_stop (Poll, Some (Polled stop)) ≡ true
 told_yes true told e raised = refl
 told_yes false told e raised = absurd (cc)
@@ -51,10 +49,10 @@ says_yes before path Poll (Some (Looked seen)) after h polls raised = absurd h
 says_yes before path Poll (Some (Entered kept)) after h polls raised = absurd h
 says_yes before path Poll (Some LeftIt) after h polls raised = absurd h
 says_yes before path Poll (Some PostedIt) after h polls raised = absurd h
-says_yes before path Draws a after h polls raised = no polls
-says_yes before path Claims a after h polls raised = no polls
-says_yes before path (Look key) a after h polls raised = no polls
-says_yes before path (Enter key numbers) a after h polls raised = no polls
-says_yes before path (Leave kept key update) a after h polls raised = no polls
-says_yes before path (Post note) a after h polls raised = no polls
-says_yes before path (End end) a after h polls raised = no polls
+says_yes before path Draws a after h polls raised = absurd (false≢true polls)
+says_yes before path Claims a after h polls raised = absurd (false≢true polls)
+says_yes before path (Look key) a after h polls raised = absurd (false≢true polls)
+says_yes before path (Enter key numbers) a after h polls raised = absurd (false≢true polls)
+says_yes before path (Leave kept key update) a after h polls raised = absurd (false≢true polls)
+says_yes before path (Post note) a after h polls raised = absurd (false≢true polls)
+says_yes before path (End end) a after h polls raised = absurd (false≢true polls)

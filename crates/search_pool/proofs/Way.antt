@@ -12,6 +12,7 @@ use Rattle.visit_log.specs.Run.{WorkerView, Leads}
 use Rattle.visit_log.specs.declared.words.WorkEnd.TheVariants.{Stopped}
 use Rattle.worker_core.specs.Machine.{is_poll}
 use Rattle.worker_core.specs.Port.{Suits, KeepsOthers, Goes}
+use Rattle.worker_core.proofs.Offered.{goes_asks}
 use Rattle.lone_port.specs.Lone.{LonePortView, book_of, opened}
 use Rattle.search_gate.specs.Stop.{Signal, one_more, polled}
 use Rattle.lone_port.specs.declared.event.Event.{Event}
@@ -39,10 +40,6 @@ plays_then (e ∷ es) fs w v u one two h k = (
 )
 
 -- 2. ONE REQUEST.
-
-goes_asks : (task : Task) (s t : State) (x : Exchange) → Goes task s x t → x.0 ≡ asks s
-goes_asks task s t (q, None) h = h.0
-goes_asks task s t (q, Some a) h = h.0
 
 at_work : (port : LonePortView) (worker : WorkerView) (raised : Bool) → end_of worker.state ≡ None → IsAtWork (world_of port worker raised) 1 0 worker
 at_work port worker raised going = record { numbered = refl; there = refl; goes_on = going }

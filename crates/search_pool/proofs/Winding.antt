@@ -2,6 +2,7 @@
 use Rattle.std.proofs.Common.{◌≡◌, inl, inr, List, [], ◌∷◌, ◌++◌, ap, ◌∙◌, subst, Bool, true, false}
 use Rattle.std.specs.Prelude.{Some, None}
 use Rattle.std.proofs.lemmas.List.Elements.{Contains-push, Contains-push_cases, Contains-append_left}
+use Rattle.std.proofs.lemmas.Bool.{false≢true}
 use Rattle.notes.specs.declared.words.Draw.TheVariants.{Go, Done, Spent as AllDrawn}
 use Rattle.visit_log.specs.declared.words.Reply.{Reply}
 use Rattle.visit_log.specs.declared.words.Reply.TheVariants.{Poll as Polled, Draw as Drew, Claim as Claimed, Look as Looked, Enter as Entered, Leave as LeftIt, Post as PostedIt}
@@ -15,14 +16,12 @@ use Rattle.visit_log.specs.Run.{WorkerView, IsLooking}
 use Rattle.visit_log.specs.Visit.{Exchange}
 use Rattle.worker_core.specs.Machine.{is_poll}
 use Rattle.worker_core.specs.Port.{Goes}
+use Rattle.worker_core.proofs.Offered.{winds_on}
 use Rattle.lone_port.specs.Lone.{LonePortView, Turns, opened}
 use Rattle.search_pool.specs.Inside.{says_stop, says_posted, WasSaid, IsWindingUp}
 use Rattle.search_pool.proofs.Desk.{posted_by}
 
 -- 1. WHERE ONE ANSWER LEADS.
-
-no : {A : Type 0} → false ≡ true → A
-no e = absurd (cc)
 
 told_stop : (task : Task) (s : State) (stage : Stage) (t : State) → LeadsAt task s stage (Polled true) t → t.stage ≡ Winding Stopped
 told_stop task s (Polling entry) t h = ap (λ (z : State). z.stage) h
@@ -56,47 +55,37 @@ told_posted task s (Winding end) t h = absurd h
 
 -- That the worker is to stop leads to its winding up.
 winds_stopped : (task : Task) (s t : State) (x : Exchange) → Goes task s x t → says_stop x ≡ true → t.stage ≡ Winding Stopped
-winds_stopped task s t (q, None) g e = no e
+winds_stopped task s t (q, None) g e = absurd (false≢true e)
 winds_stopped task s t (q, Some (Polled true)) g e = told_stop task s s.stage t g.2
-winds_stopped task s t (q, Some (Polled false)) g e = no e
-winds_stopped task s t (q, Some (Drew draw)) g e = no e
-winds_stopped task s t (q, Some (Claimed claim)) g e = no e
-winds_stopped task s t (q, Some (Looked seen)) g e = no e
-winds_stopped task s t (q, Some (Entered kept)) g e = no e
-winds_stopped task s t (q, Some LeftIt) g e = no e
-winds_stopped task s t (q, Some PostedIt) g e = no e
+winds_stopped task s t (q, Some (Polled false)) g e = absurd (false≢true e)
+winds_stopped task s t (q, Some (Drew draw)) g e = absurd (false≢true e)
+winds_stopped task s t (q, Some (Claimed claim)) g e = absurd (false≢true e)
+winds_stopped task s t (q, Some (Looked seen)) g e = absurd (false≢true e)
+winds_stopped task s t (q, Some (Entered kept)) g e = absurd (false≢true e)
+winds_stopped task s t (q, Some LeftIt) g e = absurd (false≢true e)
+winds_stopped task s t (q, Some PostedIt) g e = absurd (false≢true e)
 
 -- So does that a note is posted.
 winds_posted : (task : Task) (s t : State) (x : Exchange) → Goes task s x t → says_posted x ≡ true → t.stage ≡ Winding Posted
-winds_posted task s t (q, None) g e = no e
-winds_posted task s t (q, Some (Polled stop)) g e = no e
-winds_posted task s t (q, Some (Drew (Go unit))) g e = no e
+winds_posted task s t (q, None) g e = absurd (false≢true e)
+winds_posted task s t (q, Some (Polled stop)) g e = absurd (false≢true e)
+winds_posted task s t (q, Some (Drew (Go unit))) g e = absurd (false≢true e)
 winds_posted task s t (q, Some (Drew Done)) g e = told_done task s s.stage t g.2
-winds_posted task s t (q, Some (Drew AllDrawn)) g e = no e
-winds_posted task s t (q, Some (Claimed claim)) g e = no e
-winds_posted task s t (q, Some (Looked seen)) g e = no e
-winds_posted task s t (q, Some (Entered kept)) g e = no e
-winds_posted task s t (q, Some LeftIt) g e = no e
+winds_posted task s t (q, Some (Drew AllDrawn)) g e = absurd (false≢true e)
+winds_posted task s t (q, Some (Claimed claim)) g e = absurd (false≢true e)
+winds_posted task s t (q, Some (Looked seen)) g e = absurd (false≢true e)
+winds_posted task s t (q, Some (Entered kept)) g e = absurd (false≢true e)
+winds_posted task s t (q, Some LeftIt) g e = absurd (false≢true e)
 winds_posted task s t (q, Some PostedIt) g e = told_posted task s s.stage t g.2
-
--- A worker that winds up goes on to.
-still : (task : Task) (s : State) (end : WorkEnd) (a : Reply) (t : State) → LeadsAt task s (Winding end) a t → t.stage ≡ Winding end
-still task s end (Polled stop) t h = absurd h
-still task s end (Drew draw) t h = absurd h
-still task s end (Claimed claim) t h = absurd h
-still task s end (Looked seen) t h = absurd h
-still task s end (Entered kept) t h = absurd h
-still task s end LeftIt t h = ap (λ (z : State). z.stage) h
-still task s end PostedIt t h = absurd h
 
 stays_winding : (task : Task) (s t : State) (x : Exchange) (end : WorkEnd) → Goes task s x t → s.stage ≡ Winding end → t.stage ≡ Winding end
 stays_winding task s t (q, None) end g w = absurd (subst IsLooking w g.1)
-stays_winding task s t (q, Some a) end g w = still task s end a t (subst (λ (stage : Stage). LeadsAt task s stage a t) w g.2)
+stays_winding task s t (q, Some a) end g w = winds_on task s end a t (subst (λ (stage : Stage). LeadsAt task s stage a t) w g.2)
 
 -- It polls no more.
 pub not_polling : (stage : Stage) (frames : List FrameView) (end : WorkEnd) → stage ≡ Winding end → is_poll (asks_at stage frames) ≡ true → ⊥
-not_polling stage [] end w polls = no (subst (λ (z : Stage). is_poll (asks_at z []) ≡ true) w polls)
-not_polling stage (f ∷ fs) end w polls = no (subst (λ (z : Stage). is_poll (asks_at z (f ∷ fs)) ≡ true) w polls)
+not_polling stage [] end w polls = absurd (false≢true (subst (λ (z : Stage). is_poll (asks_at z []) ≡ true) w polls))
+not_polling stage (f ∷ fs) end w polls = absurd (false≢true (subst (λ (z : Stage). is_poll (asks_at z (f ∷ fs)) ≡ true) w polls))
 
 -- It ends for what it winds up for.
 pub ends_so : (stage : Stage) (frames : List FrameView) (end told : WorkEnd) → stage ≡ Winding end → end_at stage frames ≡ Some told → told ≡ end

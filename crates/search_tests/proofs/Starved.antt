@@ -8,27 +8,17 @@ use Rattle.visit_log.specs.Frame.{FrameView}
 use Rattle.visit_log.specs.Machine.{State, starve, starve_at, starve_winding}
 use Rattle.visit_log.specs.Run.{WorkerView}
 use Rattle.visit_log.specs.Laws.{IsLeftAlone}
+use Rattle.visit_log.proofs.Offered.{winds_starved}
 use Rattle.worker_core.specs.Port.{Book, entering, Suits}
 
 still_winds : (s : State) (end : WorkEnd) (frames : List FrameView) → (last : WorkEnd) × ((starve_winding s end frames).stage ≡ Winding last)
 still_winds s end [] = (end, refl)
 still_winds s end (f ∷ fs) = (NoMemory, refl)
 
--- a starved worker winds up
-starved_winds : (s : State) (stage : Stage) → (last : WorkEnd) × ((starve_at s stage).stage ≡ Winding last)
-starved_winds s (Winding end) = still_winds s end s.frames
-starved_winds s (Polling entry) = (NoMemory, refl)
-starved_winds s (Drawing entry) = (NoMemory, refl)
-starved_winds s Entering = (NoMemory, refl)
-starved_winds s (Looking place) = (NoMemory, refl)
-starved_winds s Claiming = (NoMemory, refl)
-starved_winds s (Leaving left) = (NoMemory, refl)
-starved_winds s (Posting posted) = (NoMemory, refl)
-
 pub starved_suits : (v w : WorkerView) (book : Book) → Suits v book → w ≡ record { task = v.task; state = starve v.state; waiting = false } → IsLeftAlone v.state w.state
     → Suits w book
 starved_suits v w book suits is alone =
-    let winds = starved_winds v.state v.state.stage in
+    let winds = winds_starved v.state v.state.stage in
     let stage : w.state.stage ≡ Winding winds.0 = ap (λ (z : WorkerView). z.state.stage) is ∙ winds.1 in
     let none : entering w.state.stage ≡ 0 = ap entering stage in
     record {

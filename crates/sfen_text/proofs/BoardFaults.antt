@@ -8,6 +8,7 @@ use Rattle.std.proofs.lemmas.List.FromFn.{get_or-map-range_with_len}
 use Rattle.std.proofs.lemmas.Bool.{and_parts, lt-ltb, cases_Bool}
 use Rattle.std.proofs.lemmas.Bool.Decides.{eqb_tells, nat_tests}
 use Rattle.std.proofs.lemmas.List.{append-nil, get_or_append_left, get_or-append_right, ext_get_or, length-append, length-replicate, flat_map_more}
+use Rattle.value_laws.proofs.Cells.{piece_at_is}
 use Rattle.bit_boards.specs.declared.piece.Piece.{Piece}
 use Rattle.sfen_text.specs.declared.fault.TextFault.{TextFault}
 use Rattle.sfen_text.specs.declared.fault.TextFault.TheVariants as faults
@@ -20,7 +21,7 @@ use Rattle.sfen_text.specs.Fields.{Field, end_of}
 use Rattle.sfen_text.specs.Faults.{CanStand, row_before_slash, AreNineEach, IsWellUpTo, PassesNine, IsWrongSlash, IsWrongEnd, HasBadRow, HasBadPiece}
 use Rattle.sfen_text.specs.Signs.{plain_sign, sign_of_piece, Signs, sign, signs, in_front, squares, reading_place, cells_of}
 use Rattle.sfen_text.specs.Reading.{◌>>=◌, cells_at}
-use Rattle.sfen_text.proofs.Filling.{signs_one, in_front_twice, in_front_none, le_passes, piece_at_is}
+use Rattle.sfen_text.proofs.Filling.{signs_one, in_front_twice, in_front_none, le_passes}
 use Rattle.sfen_text.proofs.PiecesAgain.{piece_sign}
 use Rattle.sfen_text.proofs.RowsAgain.{run_sign, row_size, at_file}
 use Rattle.sfen_text.proofs.BoardSpelled.{row_read, whole_row, slash_read, plain_back, promoted_back, run_one}

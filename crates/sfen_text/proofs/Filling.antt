@@ -3,7 +3,6 @@ use Rattle.std.proofs.Common.{◌≡◌, ◌⊎◌, inl, inr, ℕ, zero, suc, �
 use Rattle.std.specs.Prelude.{replicate, nat_le, nat_lt, map}
 use Rattle.std.proofs.lemmas.Bool.{le-ltb, lt-ltb}
 use Rattle.std.proofs.lemmas.Bool.Decides.{eqb_tells}
-use Rattle.std.proofs.Math.Bool.{Bool-set}
 use Rattle.std.proofs.lemmas.List.{append-nil, take_more, take_more_set, get_or-set_other, length-set}
 use Rattle.bit_boards.specs.declared.piece.Kind.{Kind}
 use Rattle.bit_boards.specs.declared.piece.Kind.TheVariants.{Pawn, Lance, Knight, Silver, Gold, Bishop, Rook, King}
@@ -20,9 +19,8 @@ use Rattle.std.proofs.lemmas.Bool.Decides.{nat_tests}
 use Rattle.std.proofs.lemmas.List.{ext_get_or}
 use Rattle.std.proofs.lemmas.List.FromFn.{length-map-range_with_len, get_or-map-range_with_len}
 use Rattle.std.specs.List.{range_with_len}
-
-promotes_same : (k : Kind) (f g : true ≡ true → can_promote k ≡ true) → f ≡ g
-promotes_same k = hlevel Bool-set
+use Rattle.value_laws.proofs.Pieces.{promotes_same}
+use Rattle.value_laws.proofs.Cells.{none_everywhere, piece_at_is}
 
 pub promoted_is : (side : Side) (kind : Kind) (h : true ≡ true → can_promote kind ≡ true) → can_promote kind ≡ true
     → Some (record { kind = kind; promoted = true; side = side; promotes = h }) ≡ promoted_piece side kind
@@ -57,12 +55,6 @@ signs_promoted (byte ∷ next ∷ text) lt h at = rw h refl
 
 -- ---- squares
 
-pub piece_at_is : (xs : List (Option Piece)) (n : ℕ) → piece_at xs n ≡ get_or xs n None
-piece_at_is [] zero = refl
-piece_at_is [] (suc n) = refl
-piece_at_is (x ∷ xs) zero = refl
-piece_at_is (x ∷ xs) (suc n) = piece_at_is xs n
-
 pub in_front_twice : (front more : List (Option Piece)) (read : Result (List (Option Piece)) TextFault) → in_front front (in_front more read) ≡ in_front (front ++ more) read
 in_front_twice front more (Ok read) = ap (λ (xs : List (Option Piece)). Ok xs) (sym (append_assoc front more read))
 in_front_twice front more (Err fault) = refl
@@ -82,12 +74,6 @@ le_passes a b le = let e = le-ltb b a le in grind (arith, nat_tests)
 pub in_front_none : (read : Result (List (Option Piece)) TextFault) → in_front [] read ≡ read
 in_front_none (Ok read) = refl
 in_front_none (Err fault) = refl
-
-none_everywhere : (n place : ℕ) → piece_at (replicate n None) place ≡ None
-none_everywhere zero zero = refl
-none_everywhere zero (suc place) = refl
-none_everywhere (suc n) zero = refl
-none_everywhere (suc n) (suc place) = none_everywhere n place
 
 pub nothing_filled : IsFilling (record { read = replicate 81 None; further_rows = 8; left = 9 })
 nothing_filled = record { size = refl; further_rows = omega arith; left = omega arith; ahead = λ place _. none_everywhere 81 place }

@@ -1,5 +1,5 @@
 -- What is read is the outcome to its input, and no other is.
-use Rattle.std.proofs.Common.{◌≡◌, ◌≢◌, ◌⊎◌, inl, inr, ℕ, ◌+◌, ◌<◌, ◌≤◌, Bool, true, false, cond, List, [], ◌∷◌, ◌++◌, length, Option, Result, None, Ok, Err, refl, sym, ap, subst, ◌∙◌, arith}
+use Rattle.std.proofs.Common.{◌≡◌, ◌≢◌, ◌⊎◌, inl, inr, ℕ, ◌+◌, ◌≤◌, Bool, true, false, cond, List, [], ◌∷◌, ◌++◌, length, Option, Result, None, Ok, Err, refl, sym, ap, subst, ◌∙◌, arith}
 use Rattle.std.specs.Prelude.{nat_le, slice_set, ◌==◌}
 use Rattle.std.specs.List.{flat_map, list_all, range_with_len}
 use Rattle.std.proofs.Math.Dec.{eqb-suc-zero}
@@ -7,19 +7,15 @@ use Rattle.std.proofs.lemmas.Bool.{and_parts, cases_Bool}
 use Rattle.std.proofs.lemmas.Bool.Decides.{nat_tests}
 use Rattle.std.proofs.lemmas.List.{length-set}
 use Rattle.std.proofs.lemmas.List.FromFn.{length-map-range_with_len}
-use Rattle.bit_boards.specs.declared.piece.Kind.{Kind}
 use Rattle.bit_boards.specs.declared.piece.Side.{Side}
 use Rattle.bit_boards.specs.declared.piece.Side.TheVariants.{Black, White}
 use Rattle.bit_boards.specs.declared.piece.Piece.{Piece}
-use Rattle.bit_boards.specs.declared.square.Square.{Square}
 use Rattle.board_core.specs.declared.build.BadPosition.{BadPosition as Bad}
-use Rattle.board_core.specs.declared.build.BadPosition.TheVariants as bad
-use Rattle.board_core.specs.Laws.{SquaresApart}
-use Rattle.board_core.specs.Laws.{PlacesApart, PlacesInHand}
+use Rattle.board_core.specs.Laws.{BuiltOnce, PlacesInHand}
 use Rattle.bit_boards.specs.Kind.{place_of}
 use Rattle.board_core.specs.Board.{Board, piece_at, hand_count}
 use Rattle.board_core.specs.Kept.{IsKept}
-use Rattle.board_core.specs.Build.{HasFault, fault_order, IsBuilt}
+use Rattle.board_core.specs.Build.{IsBuilt}
 use Rattle.sfen_text.specs.declared.fault.TextFault.{TextFault}
 use Rattle.sfen_text.specs.declared.fault.TextFault.TheVariants as faults
 use Rattle.sfen_text.specs.Bytes.{is_digit, is_space}
@@ -332,43 +328,6 @@ outcome_read in_hand input (Err (faults.BadPosition fault)) (b, parts, is) = as_
 
 -- ---- one outcome
 
--- No two faults of a position have one place in their order.
-faults_apart : PlacesInHand → SquaresApart → PlacesApart → (b : Board) (x y : Bad) → HasFault b x → HasFault b y → fault_order x ≡ fault_order y → x ≡ y
-faults_apart in_hand squares_apart places b (bad.TooMany k) (bad.TooMany l) p q e = ap (λ (j : Kind). bad.TooMany j) (places k l e)
-faults_apart in_hand squares_apart places b (bad.TooMany k) bad.NoDefenderKing p q e = absurd (omega (arith, in_hand k p.0, e))
-faults_apart in_hand squares_apart places b (bad.TooMany k) bad.TwoKings p q e = absurd (omega (arith, in_hand k p.0, e))
-faults_apart in_hand squares_apart places b (bad.TooMany k) (bad.DeadPiece s) p q e = absurd (omega (arith, in_hand k p.0, e))
-faults_apart in_hand squares_apart places b (bad.TooMany k) (bad.TwoPawns f) p q e = absurd (omega (arith, in_hand k p.0, e))
-faults_apart in_hand squares_apart places b bad.NoDefenderKing (bad.TooMany l) p q e = absurd (omega (arith, in_hand l q.0, e))
-faults_apart in_hand squares_apart places b bad.NoDefenderKing bad.NoDefenderKing p q e = refl
-faults_apart in_hand squares_apart places b bad.NoDefenderKing bad.TwoKings p q e = absurd (omega (arith, e))
-faults_apart in_hand squares_apart places b bad.NoDefenderKing (bad.DeadPiece s) p q e = absurd (omega (arith, e))
-faults_apart in_hand squares_apart places b bad.NoDefenderKing (bad.TwoPawns f) p q e = absurd (omega (arith, e))
-faults_apart in_hand squares_apart places b bad.TwoKings (bad.TooMany l) p q e = absurd (omega (arith, in_hand l q.0, e))
-faults_apart in_hand squares_apart places b bad.TwoKings bad.NoDefenderKing p q e = absurd (omega (arith, e))
-faults_apart in_hand squares_apart places b bad.TwoKings bad.TwoKings p q e = refl
-faults_apart in_hand squares_apart places b bad.TwoKings (bad.DeadPiece s) p q e = absurd (omega (arith, e))
-faults_apart in_hand squares_apart places b bad.TwoKings (bad.TwoPawns f) p q e = absurd (omega (arith, e))
-faults_apart in_hand squares_apart places b (bad.DeadPiece s) (bad.TooMany l) p q e = absurd (omega (arith, in_hand l q.0, e))
-faults_apart in_hand squares_apart places b (bad.DeadPiece s) bad.NoDefenderKing p q e = absurd (omega (arith, e))
-faults_apart in_hand squares_apart places b (bad.DeadPiece s) bad.TwoKings p q e = absurd (omega (arith, e))
-faults_apart in_hand squares_apart places b (bad.DeadPiece s) (bad.DeadPiece t) p q e = ap (λ (u : Square). bad.DeadPiece u) (squares_apart s t (omega (arith, e)))
-faults_apart in_hand squares_apart places b (bad.DeadPiece s) (bad.TwoPawns f) p q e = absurd (let low = s.on_board in omega (arith, e, low))
-faults_apart in_hand squares_apart places b (bad.TwoPawns f) (bad.TooMany l) p q e = absurd (omega (arith, in_hand l q.0, e))
-faults_apart in_hand squares_apart places b (bad.TwoPawns f) bad.NoDefenderKing p q e = absurd (omega (arith, e))
-faults_apart in_hand squares_apart places b (bad.TwoPawns f) bad.TwoKings p q e = absurd (omega (arith, e))
-faults_apart in_hand squares_apart places b (bad.TwoPawns f) (bad.DeadPiece t) p q e = absurd (let low = t.on_board in omega (arith, e, low))
-faults_apart in_hand squares_apart places b (bad.TwoPawns f) (bad.TwoPawns g) p q e = let same : f ≡ g = omega (arith, e) in ap (λ (n : ℕ). bad.TwoPawns n) same
-
-same_order : (m n : ℕ) → (m < n → ⊥) → (n < m → ⊥) → m ≡ n
-same_order m n not_less not_more = omega arith
-
-built_once : PlacesInHand → SquaresApart → PlacesApart → (b : Board) (x y : Result Board Bad) → IsBuilt b x → IsBuilt b y → x ≡ y
-built_once in_hand squares_apart places b (Ok p) (Ok q) x y = ap (λ (c : Board). Ok c) (x.0 ∙ sym y.0)
-built_once in_hand squares_apart places b (Ok p) (Err fault) x y = absurd (x.1 fault y.0)
-built_once in_hand squares_apart places b (Err fault) (Ok q) x y = absurd (y.1 fault x.0)
-built_once in_hand squares_apart places b (Err f) (Err g) x y = ap (λ (h : Bad). Err h) (faults_apart in_hand squares_apart places b f g x.0 y.0 (same_order (fault_order f) (fault_order g) (λ less. y.1 f less x.0) (λ more. x.1 g more y.0)))
-
 -- The outcome to what was built of the parts that were read.
 abbrev as_text : Result Board Bad → Result Board TextFault
 as_text (Ok p) = Ok p
@@ -384,15 +343,15 @@ as_built b (Err (faults.BadHand here)) is = absurd is
 as_built b (Err (faults.HandTwice here)) is = absurd is
 as_built b (Err (faults.Trailing here)) is = absurd is
 
-one_of_read : PlacesInHand → SquaresApart → PlacesApart → (r x y : Result Board TextFault) → IsOutcomeOf r x → IsOutcomeOf r y → x ≡ y
-one_of_read in_hand squares_apart places (Err fault) x y p q = p ∙ sym q
-one_of_read in_hand squares_apart places (Ok b) x y p q =
+one_of_read : BuiltOnce → (r x y : Result Board TextFault) → IsOutcomeOf r x → IsOutcomeOf r y → x ≡ y
+one_of_read once (Err fault) x y p q = p ∙ sym q
+one_of_read once (Ok b) x y p q =
     let one = as_built b x p in
     let two = as_built b y q in
-    one.2 ∙ ap as_text (built_once in_hand squares_apart places b one.0 two.0 one.1 two.1) ∙ sym two.2
+    one.2 ∙ ap as_text (once b one.0 two.0 one.1 two.1) ∙ sym two.2
 
-pub one_outcome : PlacesInHand → SquaresApart → PlacesApart → (input : List ℕ) (x y : Result Board TextFault) → IsReadingOutcome input x → IsReadingOutcome input y → x ≡ y
-one_outcome in_hand squares_apart places input x y p q = one_of_read in_hand squares_apart places (input_parts input) x y (outcome_read in_hand input x p) (outcome_read in_hand input y q)
+pub one_outcome : PlacesInHand → BuiltOnce → (input : List ℕ) (x y : Result Board TextFault) → IsReadingOutcome input x → IsReadingOutcome input y → x ≡ y
+one_outcome in_hand once input x y p q = one_of_read once (input_parts input) x y (outcome_read in_hand input x p) (outcome_read in_hand input y q)
 
 pub one_spelled : PlacesInHand → (input : List ℕ) (a b : Board) → IsKept a → IsKept b → Spells input a → Spells input b → a ≡ b
 one_spelled in_hand input a b ka kb p q = ok_same a b (input_parts input) (text_read in_hand input a p ka) (text_read in_hand input b q kb)

@@ -3,9 +3,10 @@ use Rattle.std.proofs.Common.{◌≡◌, ◌≢◌, ◌⊎◌, inl, inr, ℕ, ze
 use Rattle.std.specs.Prelude.{slice_set, nat_le, nat_lt, ◌&&◌, unwrap_or}
 use Rattle.std.specs.List.{flat_map}
 use Rattle.std.proofs.Math.Dec.{eqb-suc-zero}
-use Rattle.std.proofs.lemmas.Bool.{and_parts, cases_Bool, eq-eqb, lt-ltb}
+use Rattle.std.proofs.lemmas.Bool.{and_parts, cases_Bool, eq-eqb, lt-ltb, and_right}
 use Rattle.std.proofs.lemmas.Bool.Decides.{eqb_tells, nat_tests}
 use Rattle.std.proofs.lemmas.List.{append-nil, nil_from_length, length-append, length-set, flat_map_more}
+use Rattle.value_laws.proofs.Pieces.{not_the_king}
 use Rattle.bit_boards.specs.declared.piece.Kind.{Kind}
 use Rattle.bit_boards.specs.declared.piece.Kind.TheVariants.{Pawn, Lance, Knight, Silver, Gold, Bishop, Rook, King}
 use Rattle.bit_boards.specs.declared.piece.Side.{Side}
@@ -320,23 +321,9 @@ one_at_most : (n : ℕ) → length (one_count n) ≤ 1
 one_at_most zero = omega arith
 one_at_most (suc n) = omega arith
 
-no_king_is : (kind : Kind) → kind ≢ King → same_kind kind King ≡ false
-no_king_is Pawn h = refl
-no_king_is Lance h = refl
-no_king_is Knight h = refl
-no_king_is Silver h = refl
-no_king_is Gold h = refl
-no_king_is Bishop h = refl
-no_king_is Rook h = refl
-no_king_is King h = absurd (h refl)
-
-and_false : (b : Bool) → (b && false) ≡ false
-and_false true = refl
-and_false false = refl
-
 no_kings : (side : Side) (list : List HandItem) → counts_for side King list ≡ []
 no_kings side [] = refl
-no_kings side (i ∷ list) = rw (no_king_is i.kind i.no_king, and_false (same_side i.side side), no_kings side list) refl
+no_kings side (i ∷ list) = rw (not_the_king i.kind i.no_king, (and_right (same_side i.side side) false refl), no_kings side list) refl
 
 once_each : (side : Side) (list : List HandItem) (hand : List ℕ) → Held side list hand → (kind : Kind) → length (counts_for side kind list) ≤ 1
 once_each side list hand held kind = elim (cases_Bool (same_kind kind King)) [

@@ -16,3 +16,4 @@ pub mod FieldsFound
 pub mod BoardFaults
 pub mod HandsFaults
 pub mod FirstFault
+pub mod Offered

@@ -1,7 +1,6 @@
 -- What is written for a piece is read as that piece.
 use Rattle.std.proofs.Common.{◌≡◌, ◌≢◌, inr, ℕ, ◌+◌, ◌≤◌, Bool, true, false, List, [], ◌∷◌, ◌++◌, length, Some, refl, sym, subst, ◌∙◌, arith}
-use mathlib.Core.HLevel.{is_prop→PathP}
-use Rattle.std.proofs.Math.Bool.{Bool-set}
+use Rattle.value_laws.proofs.Pieces.{piece_exact}
 use Rattle.bit_boards.specs.declared.piece.Kind.{Kind}
 use Rattle.bit_boards.specs.declared.piece.Kind.TheVariants.{Pawn, Lance, Knight, Silver, Gold, Bishop, Rook, King}
 use Rattle.bit_boards.specs.declared.piece.Side.{Side}
@@ -13,17 +12,6 @@ use Rattle.bit_boards.specs.Piece.{plain_piece}
 use Rattle.sfen_text.specs.Pieces.{letter_of, plus_text, piece_text, promoted_piece, piece_of, promoted_of}
 use Rattle.sfen_text.specs.Signs.{plain_sign, sign_of_piece, sign, signs}
 use Rattle.sfen_text.proofs.Filling.{signs_one}
-
-promotes_same : (b : Bool) (k : Kind) (f g : b ≡ true → can_promote k ≡ true) → f ≡ g
-promotes_same b k = hlevel Bool-set
-
-pub piece_same : (p q : Piece) → p.kind ≡ q.kind → p.promoted ≡ q.promoted → p.side ≡ q.side → p ≡ q
-piece_same p q kind promoted side = λ i. record {
-  kind = kind i;
-  promoted = promoted i;
-  side = side i;
-  promotes = is_prop→PathP (λ j. promoted j ≡ true → can_promote (kind j) ≡ true) (λ j. promotes_same (promoted j) (kind j)) p.promotes q.promotes i;
-}
 
 pub letter_again : (side : Side) (kind : Kind) → piece_of (letter_of side kind) ≡ Some (plain_piece kind side)
 unfolding piece_of
@@ -120,14 +108,14 @@ sign_plain : (p : Piece) → p.promoted ≡ false → (at : ℕ) (text : List �
 sign_plain p e at text =
     let apart = (letter_plain p.side p.kind).1 in
     let one = signs_one at (letter_of p.side p.kind) text (inr (λ h. omega (arith, apart))) in
-    let same : plain_piece p.kind p.side ≡ p = piece_same (plain_piece p.kind p.side) p refl (sym e) refl in
+    let same : plain_piece p.kind p.side ≡ p = piece_exact (plain_piece p.kind p.side) p refl (sym e) refl in
     rw (one, plain_again, letter_again, same) refl
 
 sign_promoted : (p : Piece) → p.promoted ≡ true → (at : ℕ) (text : List ℕ) → signs at (43 ∷ letter_of p.side p.kind ∷ text) ≡ sign at (Stands p) (signs (at + 2) text)
 unfolding signs
 sign_promoted p e at text =
     let made = promoted_made p.side p.kind (p.promotes e) in
-    let same : made.0 ≡ p = piece_same made.0 p (sym made.2) (sym made.3 ∙ sym e) (sym made.4) in
+    let same : made.0 ≡ p = piece_exact made.0 p (sym made.2) (sym made.3 ∙ sym e) (sym made.4) in
     rw (promoted_again, made.1, same) refl
 
 -- The sign that is written for a piece.

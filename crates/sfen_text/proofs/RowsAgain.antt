@@ -5,6 +5,7 @@ use Rattle.std.specs.List.{flat_map, range_with_len}
 use Rattle.std.proofs.lemmas.Bool.{lt-ltb}
 use Rattle.std.proofs.lemmas.Bool.Decides.{eqb_tells}
 use Rattle.std.proofs.lemmas.List.{append-nil, length-append, get_or_append_left, get_or-append_right}
+use Rattle.value_laws.proofs.Cells.{piece_at_is}
 use Rattle.bit_boards.specs.declared.piece.Piece.{Piece}
 use Rattle.bit_boards.specs.Square.{square_on}
 use Rattle.board_core.specs.Board.{piece_at}
@@ -12,7 +13,7 @@ use Rattle.sfen_text.specs.declared.squares.Sign.TheVariants.{Run}
 use Rattle.sfen_text.specs.Pieces.{piece_text}
 use Rattle.sfen_text.specs.Spelling.{row_from, cells_of_row, run_text, row_text, slashed_row, board_text}
 use Rattle.sfen_text.specs.Signs.{plain_sign, signs, in_front, squares, reading_place, cells_of}
-use Rattle.sfen_text.proofs.Filling.{signs_one, in_front_twice, in_front_none, le_passes, all_cells, piece_at_is}
+use Rattle.sfen_text.proofs.Filling.{signs_one, in_front_twice, in_front_none, le_passes, all_cells}
 use Rattle.sfen_text.proofs.PiecesAgain.{piece_sign}
 
 pub run_sign : (n : ℕ) → 1 ≤ n → n ≤ 9 → plain_sign (48 + n) ≡ Run n

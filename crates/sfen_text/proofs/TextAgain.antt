@@ -1,19 +1,16 @@
 -- What is written for a position is read as that position.
 use Rattle.std.proofs.Common.{◌≡◌, ◌≢◌, inl, inr, ℕ, ◌+◌, ◌≤◌, false, List, [], ◌∷◌, ◌++◌, length, drop, Option, Result, None, Ok, Err, refl, sym, ap, subst, ◌∙◌, append_assoc, arith}
 use Rattle.std.proofs.Math.Dec.{eqb-suc-zero}
-use Rattle.std.proofs.lemmas.Bool.{false≢true}
 use Rattle.std.proofs.lemmas.Bool.Decides.{eqb_tells}
 use Rattle.std.proofs.lemmas.List.{append-nil}
+use Rattle.value_laws.proofs.Kept.{no_fault}
 use Rattle.bit_boards.specs.declared.piece.Piece.{Piece}
 use Rattle.bit_boards.specs.declared.piece.Kind.TheVariants.{Pawn, Lance, Knight, Silver, Gold, Bishop, Rook, King}
 use Rattle.bit_boards.specs.declared.piece.Side.{Side}
 use Rattle.bit_boards.specs.declared.piece.Side.TheVariants.{Black, White}
-use Rattle.board_core.specs.declared.build.BadPosition.{BadPosition as Bad}
-use Rattle.board_core.specs.declared.build.BadPosition.TheVariants as bad
 use Rattle.bit_boards.specs.Kind.{other}
 use Rattle.board_core.specs.Board.{HasDefender, Board}
 use Rattle.board_core.specs.Kept.{IsKept}
-use Rattle.board_core.specs.Build.{HasFault}
 use Rattle.sfen_text.specs.declared.fault.TextFault.{TextFault}
 use Rattle.sfen_text.specs.declared.fault.TextFault.TheVariants as faults
 use Rattle.sfen_text.specs.Spelling.{board_text, side_letter, hand_text, hands_text, or_dash, sfen_of}
@@ -171,14 +168,6 @@ ok_same a b r p q = cc
 -- No two positions have one text.
 pub texts_apart : (a b : Board) → IsKept a → IsKept b → sfen_of a ≡ sfen_of b → a ≡ b
 texts_apart a b ka kb e = ok_same a b (input_parts (sfen_of a)) (text_again a ka) (ap input_parts e ∙ text_again b kb)
-
--- A position that is kept has no fault, where the side that isn't to move has a king.
-no_fault : (b : Board) (fault : Bad) → IsKept b → HasDefender b → HasFault b fault → ⊥
-no_fault b (bad.TooMany k) kept king h = omega (arith, h.1, kept.totals k h.0)
-no_fault b bad.NoDefenderKing kept king h = omega (arith, h, king)
-no_fault b bad.TwoKings kept king h = omega (arith, h.1, kept.kings h.0)
-no_fault b (bad.DeadPiece square) kept king h = false≢true (sym (kept.alive square.number square.on_board) ∙ h)
-no_fault b (bad.TwoPawns file) kept king h = kept.pawns h.0 file h.1
 
 pub outcome_again : (b : Board) (outcome : Result Board TextFault) → IsKept b → HasDefender b → IsOutcomeOf (Ok b) outcome → outcome ≡ Ok b
 outcome_again b (Ok p) kept king is = ap (λ (q : Board). Ok q) is.0

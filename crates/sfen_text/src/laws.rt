@@ -1,7 +1,7 @@
 // What is true of the texts of all positions.
 ghost use Rattle.sfen_text.specs.Laws.{PositionTextsApart, TextsHaveBytes, TextsAreLines, OnePositionSpelled, OneReadingOutcome};
 
-use board_core::value_laws;
+use board_core::{build_laws, value_laws};
 
 /// Laws about the texts of positions: no two positions have one, none is empty, and each is one line of bytes from the space on
 /// (SFEN); no input spells two positions, and none has two outcomes. Does nothing; whoever reads texts that hold positions
@@ -13,6 +13,7 @@ pub fn sfen_laws()
     ensures spelled { OnePositionSpelled }
     ensures outcomes { OneReadingOutcome }
 {
-    // No two squares have one number, and no two kinds one place: so one fault of a position comes first.
+    // The kinds that can stand in a hand have the first places, and one fault of a position comes first.
     value_laws();
+    build_laws();
 }

@@ -1,8 +1,8 @@
 -- Nothing speaks against a move exactly where it has what a legal move has.
-use Rattle.std.proofs.Common.{◌≡◌, ◌<◌, ℕ, Some, None, Option, Bool, true, false, arith, refl}
-use Rattle.std.specs.Prelude.{IsSome}
+use Rattle.std.proofs.Common.{◌≡◌, ◌<◌, ℕ, Bool, arith}
+use Rattle.std.proofs.lemmas.Bool.{false_from_ne_true}
+use Rattle.value_laws.proofs.Cells.{full_there}
 use Rattle.bit_boards.specs.declared.piece.Kind.{Kind}
-use Rattle.bit_boards.specs.declared.piece.Piece.{Piece}
 use Rattle.board_core.specs.Board.{Board, piece_at}
 use Rattle.shogi_rules.specs.Rules.{RefusesBoard, RefusesDrop}
 use Rattle.shogi_rules.specs.Laws.{CanGo, CanDrop, LegalBoardMoves, LegalDrops}
@@ -11,7 +11,7 @@ use Rattle.shogi_rules.specs.declared.illegal.Illegal.TheVariants.{NotThere, Own
 use Rattle.shogi_rules.proofs.Decided.{own_decided, fits_decided, promotion_decided, clear_decided}
 use Rattle.shogi_rules.proofs.Moves.{empty_there}
 
-can_go : (b : Board) (from to : ℕ) (promote : Bool) → ((why : Illegal) → ¬ RefusesBoard b from to promote why) → CanGo b from to promote
+pub can_go : (b : Board) (from to : ℕ) (promote : Bool) → ((why : Illegal) → ¬ RefusesBoard b from to promote why) → CanGo b from to promote
 can_go b from to promote h = record {
   own = own_decided b from (λ x. h NotThere x);
   free = λ x. h OwnPiece x;
@@ -34,26 +34,18 @@ may_go b from to promote c TwoPawns h = h
 may_go b from to promote c KingLeft h = c.safe h
 may_go b from to promote c PawnMate h = h
 
-false_of : (p : Bool) → ¬ (p ≡ true) → p ≡ false
-false_of true h = absurd (h refl)
-false_of false h = refl
-
 some_held : (n : ℕ) → ¬ (n ≡ 0) → 0 < n
 some_held n h = grind arith
 
-can_drop : (b : Board) (wanted : Kind) (to : ℕ) → ((why : Illegal) → ¬ RefusesDrop b wanted to why) → CanDrop b wanted to
+pub can_drop : (b : Board) (wanted : Kind) (to : ℕ) → ((why : Illegal) → ¬ RefusesDrop b wanted to why) → CanDrop b wanted to
 can_drop b wanted to h = record {
   empty = empty_there (piece_at b.cells to) (λ x. h Occupied x);
   in_hand = some_held _ (λ x. h NotInHand x);
-  alive = false_of _ (λ x. h DeadDrop x);
+  alive = false_from_ne_true _ (λ x. h DeadDrop x);
   pawn = λ x. h TwoPawns x;
   safe = λ x. h KingLeft x;
   no_mate = λ x. h PawnMate x;
 }
-
-full_there : (cell : Option Piece) → cell ≡ None → ¬ IsSome cell
-full_there None e h = cc
-full_there (Some piece) e h = cc
 
 may_drop : (b : Board) (wanted : Kind) (to : ℕ) → CanDrop b wanted to → (why : Illegal) → ¬ RefusesDrop b wanted to why
 may_drop b wanted to c NotThere h = h

@@ -5,3 +5,6 @@ pub mod Turns
 pub mod Listing
 pub mod Nearby
 pub mod Admitted
+pub mod ToMove
+pub mod KeptAfter
+pub mod Offered

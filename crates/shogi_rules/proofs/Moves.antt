@@ -1,43 +1,21 @@
 -- What a move on the board needs and keeps.
-use Rattle.std.proofs.Common.{◌≡◌, ◌≢◌, ◌<◌, ◌≤◌, ◌+◌, ◌/◌, ◌⊎◌, inl, inr, ◌||◌, ◌&&◌, ◌==◌, ℕ, zero, suc, List, [], ◌∷◌, Option, Some, None, Bool, true, false, slice_set, IsTrue, IsSome, arith, ap, sym, refl, subst}
-use Rattle.std.specs.Prelude.{not}
-use Rattle.std.proofs.lemmas.Bool.{cases_eq, cases_order, eq-eqb}
+use Rattle.std.proofs.Common.{◌≡◌, ◌≢◌, ◌<◌, ◌≤◌, ◌+◌, ◌/◌, inl, inr, ◌||◌, ◌&&◌, ◌==◌, ℕ, zero, suc, List, [], ◌∷◌, Option, Some, None, Bool, true, false, slice_set, IsTrue, IsSome, arith, ap, sym, refl, subst}
+use Rattle.std.proofs.lemmas.Bool.{cases_eq, cases_order, eq-eqb, cases_Bool, and_parts, or_parts, not-true}
 use Rattle.std.proofs.lemmas.Bool.Decides.{eqb_tells}
+use Rattle.std.proofs.lemmas.Option.{same_Some}
+use Rattle.value_laws.proofs.Sides.{same_side_itself, other_twice}
+use Rattle.value_laws.proofs.Pieces.{not_the_king}
 use Rattle.bit_boards.specs.declared.piece.Piece.{Piece}
 use Rattle.bit_boards.specs.declared.piece.Kind.{Kind}
 use Rattle.bit_boards.specs.declared.piece.Kind.TheVariants.{Pawn, Lance, Knight, Silver, Gold, Bishop, Rook, King}
 use Rattle.bit_boards.specs.declared.piece.Side.{Side}
 use Rattle.bit_boards.specs.declared.piece.Side.TheVariants.{Black, White}
 use Rattle.bit_boards.specs.Square.{file_of}
-use Rattle.bit_boards.specs.Kind.{other, same_kind, same_side, total_of, can_promote, place_of}
+use Rattle.bit_boards.specs.Kind.{other, same_kind, total_of, can_promote, place_of}
 use Rattle.board_core.specs.Board.{Board, piece_at, is_of_kind, is_king_of, is_pawn_of, count_of, kings_of, with_cell, with_hand, with_turn_passed, hand_of, one_if, ChangesCell}
 use Rattle.board_core.specs.Kept.{IsKept, TwoPawnsOn}
 use Rattle.bit_boards.specs.Movement.{fits, distance}
 use Rattle.shogi_rules.specs.Rules.{landed_piece, hand_with_capture, after_board, IsClear, IsQuiet, IsOwn}
-
-pub true_or_false : (b : Bool) → (b ≡ true) ⊎ (b ≡ false)
-true_or_false true = inl refl
-true_or_false false = inr refl
-
-and_left : (a b : Bool) → (a && b) ≡ true → a ≡ true
-and_left true b h = refl
-and_left false b h = h
-
-and_right : (a b : Bool) → (a && b) ≡ true → b ≡ true
-and_right true b h = h
-and_right false b h = absurd (cc)
-
-or_left : (a b : Bool) → (a || b) ≡ false → a ≡ false
-or_left false b h = refl
-or_left true b h = h
-
-not_true : (a : Bool) → not a ≡ true → a ≡ false
-not_true false h = refl
-not_true true h = absurd (cc)
-
-same_side_refl : (s : Side) → same_side s s ≡ true
-same_side_refl Black = refl
-same_side_refl White = refl
 
 other_of : (s t : Side) → s ≢ t → s ≡ other t
 other_of Black Black h = absurd (h refl)
@@ -45,13 +23,9 @@ other_of Black White h = refl
 other_of White Black h = refl
 other_of White White h = absurd (h refl)
 
-pub other_twice : (s : Side) → other (other s) ≡ s
-other_twice Black = refl
-other_twice White = refl
-
 -- the king on a square, by its piece
 king_there : (p : Piece) → p.kind ≡ King → is_king_of p.side (Some p) ≡ true
-king_there p kind = rw (kind, same_side_refl p.side) refl
+king_there p kind = rw (kind, same_side_itself p.side) refl
 
 -- where the king moved, its side has none on the board
 pub king_gone : (b t u : Board) (from to : ℕ) (man : Piece) → man.kind ≡ King → kings_of b man.side ≤ 1 → piece_at b.cells from ≡ Some man
@@ -71,7 +45,7 @@ pawn_file man from to fit kind plain =
     let same : (distance (from / 9) (to / 9) == 0) ≡ true = first_holds _ _ _ (rw (kind, plain) at fit) refl in
     grind (arith, eqb_tells (distance (from / 9) (to / 9)) 0, same)
 
-pawn_place : (k : Kind) → same_kind k Pawn ≡ true → k ≡ Pawn
+pub pawn_place : (k : Kind) → same_kind k Pawn ≡ true → k ≡ Pawn
 pawn_place Pawn h = refl
 pawn_place Lance h = absurd (cc)
 pawn_place Knight h = absurd (cc)
@@ -102,7 +76,7 @@ no_second b t u from to s man kept start there first second kind plain moved wit
         | inl e ↦ let none : is_pawn_of man.side (piece_at u.cells s) ≡ false = rw (second.elsewhere s n, e, first.there) refl in absurd (cc)
         | inr m ↦
             let old : is_pawn_of man.side (piece_at b.cells s) ≡ true = rw (second.elsewhere s n, first.elsewhere s m) at is in
-            let here : is_pawn_of man.side (piece_at b.cells from) ≡ true = rw (there, kind, plain, same_side_refl man.side) refl in
+            let here : is_pawn_of man.side (piece_at b.cells from) ≡ true = rw (there, kind, plain, same_side_itself man.side) refl in
             let same : file_of s ≡ file_of from = omega arith in
             kept.pawns man.side (file_of from) (two_pawns b.cells man.side s from within start m same old here)
       ]
@@ -114,10 +88,10 @@ pub pawn_alone : (b t u : Board) (from to : ℕ) (promote : Bool) (man : Piece) 
     → is_pawn_of man.side (Some (landed_piece promote man)) ≡ true
     → (s : ℕ) → s < 81 → file_of s ≡ file_of to → is_pawn_of man.side (piece_at u.cells s) ≡ false
 pawn_alone b t u from to promote man kept start there fit first second pawn s within file =
-    let kind : man.kind ≡ Pawn = pawn_place man.kind (and_left _ _ pawn) in
-    let plain : man.promoted ≡ false = or_left man.promoted (promote && can_promote man.kind) (not_true _ (and_left _ _ (and_right _ _ pawn))) in
+    let kind : man.kind ≡ Pawn = pawn_place man.kind ((and_parts _ _ pawn).0) in
+    let plain : man.promoted ≡ false = (or_parts man.promoted (promote && can_promote man.kind) (not-true _ ((and_parts _ _ ((and_parts _ _ pawn).1)).0))).0 in
     let moved : to / 9 ≡ from / 9 = pawn_file man from to fit kind plain in
-    elim (true_or_false (is_pawn_of man.side (piece_at u.cells s))) [
+    elim (cases_Bool (is_pawn_of man.side (piece_at u.cells s))) [
       | inr isnt ↦ isnt
       | inl is ↦ absurd (no_second b t u from to s man kept start there first second kind plain moved within file is)
     ]
@@ -172,16 +146,6 @@ conserves b t u v w from to promote man k apart there first second third last =
     let three = rw second.there at (third.counts k) in
     omega arith
 
-not_the_king : (k : Kind) → k ≢ King → same_kind k King ≡ false
-not_the_king Pawn h = refl
-not_the_king Lance h = refl
-not_the_king Knight h = refl
-not_the_king Silver h = refl
-not_the_king Gold h = refl
-not_the_king Bishop h = refl
-not_the_king Rook h = refl
-not_the_king King h = absurd (h refl)
-
 -- a cell without a king counts for none
 pub no_king_there : (side : Side) (cell : Option Piece) → ((taken : Piece) → cell ≡ Some taken → taken.kind ≢ King) → one_if (is_king_of side cell) ≡ 0
 no_king_there side None free = refl
@@ -198,9 +162,6 @@ kings_stay b t u v w from to promote man side apart there free first second thir
     let three = rw second.there at (third.kings side) in
     omega arith
 
-same_some : (a b : Piece) → Some a ≡ Some b → a ≡ b
-same_some a b h = cc
-
 pub empty_there : (cell : Option Piece) → ¬ IsSome cell → cell ≡ None
 empty_there None h = refl
 empty_there (Some piece) h = absurd (h refl)
@@ -210,5 +171,5 @@ pub kings_dropped : (b v : Board) (to : ℕ) (piece : Piece) (side : Side) → p
     → ChangesCell b v to (Some piece) → kings_of v side ≡ kings_of b side
 kings_dropped b v to piece side king empty change =
     let one = rw empty at (change.kings side) in
-    let none = no_king_there side (Some piece) (λ taken is k. king (subst (λ (p : Piece). p.kind ≡ King) (sym (same_some piece taken is)) k)) in
+    let none = no_king_there side (Some piece) (λ taken is k. king (subst (λ (p : Piece). p.kind ≡ King) (sym (same_Some piece taken is)) k)) in
     omega arith

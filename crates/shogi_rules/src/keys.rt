@@ -59,13 +59,17 @@ fn key_after_drop(position: &Position, key: &Key, kind: Kind, to: Square) -> Key
 }
 
 /// The key of the position after a legal move, from the key of the position before it. The position after the move isn't
-/// made, so this costs a small part of what [`apply`](crate::apply) costs: at most three of the eight words change.
+/// made, so this costs a small part of what [`apply`](crate::apply) costs: at most three of the eight words change. It is a
+/// position that keeps what every position keeps, so its key is no other one's.
 /// Takes no memory.
 pub fn key_after(position: &Position, key: &Key, by: Move) -> Key
     requires legal { IsLegal position.now by }
     requires key { key.now.0 ≡ key_of position.now }
     ensures key { result.0 ≡ key_of (after position.now by) }
+    ensures kept { IsKept (after position.now by) }
 {
+    // What every position keeps holds of this one.
+    position.laws();
     match by {
         Move::Board { from, to, promote } => key_after_board(position, key, from, to, promote),
         Move::Drop { kind, to } => key_after_drop(position, key, kind, to),

@@ -51,8 +51,3 @@ tallied_on first n expansions tallies after tally are one is = subst (AreTallied
 pub answer_so : {A E : Type 0} (r : Result A E) (P Q : A → Type 0) → IfOk r P → ((a : A) → P a → Q a) → IfOk r Q
 answer_so (Ok a) P Q so leads = leads a so
 answer_so (Err e) P Q so leads = tt
-
--- One more holds too, where it was put behind the others.
-pub all_pushed : {X : Type 0} (P : X → Type 0) (before after : List X) (x : X) (b : Bool) → after ≡ (if b then before ++ x ∷ [] else before) → All P before → P x → All P after
-all_pushed P before after x true e all one = subst (All P) (sym e) (All-push P before x all one)
-all_pushed P before after x false e all one = subst (All P) (sym e) all

@@ -4,3 +4,5 @@ mod Used
 mod Places
 mod Marks
 mod Emptied
+pub mod Offered
+pub mod Sent

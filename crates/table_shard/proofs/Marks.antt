@@ -1,13 +1,13 @@
 -- The marks of a row's entries, as the row changes.
-use Rattle.std.proofs.Common.{◌≡◌, ◌<◌, ◌++◌, ℕ, zero, suc, List, [], ◌∷◌, length, get_or, set, refl, sym, ap, ◌∙◌, arith}
+use Rattle.std.proofs.Common.{◌≡◌, ◌<◌, ◌++◌, ℕ, zero, suc, List, [], ◌∷◌, length, get_or, set, refl, sym, ap, arith}
 use Rattle.std.proofs.lemmas.List.{map-append, map-set}
 use Rattle.notes.specs.declared.words.Update.{Update}
-use Rattle.notes.specs.declared.words.Update.TheVariants.{Numbers as SetNumbers, Note as AddNote, Nothing as ChangeNothing}
 use Rattle.board_core.specs.declared.keys.Key.{Key}
-use Rattle.table_shard.specs.Entry.{EntryView, updated}
+use Rattle.table_shard.specs.Entry.{EntryView}
 use Rattle.table_shard.specs.Marks.{marks_of}
 use Rattle.table_shard.specs.Row.{left}
 use Rattle.table_shard.specs.Spot.{mark_of}
+use Rattle.table_shard.proofs.Rows.{updated-key}
 
 -- the mark of an entry
 abbrev pub mark_in : EntryView → ℕ
@@ -23,16 +23,10 @@ pub marks_set : (row : List EntryView) (slot : ℕ) (entry : EntryView) (mark : 
     → set marks slot mark ≡ marks_of (set row slot entry)
 marks_set row slot entry mark marks are is = rw (are, is) (sym (map-set mark_in row slot entry))
 
--- an update keeps the key
-key_stays : (entry : EntryView) (update : Update) → (updated entry update).key ≡ entry.key
-key_stays entry (SetNumbers numbers) = refl
-key_stays entry (AddNote note) = refl
-key_stays entry ChangeNothing = refl
-
 -- a slot is left
 pub marks_left : (row : List EntryView) (slot : ℕ) (update : Update) → marks_of (left row slot update) ≡ marks_of row
 marks_left [] slot update = refl
-marks_left (x ∷ xs) zero update = ap (λ (k : Key). mark_of k ∷ marks_of xs) (key_stays x update)
+marks_left (x ∷ xs) zero update = ap (λ (k : Key). mark_of k ∷ marks_of xs) (updated-key x update)
 marks_left (x ∷ xs) (suc slot) update = ap (λ (ms : List ℕ). mark_of x.key ∷ ms) (marks_left xs slot update)
 
 -- the mark in a slot

@@ -12,7 +12,7 @@ use Rattle.table_shard.specs.Spot.{hash_of, place_of, spot_of}
 use Rattle.table_shard.specs.declared.hash.Spot.{Spot}
 use Rattle.table_shard.proofs.Rows.{enters_held, enters_stays}
 
-place_within : (key : Key) (rows : ℕ) → 0 < rows → place_of key rows < rows
+pub place_within : (key : Key) (rows : ℕ) → 0 < rows → place_of key rows < rows
 place_within key rows some = let h = hash_of key.0 in let low : h % rows < rows = omega (arith, some) in low
 
 -- a spot lies within the rows

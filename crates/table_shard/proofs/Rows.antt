@@ -97,7 +97,7 @@ some_within P [] slot h = absurd h
 some_within P (x ∷ xs) zero h = omega arith
 some_within P (x ∷ xs) (suc slot) h = let r = some_within P xs slot h in omega (arith, r)
 
-updated-key : (e : EntryView) (update : Update) → (updated e update).key ≡ e.key
+pub updated-key : (e : EntryView) (update : Update) → (updated e update).key ≡ e.key
 updated-key e (SetNumbers numbers) = refl
 updated-key e (AddNote note) = refl
 updated-key e ChangeNothing = refl
@@ -120,16 +120,16 @@ length-left [] slot update = refl
 length-left (x ∷ xs) zero update = refl
 length-left (x ∷ xs) (suc slot) update = ap suc (length-left xs slot update)
 
-holds_end : (row : List EntryView) (e : EntryView) → HoldsAt (row ++ e ∷ []) (length row) e.key
+pub holds_end : (row : List EntryView) (e : EntryView) → HoldsAt (row ++ e ∷ []) (length row) e.key
 holds_end [] e = refl
 holds_end (x ∷ xs) e = holds_end xs e
 
-holds_put : (row : List EntryView) (i : ℕ) (e : EntryView) → i < length row → HoldsAt (set row i e) i e.key
+pub holds_put : (row : List EntryView) (i : ℕ) (e : EntryView) → i < length row → HoldsAt (set row i e) i e.key
 holds_put [] i e there = absurd (omega (arith, there))
 holds_put (x ∷ xs) zero e there = refl
 holds_put (x ∷ xs) (suc i) e there = holds_put xs i e (omega (arith, there))
 
-holds_more : (row : List EntryView) (e : EntryView) (slot : ℕ) (key : Key) → HoldsAt row slot key → HoldsAt (row ++ e ∷ []) slot key
+pub holds_more : (row : List EntryView) (e : EntryView) (slot : ℕ) (key : Key) → HoldsAt row slot key → HoldsAt (row ++ e ∷ []) slot key
 holds_more [] e slot key h = absurd h
 holds_more (x ∷ xs) e zero key h = h
 holds_more (x ∷ xs) e (suc slot) key h = holds_more xs e slot key h

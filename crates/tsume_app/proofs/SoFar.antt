@@ -4,6 +4,7 @@ use Rattle.std.proofs.lemmas.List.{append-nil, append_assoc, length-append}
 use Rattle.std.proofs.Math.Seq.{take-append-add}
 use Rattle.tsume_io.specs.Faults.{Rose}
 use Rattle.tsume_io.specs.Sink.{GrewBy, GrewByPrefix}
+use Rattle.tsume_io.proofs.Offered.{GrewBy-nil, GrewBy-append}
 use Rattle.tsume_words.specs.Given.{CollectionView}
 use Rattle.search_limits.specs.Sizes.{SettingsView}
 use Rattle.tsume_words.specs.Given.Wish.{to_collect}
@@ -31,23 +32,11 @@ use Rattle.tsume_app.specs.Run.{HasCause, IsReadWhole, IsCollectionEnded, IsColl
 abbrev pub between : Option (List ℕ) → ℕ → Option (List ℕ) → ℕ → Shown
 between told faults told_after faults_after = record { told = told; told_after = told_after; faults = faults; faults_after = faults_after }
 
-grew_none : (told : Option (List ℕ)) → GrewBy told told []
-grew_none None = tt
-grew_none (Some before) = sym (append-nil before)
-
-grew_more : (a b c : Option (List ℕ)) (x y : List ℕ) → GrewBy a b x → GrewBy b c y → GrewBy a c (x ++ y)
-grew_more None None None x y one two = tt
-grew_more None None (Some c) x y one two = absurd two
-grew_more None (Some b) c x y one two = absurd one
-grew_more (Some a) None c x y one two = absurd one
-grew_more (Some a) (Some b) None x y one two = absurd two
-grew_more (Some a) (Some b) (Some c) x y one two = two ∙ (ap (λ (l : List ℕ). l ++ y) one ∙ append_assoc a x y)
-
 grew_part : (a b c : Option (List ℕ)) (x y : List ℕ) → GrewBy a b x → GrewByPrefix b c y → GrewByPrefix a c (x ++ y)
 grew_part a b c x y one two = (
   length x + two.0,
   (let l = length-append x y in let k = two.1 in omega (arith, l, k)),
-  subst (GrewBy a c) (sym (take-append-add x y two.0)) (grew_more a b c x (take two.0 y) one two.2),
+  subst (GrewBy a c) (sym (take-append-add x y two.0)) (GrewBy-append a b c x (take two.0 y) one two.2),
 )
 
 true_more : (settings : SettingsView) (form : CollectionView) (lines : List NumberedLine) (reports : List Report) (line : NumberedLine) (report : Report)
@@ -84,7 +73,7 @@ so_far_none settings form all told faults counts none = record {
   parts = refl;
   text = [];
   reported = record { reports = []; true_of = tt; is_text = refl; counted = none };
-  grew = grew_none told;
+  grew = GrewBy-nil told;
   kept = refl;
 }
 
@@ -97,7 +86,7 @@ so_far_more settings form all others left line told now after f g h counts more 
   parts = are.parts ∙ (ap (λ (l : List NumberedLine). are.decided ++ l) is ∙ sym (append_assoc are.decided (line ∷ []) left));
   text = are.text ++ text;
   reported = reported_more settings form are.decided line are.text text counts more are.reported told_one;
-  grew = grew_more told now after are.text text are.grew grew;
+  grew = GrewBy-append told now after are.text text are.grew grew;
   kept = same ∙ are.kept;
 }
 
@@ -171,7 +160,7 @@ collected_of settings form input source others told now after f g h counts (Answ
       read = read;
       text = are.text;
       reported = subst (λ (l : List NumberedLine). AreReported settings form l are.text counts) (sym (are.parts ∙ (ap (λ (l : List NumberedLine). are.decided ++ l) none ∙ append-nil are.decided))) are.reported;
-      grew = grew_more told now after are.text (answer_text (Collected counts)) are.grew w.1;
+      grew = GrewBy-append told now after are.text (answer_text (Collected counts)) are.grew w.1;
     })
 collected_of settings form input source others told now after f g h counts (CutShort answer) read are none w wanted =
     subst (λ (a : Answer). IsCollectionEnded settings form source (between told f after h) (CutShort a)) (sym w.0) (record {

@@ -6,6 +6,7 @@ use Rattle.std.specs.Prelude.{IsSomeAnd, option_and_then, option_map, nat_lt, if
 use Rattle.std.specs.Option.{option_map_or}
 use Rattle.std.specs.Str.{bytes_eq, chars}
 use Rattle.std.proofs.lemmas.Slice.Eq.{bytes_eq-Decides}
+use Rattle.std.proofs.lemmas.Bool.{or_right}
 use Rattle.clap.specs.declared.builder.action.ArgAction.{ArgAction}
 use Rattle.clap.specs.declared.builder.action.ArgAction.TheVariants.{Set, Append, SetTrue, SetFalse, Count}
 use Rattle.clap.specs.declared.builder.value_parser.ValueParser.{ValueParser}
@@ -401,10 +402,6 @@ has_row_kept id other s vs missing (r ∷ rs) e = go (bytes_eq r.id other) (has_
     go true more = e
     go false more = true_or (bytes_eq r.id id) _ _ more e
 
-or_true : (b x : Bool) → x ≡ true → (b || x) ≡ true
-or_true true x e = refl
-or_true false x e = e
-
 has_row_made : (id : Text) (how : Reading) (s : ValueSource) (vs : List Text) (rows : List Row) → has_row id (with_values id how s vs rows) ≡ true
 has_row_made id how s vs [] = ap (λ b. b || false) ((bytes_eq-Decides id id).1 refl)
 has_row_made id how s vs (r ∷ rs) = go (bytes_eq r.id id) refl (has_row_made id how s vs rs)
@@ -415,7 +412,7 @@ has_row_made id how s vs (r ∷ rs) = go (bytes_eq r.id id) refl (has_row_made i
     go : (o : Bool) → bytes_eq r.id id ≡ o → has_row id (at_row id (more_values s vs) (record { id = id; values = vs; count = None; source = Some s; reading = how } ∷ []) rs) ≡ true
         → has_row id (if o then more_values s vs r ++ rs else r ∷ at_row id (more_values s vs) (record { id = id; values = vs; count = None; source = Some s; reading = how } ∷ []) rs) ≡ true
     go true is more = ap (λ b. b || has_row id rs) is
-    go false is more = or_true (bytes_eq r.id id) _ more
+    go false is more = or_right (bytes_eq r.id id) _ more
 
 has_row_default : (id : Text) (rows : List Row) (a : Rule) → has_row id rows ≡ true → has_row id (with_default rows a) ≡ true
 has_row_default id rows a e = go (has_row a.id rows) a.defaults

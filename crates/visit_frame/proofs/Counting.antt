@@ -3,6 +3,7 @@ use Rattle.std.proofs.Common.{◌≡◌, ◌&&◌, ◌||◌, ℕ, zero, suc, Boo
 use Rattle.std.specs.Prelude.{slice_get, option_map}
 use Rattle.std.specs.List.{list_any, list_all}
 use Rattle.std.proofs.lemmas.List.{append-nil, append_assoc}
+use Rattle.std.proofs.lemmas.Bool.{and_right}
 use Rattle.board_core.specs.declared.moves.Move.{Move}
 use Rattle.board_core.specs.declared.moves.Move.TheVariants as moves
 use Rattle.bit_boards.specs.declared.square.Square.{Square}
@@ -26,16 +27,12 @@ drops_hide (first ∷ before) child dropped to is =
     ap (λ (b : Bool). not (has_note first) && b) (drop_same dropped to first.by ∙ ap (λ (m : Move). drop_on_same m first.by) (sym is)) in
     ap (λ (b : Bool). b || list_any (is_open_drop to.number) before) same ∙ ap (λ (b : Bool). hides child first || b) (drops_hide before child dropped to is)
 
-and_false : (b : Bool) → (b && false) ≡ false
-and_false true = refl
-and_false false = refl
-
 -- a move on the board isn't hidden
 pub boards_show : (before : List Child) (child : Child) (from to : Square) (promote : Bool) → child.by ≡ moves.Board from to promote
     → list_any (hides child) before ≡ false
 boards_show [] child from to promote is = refl
 boards_show (first ∷ before) child from to promote is =
-    let fails : hides child first ≡ false = ap (λ (m : Move). not (has_note first) && drop_on_same m first.by) is ∙ and_false (not (has_note first)) in
+    let fails : hides child first ≡ false = ap (λ (m : Move). not (has_note first) && drop_on_same m first.by) is ∙ (and_right (not (has_note first)) false refl) in
     ap (λ (b : Bool). b || list_any (hides child) before) fails ∙ boards_show before child from to promote is
 
 noted_shows : (child first : Child) (b : Bool) → has_note first ≡ b → b ≡ true → hides child first ≡ false

@@ -4,3 +4,5 @@ mod Unsolved
 mod Gathering
 mod Refuted
 mod Settling
+pub mod Sent
+pub mod Offered

@@ -2,7 +2,7 @@
 use Rattle.std.proofs.Common.{◌≡◌, ◌==◌, ◌<◌, ℕ, zero, suc, Bool, true, false, cond, List, [], ◌∷◌, Some, None, length, ltb, refl, sym, ap, subst, ◌∙◌, arith}
 use Rattle.std.specs.Prelude.{IsSome, slice_get, All, Contains}
 use Rattle.std.specs.List.{find, position, position_or_len, list_all}
-use Rattle.std.proofs.lemmas.Bool.{false≢true}
+use Rattle.std.proofs.lemmas.Bool.{false≢true, true_from_ne_false}
 use Rattle.std.proofs.lemmas.Bool.Decides.{nat_tests}
 use Rattle.std.proofs.lemmas.Option.{none-some, same_Some, cond_some, slice_get_within, slice_get_past, get_or_from_slice_get}
 use Rattle.std.proofs.lemmas.List.Folds.{find_at, list_all_at}
@@ -22,10 +22,6 @@ there (x ∷ xs) (suc i) h = there xs i h
 -- what holds of all holds of what stands at a place
 pub all_at : {X : Type 0} (P : X → Type 0) (xs : List X) (i : ℕ) (x : X) → All P xs → slice_get xs i ≡ Some x → P x
 all_at P xs i x all at = subst P (get_or_from_slice_get xs i x x at) (all i x (slice_get_within xs i x at))
-
--- what stands at a place is in the list
-pub contains_at : {X : Type 0} (xs : List X) (i : ℕ) (x : X) → slice_get xs i ≡ Some x → Contains xs x
-contains_at xs i x at = (i, slice_get_within xs i x at, get_or_from_slice_get xs i x x at)
 
 passes_step : {X : Type 0} (p : X → Bool) (y x : X) (ys : List X) (b : Bool) → p y ≡ b → cond b (Some y) (find p ys) ≡ Some x
     → (find p ys ≡ Some x → p x ≡ true) → p x ≡ true
@@ -61,13 +57,9 @@ past_end p xs false e h = find_at p xs ∙ slice_get_past xs (position_or_len p 
 pub position_none : {X : Type 0} (p : X → Bool) (xs : List X) → position p xs ≡ None → find p xs ≡ None
 position_none p xs h = past_end p xs (ltb (position_or_len p xs) (length xs)) refl h
 
-true_or : (b : Bool) → (b ≡ false → ⊥) → b ≡ true
-true_or true h = refl
-true_or false h = absurd (h refl)
-
 -- where all pass, each does
 pub list_all_each : {X : Type 0} (p : X → Bool) (xs : List X) (i : ℕ) (x : X) → list_all p xs ≡ true → slice_get xs i ≡ Some x → p x ≡ true
-list_all_each p xs i x all at = true_or (p x) (λ no. false≢true (
+list_all_each p xs i x all at = true_from_ne_false (p x) (λ no. false≢true (
     sym (list_all_at p xs i x (slice_get_within xs i x at) (ap p (get_or_from_slice_get xs i x x at) ∙ no)) ∙ all))
 
 exists_at : {X : Type 0} (xs : List X) (i : ℕ) → i < length xs → (x : X) × (slice_get xs i ≡ Some x)

@@ -2,10 +2,11 @@
 use Rattle.std.proofs.Common.{◌≡◌, ◌<◌, ◌||◌, ℕ, zero, suc, Bool, true, false, not, List, [], ◌∷◌, ◌++◌, Option, Some, None, length, map, refl, sym, ap, subst, ◌∙◌, arith}
 use Rattle.std.specs.Prelude.{slice_get, All, Contains, is_some}
 use Rattle.std.specs.List.{list_all, find}
-use Rattle.std.proofs.lemmas.Bool.{false≢true}
+use Rattle.std.proofs.lemmas.Bool.{false≢true, or_parts}
 use Rattle.std.proofs.lemmas.Option.{none-some, same_Some, slice_get-map, slice_get-get_or}
 use Rattle.std.proofs.lemmas.List.{length-map}
 use Rattle.std.proofs.lemmas.List.Elements.{All-head, All-tail}
+use Rattle.list_laws.proofs.Standing.{contained}
 use Rattle.bit_boards.specs.declared.piece.Side.{Side}
 use Rattle.bit_boards.specs.declared.piece.Side.TheVariants.{Black, White}
 use Rattle.board_core.specs.declared.keys.Key.{Key}
@@ -27,7 +28,7 @@ use Rattle.visit_log.specs.Children.{AreMoves, move_to, has_note, is_mate, shows
 use Rattle.visit_log.specs.Machine.{IsPlayed}
 use Rattle.visit_log.specs.Sound.{IsSoundChild}
 use Rattle.visit_frame.specs.Making.{IsNoteFor, IsKnown, against, Refutes, mover, AllSay}
-use Rattle.visit_frame.proofs.Places.{contains_at, find_none, list_all_each}
+use Rattle.visit_frame.proofs.Places.{find_none, list_all_each}
 
 -- 1. ONE CHILD.
 
@@ -58,14 +59,10 @@ not_escape : (c : Conclusion) → not (is_mate c) ≡ false → c ≡ Mate
 not_escape Mate h = refl
 not_escape Escape h = absurd (false≢true (sym h))
 
-or_right : (a b : Bool) → (a || b) ≡ false → b ≡ false
-or_right true b h = absurd (false≢true (sym h))
-or_right false b h = h
-
 -- a note that doesn't decide its node serves the other side
 undeciding : (node : Node) (child : Child) (note : Derivation) → child.note ≡ Some note → decides node child ≡ false → conclusion_of note ≡ against node
 undeciding Attacker child note is fails = not_mate (conclusion_of note) (sym (ap shows_mate is) ∙ fails)
-undeciding Defender child note is fails = not_escape (conclusion_of note) (sym (ap shows_escape is) ∙ or_right child.on_path (shows_escape child.note) fails)
+undeciding Defender child note is fails = not_escape (conclusion_of note) (sym (ap shows_escape is) ∙ (or_parts child.on_path (shows_escape child.note) fails).1)
 
 some_note : (note : Option Derivation) → is_some note ≡ true → (n : Derivation) × (note ≡ Some n)
 some_note None h = absurd (false≢true h)
@@ -200,21 +197,21 @@ defends attacker b h = node_by attacker b.side h
 pub move_legal : (node : Node) (attacker : Side) (b : Board) (children : List Child) (i : ℕ) (child : Child) → AreMoves node attacker b (map move_to children)
     → slice_get children i ≡ Some child → IsLegal b child.by
 move_legal Attacker attacker b children i child moves at =
-    (moves.sound child.by (contains_at (map move_to children) i child.by (slice_get-map move_to children i ∙ ap (λ (o : Option Child). Rattle.std.specs.Prelude.option_map move_to o) at))).legal
+    (moves.sound child.by (contained (map move_to children) i child.by (slice_get-map move_to children i ∙ ap (λ (o : Option Child). Rattle.std.specs.Prelude.option_map move_to o) at))).legal
 move_legal Defender attacker b children i child moves at =
-    (moves.sound child.by (contains_at (map move_to children) i child.by (slice_get-map move_to children i ∙ ap (λ (o : Option Child). Rattle.std.specs.Prelude.option_map move_to o) at))).legal
+    (moves.sound child.by (contained (map move_to children) i child.by (slice_get-map move_to children i ∙ ap (λ (o : Option Child). Rattle.std.specs.Prelude.option_map move_to o) at))).legal
 
 -- of the attacker's node, a check
 pub move_check : (attacker : Side) (b : Board) (children : List Child) (i : ℕ) (child : Child) → AreMoves Attacker attacker b (map move_to children)
     → slice_get children i ≡ Some child → IsCheck attacker b child.by
 move_check attacker b children i child moves at =
-    moves.sound child.by (contains_at (map move_to children) i child.by (slice_get-map move_to children i ∙ ap (λ (o : Option Child). Rattle.std.specs.Prelude.option_map move_to o) at))
+    moves.sound child.by (contained (map move_to children) i child.by (slice_get-map move_to children i ∙ ap (λ (o : Option Child). Rattle.std.specs.Prelude.option_map move_to o) at))
 
 -- of the defender's, an evasion
 pub move_evasion : (attacker : Side) (b : Board) (children : List Child) (i : ℕ) (child : Child) → AreMoves Defender attacker b (map move_to children)
     → slice_get children i ≡ Some child → IsEvasion attacker b child.by
 move_evasion attacker b children i child moves at =
-    moves.sound child.by (contains_at (map move_to children) i child.by (slice_get-map move_to children i ∙ ap (λ (o : Option Child). Rattle.std.specs.Prelude.option_map move_to o) at))
+    moves.sound child.by (contained (map move_to children) i child.by (slice_get-map move_to children i ∙ ap (λ (o : Option Child). Rattle.std.specs.Prelude.option_map move_to o) at))
 
 -- the rule of a defender's node with children
 pub rule_mates : (children : List Child) → 0 < length children → MateAll ≡ rule_of_all Defender children

@@ -67,7 +67,3 @@ may_tell task path f place seen listed may here =
       path = path;
       may = may at.0 at.1;
     }
-
--- a valid note is about a position that keeps what every position keeps
-pub valid_kept : (note : Derivation) → IsValid note → IsKept (position_of note)
-valid_kept (derived step notes) valid = valid.1.kept

@@ -2,7 +2,7 @@
 use Rattle.std.proofs.Common.{◌≡◌, ◌≢◌, ◌<◌, ◌≤◌, ◌==◌, ◌&&◌, ◌||◌, ◌⊎◌, inl, inr, ◌+◌, ◌*◌, ℕ, zero, suc, Bool, true, false, not, List, [], ◌∷◌, ◌++◌, Option, Some, None, length, get_or, min, map, sum_by, refl, sym, ap, subst, ◌∙◌, arith}
 use Rattle.std.specs.Prelude.{slice_get, All, is_some, nat_lt, if◌then◌else◌}
 use Rattle.std.specs.List.{list_any, list_all, find}
-use Rattle.std.proofs.lemmas.Bool.{false≢true}
+use Rattle.std.proofs.lemmas.Bool.{false≢true, or_parts, and_from}
 use Rattle.std.proofs.lemmas.Bool.Decides.{nat_tests}
 use Rattle.std.proofs.lemmas.Option.{none-some, same_Some, slice_get_within, get_or_from_slice_get, slice_get-map}
 use Rattle.std.proofs.lemmas.List.Folds.{list_all_at, list_all-append}
@@ -23,6 +23,7 @@ use Rattle.notes.specs.declared.rule.Conclusion.{Conclusion}
 use Rattle.notes.specs.declared.rule.Conclusion.TheVariants.{Mate, Escape}
 use Rattle.visit_log.specs.declared.parts.Child.{Child}
 use Rattle.visit_log.specs.Children.{has_note, is_mate, shows_mate, shows_escape, decides, deciding, is_solved, settled, numbers_by, is_hidden, counted_behind, counted_after, counted, numbers_in, own_numbers}
+use Rattle.visit_log.proofs.Offered.{none_decides}
 use Rattle.visit_frame.proofs.Places.{find_none}
 use Rattle.visit_frame.proofs.Counting.{not_hidden, counted_get}
 
@@ -47,10 +48,6 @@ won_defender : (note : Option Derivation) (numbers : Numbers) → IsOpen numbers
 won_defender None numbers is_open h = open_apart numbers.dn is_open.least_dn
 won_defender (Some note) numbers is_open h = won_escape (conclusion_of note) h
 
-or_right : (a b : Bool) → (a || b) ≡ false → b ≡ false
-or_right true b h = absurd (false≢true (sym h))
-or_right false b h = h
-
 hidden_not_won : (hidden : Bool) (numbers : Numbers) → is_won Defender numbers ≡ false → is_won Defender (if hidden then settled Mate else numbers) ≡ false
 hidden_not_won true numbers h = refl
 hidden_not_won false numbers h = h
@@ -60,7 +57,7 @@ not_won : (node : Node) (before : List Child) (child : Child) → IsOpen child.n
 not_won Attacker before child is_open h = won_attacker child.note child.numbers is_open h
 not_won Defender before child is_open h =
     hidden_not_won (is_hidden Defender before child) (numbers_by child.note child.numbers)
-    (won_defender child.note child.numbers is_open (or_right child.on_path (shows_escape child.note) h))
+    (won_defender child.note child.numbers is_open ((or_parts child.on_path (shows_escape child.note) h).1))
 
 -- where no child decides, none is won
 none_won : (node : Node) (before children : List Child) → All (λ child. IsOpen child.numbers) children → All (λ child. decides node child ≡ false) children
@@ -86,9 +83,6 @@ shown_as node before child all none =
     let by : Bool → Option Derivation → Counted = λ b note. record { numbers = if b then settled Mate else numbers_by note child.numbers; below = child.below } in
     ap (λ (b : Bool). by b child.note) (not_hidden node before child all) ∙ ap (λ (note : Option Derivation). by false note) none
 
-and_true : (a b : Bool) → a ≡ true → b ≡ true → (a && b) ≡ true
-and_true a b p q = ap (λ (x : Bool). x && b) p ∙ q
-
 shown_step : (node : Node) (before children : List Child) (child : Child) (note : Option Derivation) → child.note ≡ note → list_all has_note before ≡ true
     → (is_some note && list_all has_note children) ≡ false
     → (list_all has_note (before ++ child ∷ []) ≡ true → list_all has_note children ≡ false → IsShown node (before ++ child ∷ []) children)
@@ -102,7 +96,7 @@ shown_step node before children child None is all fails rest = record {
 shown_step node before children child (Some note) is all fails rest =
     let more : list_all has_note (before ++ child ∷ []) ≡ true =
     list_all-append has_note before (child ∷ [])
-    ∙ and_true (list_all has_note before) (has_note child && true) all (and_true (has_note child) true (ap is_some is) refl) in
+    ∙ and_from (list_all has_note before) (has_note child && true) all (and_from (has_note child) true (ap is_some is) refl) in
     let found = rest more fails in
     record { place = suc found.place; child = found.child; here = found.here; counts = found.counts }
 
@@ -188,17 +182,13 @@ unsolved_parts (Some child) all h = absurd (false≢true (sym h))
 unsolved_shown : (node : Node) (children : List Child) → is_solved node children ≡ false → IsShown node [] children
 unsolved_shown node children h = first_shown node [] children refl (unsolved_parts (deciding node children) (list_all has_note children) h).1
 
--- and no child that decides it
-unsolved_none : (node : Node) (children : List Child) → is_solved node children ≡ false → deciding node children ≡ None
-unsolved_none node children h = (unsolved_parts (deciding node children) (list_all has_note children) h).0
-
 -- and open numbers
 pub own_open : (node : Node) (children : List Child) → All (λ child. IsOpen child.numbers) children → is_solved node children ≡ false
     → IsNumbers (own_numbers node children) → IsOpen (own_numbers node children)
 own_open node children opens h numbers =
     let shown = unsolved_shown node children h in
     let fails : All (λ (child : Child). decides node child ≡ false) children =
-    λ k d inside. find_none (decides node) children k (get_or children k d) (unsolved_none node children h) (Rattle.std.proofs.lemmas.Option.slice_get-get_or children k d inside) in
+    λ k d inside. find_none (decides node) children k (get_or children k d) (none_decides node children h) (Rattle.std.proofs.lemmas.Option.slice_get-get_or children k d inside) in
     open_with node (map numbers_in (counted node children)) shown.place shown.child.numbers (none_won node [] children opens fails) (counts_at node children shown)
     (Rattle.visit_frame.proofs.Places.all_at (λ (child : Child). IsOpen child.numbers) children shown.place shown.child opens shown.here) numbers
 

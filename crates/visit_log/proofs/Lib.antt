@@ -13,3 +13,4 @@ pub mod Caused
 pub mod Ended
 pub mod Logged
 pub mod Paths
+pub mod Offered

@@ -95,7 +95,7 @@ rest_once task [] once = once
 rest_once task (f ∷ fs) once = before_node (node_at (attacker_in task) f.place.position) f.place.key (path_of task fs) once
 
 -- Visits that wind up stand on the same path.
-bare_path : (task : Task) (fs : List FrameView) → path_of task (map bare fs) ≡ path_of task fs
+pub bare_path : (task : Task) (fs : List FrameView) → path_of task (map bare fs) ≡ path_of task fs
 bare_path task [] = refl
 bare_path task (f ∷ fs) = ap (λ (path : List Key). path_at task f.place path) (bare_path task fs)
 

@@ -77,7 +77,7 @@ moves_staled (first ∷ rest) = ap (λ (moves : List Move). first.by ∷ moves) 
 -- 2. NONE IS ON THE PATH THAT IS LOOKED AT OR VISITED.
 
 -- No child decides a node that isn't solved.
-none_decides : (node : Node) (children : List Child) → is_solved node children ≡ false → deciding node children ≡ None
+pub none_decides : (node : Node) (children : List Child) → is_solved node children ≡ false → deciding node children ≡ None
 none_decides node children unsolved = by_one (deciding node children) (or_parts (is_some (deciding node children)) _ unsolved).0
   where
     by_one : (one : Option Child) → is_some one ≡ false → one ≡ None

@@ -13,6 +13,7 @@ use Rattle.pn_numbers.specs.declared.node.Node.{Node}
 use Rattle.pn_numbers.specs.declared.node.Node.TheVariants.{Attacker, Defender}
 use Rattle.shogi_rules.specs.Rules.{after}
 use Rattle.std.proofs.lemmas.List.Elements.{All-append, All-cons, All-contains, All-nil, All-tail, All-weaker, Contains-append_cases}
+use Rattle.value_laws.proofs.Keys.{same_key}
 use Rattle.visit_log.proofs.SoundChildren.{of_found}
 use Rattle.visit_log.specs.Children.{decides, deciding, note_list, notes_in, notes_under, notes_with, rule_at, rule_with}
 use Rattle.visit_log.specs.Frame.{Task, FrameView}
@@ -46,10 +47,6 @@ all_notes P (child ∷ children) all =
 only_note : (o : Option Derivation) (note : Derivation) → note_list o ≡ note ∷ [] → o ≡ Some note
 only_note None note alone = absurd (cc)
 only_note (Some one) note alone = ap Some (cc)
-
--- Keys of the same words are one key.
-same_key : (a b : Key) → a.0 ≡ b.0 → a ≡ b
-same_key a b same = λ i. record { 0 = same i }
 
 -- What joins the tags of notes that hold on the path with the position's key holds on the path before it.
 joined_within : (tag : List Key) (b : Board) (key : Key) (path : List Key) (notes : List Derivation) → key.0 ≡ key_of b → JoinsTags tag b notes

@@ -441,7 +441,7 @@ begun_winding task end (f ∷ fs) log (reason, ends, over) = record {
 }
 
 -- A worker that is starved winds up.
-winds_starved : (s : State) (stage : Stage) → (end : WorkEnd) × ((starve_at s stage).stage ≡ Winding end)
+pub winds_starved : (s : State) (stage : Stage) → (end : WorkEnd) × ((starve_at s stage).stage ≡ Winding end)
 winds_starved s (Polling entry) = (NoMemory, refl)
 winds_starved s (Drawing entry) = (NoMemory, refl)
 winds_starved s Entering = (NoMemory, refl)

@@ -34,7 +34,7 @@ length-entered (f ∷ fs) = by_kept (is_some f.kept)
     by_kept false = omega (arith, length-map fs bare)
 
 -- no more slots are entered than visits are going on
-size_length : (fs : List FrameView) → own_size fs ≤ length fs
+pub size_length : (fs : List FrameView) → own_size fs ≤ length fs
 size_length [] = omega arith
 size_length (f ∷ fs) = let one = by_kept f.kept in omega (arith, one, size_length fs)
   where

@@ -28,7 +28,7 @@ pub enum Request {
     /// The next unit of work.
     Draw,
     /// Room for a note.
-    RoomAnswer,
+    Claim,
     /// What the table knows of the position of this key, on the worker's path.
     Look(Key),
     /// To enter a position in the table.
@@ -61,7 +61,7 @@ pub enum Reply {
     /// The unit, or that there is none for it.
     Draw(Draw),
     /// The room, or that there is none.
-    RoomAnswer(RoomAnswer),
+    Claim(RoomAnswer),
     /// What the table shows.
     Look(Seen),
     /// Where the entry is.

@@ -167,11 +167,6 @@ same_side White White e = refl
 pub attacks : (task : Task) (b : Board) → b.side ≡ attacker_in task → node_at (attacker_in task) b ≡ Attacker
 attacks task b e = same_side (attacker_in task) b.side e
 
--- Bare visits have the same path.
-pub bare_path : (task : Task) (fs : List FrameView) → path_of task (map bare fs) ≡ path_of task fs
-bare_path task [] = refl
-bare_path task (f ∷ fs) = ap (λ (path : List Key). path_at task f.place path) (bare_path task fs)
-
 -- What is left when a worker winds up.
 pub entered_bare : (fs : List FrameView) → map bare (without_unentered fs) ≡ entered_ones fs
 entered_bare [] = refl

@@ -5,3 +5,5 @@ pub mod Steps
 pub mod Reached
 pub mod TurnsStages
 pub mod Turns
+pub mod Offered
+pub mod Sent

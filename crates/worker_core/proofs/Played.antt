@@ -1,6 +1,7 @@
 -- The position of the child to which a visit goes down.
 use Rattle.std.proofs.Common.{◌≡◌, ℕ, ◌<◌, List, [], ◌∷◌, map, refl, sym, ap, ◌∙◌, subst, Contains}
 use Rattle.std.specs.Prelude.{Some, slice_get}
+use Rattle.std.proofs.lemmas.Option.{same_Some}
 use Rattle.bit_boards.specs.declared.piece.Side.{Side}
 use Rattle.bit_boards.specs.declared.piece.Side.TheVariants.{Black, White}
 use Rattle.bit_boards.specs.Kind.{other}
@@ -19,9 +20,6 @@ use Rattle.visit_log.specs.Machine.{IsPlayed, path_of}
 use Rattle.visit_log.specs.Sound.{IsListed, IsMoveTo, AreSound}
 use Rattle.list_laws.proofs.Standing.{contained, contains_map}
 use Rattle.worker_core.specs.Stack.{top_of}
-
-same_Some : {A : Type 0} (x y : A) → Some x ≡ Some y → x ≡ y
-same_Some x y e = cc
 
 -- A child's move is one of the moves.
 moves_hold : (children : List Child) (place : ℕ) (child : Child) → slice_get children place ≡ Some child → Contains (map move_to children) child.by

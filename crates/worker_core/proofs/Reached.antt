@@ -21,7 +21,7 @@ runs_snoc : (task : Task) (happenings : List Happening) (s t u : State) (h : Hap
 runs_snoc task [] s t u h runs happens = (u, subst (λ (z : State). Happens task z h u) (sym runs) happens, refl)
 runs_snoc task (x ∷ xs) s t u h runs happens = (runs.0, runs.1, runs_snoc task xs runs.0 t u h runs.2 happens)
 
-events_snoc : (happenings : List Happening) (h : Happening) → events (happenings ++ h ∷ []) ≡ events happenings ++ event h
+pub events_snoc : (happenings : List Happening) (h : Happening) → events (happenings ++ h ∷ []) ≡ events happenings ++ event h
 events_snoc [] h = append-nil (event h)
 events_snoc (x ∷ xs) h = ap (λ (z : List Exchange). event x ++ z) (events_snoc xs h) ∙ sym (append_assoc (event x) (events xs) (event h))
 

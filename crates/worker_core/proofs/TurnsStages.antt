@@ -28,7 +28,9 @@ use Rattle.visit_log.specs.Round.{MayShow}
 use Rattle.visit_log.specs.Machine.{State, at_stage, bare, entered_ones, wind, starve, Settles, Opens, Sees, Makes, Returns, LeadsAt, Fits, rest_of, path_of, asks, asks_at, ask_look, ask_leave, ask_post, asked, asked_at}
 use Rattle.visit_log.specs.Run.{IsLooking}
 use Rattle.visit_log.specs.Counts.{enters, leaves, enters_some, leaves_some, units_in, to_come}
-use Rattle.worker_core.specs.Port.{ends_by, entering}
+use Rattle.visit_log.specs.Visit.{Exchange}
+use Rattle.visit_log.proofs.Offered.{length-entered}
+use Rattle.worker_core.specs.Port.{ends_by, entering, Goes}
 
 -- 1. WHETHER IT ENTERS NEXT.
 
@@ -180,7 +182,7 @@ ends_wind task s (Posting posted) (Claimed Full) t h e = absurd h
 ends_wind task s (Winding end) (Claimed Full) t h e = absurd h
 
 -- A worker that winds up goes on so.
-winds_on : (task : Task) (s : State) (end : WorkEnd) (a : Reply) (t : State) → LeadsAt task s (Winding end) a t → t.stage ≡ Winding end
+pub winds_on : (task : Task) (s : State) (end : WorkEnd) (a : Reply) (t : State) → LeadsAt task s (Winding end) a t → t.stage ≡ Winding end
 winds_on task s end (Polled stop) t h = absurd h
 winds_on task s end (Drew draw) t h = absurd h
 winds_on task s end (Claimed claim) t h = absurd h
@@ -426,14 +428,6 @@ asked_same s a key slot = by_stage s.stage
     by_stage (Posting posted) = by_note posted
     by_stage (Winding end) = (refl, refl, refl, refl)
 
-length-entered : (fs : List FrameView) → length (entered_ones fs) ≤ length fs
-length-entered [] = omega arith
-length-entered (f ∷ fs) = by_kept (is_some f.kept)
-  where
-    by_kept : (b : Bool) → length (if b then bare f ∷ map bare fs else map bare fs) ≤ length (f ∷ fs)
-    by_kept true = let n : length (map bare fs) ≡ length fs = length-map fs bare in omega (arith, n)
-    by_kept false = let n : length (map bare fs) ≡ length fs = length-map fs bare in omega (arith, n)
-
 starved_less : (st : Stage) (fs : List FrameView) (v c : ℕ) → IsLooking st
     → to_come (starve (asked (record { stage = st; frames = fs; visits = v; claims = c }))) < to_come (record { stage = st; frames = fs; visits = v; claims = c })
 starved_less (Polling e) fs v c at = absurd at
@@ -463,3 +457,8 @@ starved_wind (Winding end) fs v c at = absurd at
 -- And the worker winds up.
 pub starves_wind : (s : State) → IsLooking s.stage → (starve (asked s)).stage ≡ Winding NoMemory
 starves_wind s at = starved_wind s.stage s.frames s.visits s.claims at
+
+-- What was asked is what the state asks.
+pub goes_asks : (task : Task) (s t : State) (x : Exchange) → Goes task s x t → x.0 ≡ asks s
+goes_asks task s t (q, None) h = h.0
+goes_asks task s t (q, Some a) h = h.0

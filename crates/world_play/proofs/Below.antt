@@ -8,14 +8,16 @@ use Rattle.std.proofs.lemmas.Bool.{cases_lt, eq-eqb}
 use Rattle.std.proofs.lemmas.List.Elements.{All-get_or}
 use Rattle.std.proofs.lemmas.List.Sums.{sum_by-cons}
 use Rattle.std.proofs.lemmas.Option.{slice_get_within, get_or_from_slice_get}
+use Rattle.value_laws.proofs.Keys.{key_total}
 use Rattle.board_core.specs.declared.keys.Key.{Key}
-use Rattle.path_tags.specs.Tag.{key_cmp}
+use Rattle.board_core.specs.KeyOrder.{key_cmp}
 use Rattle.notes.specs.declared.words.Kept.{Kept}
 use Rattle.notes.specs.declared.words.Kept.TheVariants.{Slot, Unkept}
 use Rattle.table_shard.specs.Entry.{EntryView}
 use Rattle.table_shard.specs.Row.{HoldsAt, Lacks, IsRow}
 use Rattle.table_shard.specs.Shard.{row_of}
 use Rattle.table_shard.specs.Spot.{place_of, hash_of}
+use Rattle.table_shard.proofs.Offered.{place_within}
 use Rattle.visit_log.specs.Frame.{FrameView}
 use Rattle.visit_log.specs.Run.{WorkerView}
 use Rattle.visit_log.specs.Counts.{own_slots, slot_of}
@@ -72,9 +74,6 @@ entered_holds world fair key i w e s some =
 
 -- 3. THE KEY'S ROW.
 
-key_total : IsTotalOrder key_cmp
-key_total = on_total (λ (k : Key). k.0) nat_list_cmp_total
-
 held_here : (o : Option EntryView) (key : Key) (count : ℕ) → IsSomeAnd o (λ e. e.key ≡ key) → held_at o key count ≡ count
 held_here None key count h = absurd h
 held_here (Some e) key count h =
@@ -90,11 +89,8 @@ lacks_none row s key lacks there = by_slot (slice_get row s) refl there
         let p = All-get_or (λ (z : EntryView). z.key ≢ key) row s e (slice_get_within row s e is) lacks in
         p (ap (λ (z : EntryView). z.key) (get_or_from_slice_get row s e e is) ∙ h)
 
-within : (key : Key) (rows : ℕ) → 0 < rows → place_of key rows < rows
-within key rows some = let h = hash_of key.0 in let low : h % rows < rows = omega (arith, some) in low
-
 row_is : (world : World) → IsLone world.port → All IsRow world.port.rows → (key : Key) → IsRow (row_of world.port.rows key)
-row_is world lone rows key = All-get_or IsRow world.port.rows (place_of key (length world.port.rows)) [] (within key (length world.port.rows) lone.some) rows
+row_is world lone rows key = All-get_or IsRow world.port.rows (place_of key (length world.port.rows)) [] (place_within key (length world.port.rows) lone.some) rows
 
 -- 4. THE COUNT.
 

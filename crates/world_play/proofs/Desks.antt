@@ -16,6 +16,7 @@ use Rattle.visit_log.specs.Visit.{Exchange, drew, claimed}
 use Rattle.visit_log.specs.Frame.{Task}
 use Rattle.visit_log.specs.Laws.{HasCause}
 use Rattle.unit_desk.specs.Desk.{DeskView, first_posted}
+use Rattle.unit_desk.proofs.Offered.{first_is}
 use Rattle.lone_port.specs.Lone.{LonePortView, Turns}
 use Rattle.world_play.specs.Fair.{IsToldOf}
 
@@ -33,10 +34,6 @@ desk_same d = record { position = refl; expansions = refl; room = refl; spent = 
 
 same_at : (before after : DeskView) → after ≡ before → KeepsDesk before after
 same_at before after e = subst (λ (d : DeskView). KeepsDesk before d) (sym e) (desk_same before)
-
-first_is : (posted : Option Derivation) (note : Derivation) → IsSome (first_posted posted note)
-first_is None note = refl
-first_is (Some first) note = refl
 
 -- A step of the table and the desk.
 pub keeps : (before : LonePortView) (path : List Key) (q : Request) (a : Option Reply) (after : LonePortView) → Turns before path q a after → KeepsDesk before.desk after.desk

@@ -13,58 +13,25 @@ use Rattle.table_shard.specs.Entry.{EntryView, updated}
 use Rattle.table_shard.specs.Row.{HoldsAt, Enters, IsGivenUp, fresh, left}
 use Rattle.table_shard.specs.Shard.{row_of, with_row}
 use Rattle.table_shard.specs.Spot.{place_of, hash_of}
+use Rattle.table_shard.proofs.Offered.{place_within, updated-key, holds_more, enters_stays, left_stays}
 use Rattle.visit_log.specs.declared.words.Request.{Request}
 use Rattle.visit_log.specs.declared.words.Request.TheVariants.{Poll, Draw as Draws, Claim as Claims, Look, Enter, Leave, Post}
 use Rattle.visit_log.specs.declared.words.Reply.{Reply}
 use Rattle.visit_log.specs.declared.words.Reply.TheVariants.{Poll as Polled, Draw as Drew, Claim as Claimed, Look as Looked, Enter as Entered, Leave as LeftIt, Post as PostedIt}
 use Rattle.visit_log.specs.Machine.{path_of}
 use Rattle.lone_port.specs.Lone.{LonePortView, IsLone, Turns, opened, pins_of}
+use Rattle.lone_port.proofs.Offered.{held_there}
 use Rattle.world_play.specs.Promises.{StepsKeepEntered}
-use Rattle.world_play.proofs.Promised.{held_there}
 use Rattle.world_play.proofs.Stepped.{get_set_other}
 
 -- 1. IN A ROW.
-
--- What is there stays where an entry is put behind it.
-push_keeps : (row : List EntryView) (e : EntryView) (s : ℕ) (k : Key) → HoldsAt row s k → HoldsAt (row ++ e ∷ []) s k
-push_keeps [] e s k h = absurd h
-push_keeps (x ∷ xs) e zero k h = h
-push_keeps (x ∷ xs) e (suc s) k h = push_keeps xs e s k h
-
-updated_key : (e : EntryView) (u : Update) → (updated e u).key ≡ e.key
-updated_key e (SetNumbers n) = refl
-updated_key e (AddNote n) = refl
-updated_key e ChangeNothing = refl
-
--- And where an entry is left.
-left_keeps : (row : List EntryView) (slot : ℕ) (u : Update) (s : ℕ) (k : Key) → HoldsAt row s k → HoldsAt (left row slot u) s k
-left_keeps [] slot u s k h = h
-left_keeps (x ∷ xs) zero u zero k h = updated_key x u ∙ h
-left_keeps (x ∷ xs) zero u (suc s) k h = h
-left_keeps (x ∷ xs) (suc slot) u zero k h = h
-left_keeps (x ∷ xs) (suc slot) u (suc s) k h = left_keeps xs slot u s k h
 
 -- The entry that is given up is not below a visit.
 given_up_idle : (row : List EntryView) (pins : List ℕ) (slot : ℕ) → IsGivenUp row pins slot → slice_index pins slot ≡ 0
 given_up_idle row pins slot (inl first) = first.has.idle.unpinned
 given_up_idle row pins slot (inr first) = first.1.has.unpinned
 
-enters_keeps : (row : List EntryView) (pins : List ℕ) (key : Key) (numbers : Numbers) (kept : Kept) (after : List EntryView) (s : ℕ) (k : Key) → Enters row pins key numbers kept after
-    → 0 < slice_index pins s → HoldsAt row s k → HoldsAt after s k
-enters_keeps row pins key numbers (Slot slot) after s k (inl same) some h = subst (λ (r : List EntryView). HoldsAt r s k) (sym same.1) h
-enters_keeps row pins key numbers (Slot slot) after s k (inr (lacks, inl free)) some h =
-    subst (λ (r : List EntryView). HoldsAt r s k) (sym free.2) (push_keeps row (fresh key numbers) s k h)
-enters_keeps row pins key numbers (Slot slot) after s k (inr (lacks, inr full)) some h =
-    let idle = given_up_idle row pins slot full.1 in
-    let ne : s ≢ slot = λ e. (let z : slice_index pins s ≡ 0 = ap (λ (n : ℕ). slice_index pins n) e ∙ idle in absurd (omega (arith, z, some))) in
-    subst (λ (r : List EntryView). HoldsAt r s k) (sym full.2)
-    (subst (λ (o : Option EntryView). IsSomeAnd o (λ e. e.key ≡ k)) (sym (get_set_other row slot s (fresh key numbers) ne)) h)
-enters_keeps row pins key numbers Unkept after s k h some there = subst (λ (r : List EntryView). HoldsAt r s k) (sym h.3) there
-
 -- 2. IN A TABLE.
-
-within : (key : Key) (rows : ℕ) → 0 < rows → place_of key rows < rows
-within key rows some = let h = hash_of key.0 in let low : h % rows < rows = omega (arith, some) in low
 
 -- Where what is in the changed row stays, with a visit below, all stays.
 row_keeps : (port : LonePortView) (key : Key) (row : List EntryView) (rows : List (List EntryView)) (k : Key) (s : ℕ) → IsLone port → rows ≡ with_row port.rows key row
@@ -72,7 +39,7 @@ row_keeps : (port : LonePortView) (key : Key) (row : List EntryView) (rows : Lis
     → HoldsAt (row_of port.rows k) s k → 0 < slice_index (pins_of port.pins k) s → HoldsAt (row_of rows k) s k
 row_keeps port key row rows k s lone is stays there some =
     let n = length port.rows in
-    let low = within key n lone.some in
+    let low = place_within key n lone.some in
     let long : length (with_row port.rows key row) ≡ n = length-set port.rows (place_of key n) row in
     subst (λ (r : List (List EntryView)). HoldsAt (row_of r k) s k) (sym is)
     (subst (λ (m : ℕ). HoldsAt (get_or (with_row port.rows key row) (place_of k m) []) s k) (sym long)
@@ -109,11 +76,11 @@ turn_keeps port path (Look key) None after k s lone b h = same_rows port after k
 turn_keeps port path (Look key) (Some (Looked seen)) after k s lone b h = same_rows port after k s (ap (λ (p : LonePortView). p.rows) h.1) b.0
 turn_keeps port path (Enter key numbers) (Some (Entered kept)) after k s lone b h =
     row_keeps port key h.0.row after.rows k s lone h.0.others
-    (λ some there. enters_keeps (row_of port.rows key) (pins_of port.pins key) key numbers kept h.0.row s k h.0.enters some there) b.0 b.1
+    (λ some there. enters_stays (row_of port.rows key) (pins_of port.pins key) key numbers kept h.0.row s k h.0.enters some there) b.0 b.1
 turn_keeps port path (Leave Unkept key update) (Some LeftIt) after k s lone b h = same_rows port after k s (ap (λ (p : LonePortView). p.rows) h) b.0
 turn_keeps port path (Leave (Slot slot) key update) (Some LeftIt) after k s lone b h =
     row_keeps port key (left (row_of port.rows key) slot update) after.rows k s lone (ap (λ (p : LonePortView). p.rows) h)
-    (λ some there. left_keeps (row_of port.rows key) slot update s k there) b.0 b.1
+    (λ some there. left_stays (row_of port.rows key) slot update s k there) b.0 b.1
 turn_keeps port path (Post note) (Some PostedIt) after k s lone b h = same_rows port after k s (ap (λ (p : LonePortView). p.rows) h) b.0
 turn_keeps port path q a after k s lone b h = absurd h
 

@@ -6,6 +6,8 @@ use Rattle.std.proofs.lemmas.List.Sums.{sum_by-cons}
 use Rattle.std.proofs.lemmas.List.Folds.{sum_by-replicate}
 use Rattle.std.proofs.lemmas.Bool.{cases_lt}
 use Rattle.std.proofs.lemmas.List.{get_or_past}
+use Rattle.std.proofs.lemmas.Option.{same_Some}
+use Rattle.list_laws.proofs.Standing.{none_in_none}
 use Rattle.board_core.specs.Board.{Board}
 use Rattle.board_core.specs.Kept.{IsKept}
 use Rattle.shogi_rules.specs.Tsume.{IsProblem}
@@ -22,7 +24,6 @@ use Rattle.visit_log.specs.Laws.{HasCause}
 use Rattle.lone_port.specs.Lone.{held_in, held_at, pins_of, worker_at_first, alone_at_first, LonePortView}
 use Rattle.lone_port.specs.World.{World, world_at_first, workers_from}
 use Rattle.world_play.specs.Fair.{IsFair, IsMember, IsToldOf}
-use Rattle.world_play.proofs.Suited.{some_is}
 
 -- 1. THE WORKERS.
 
@@ -52,21 +53,18 @@ worker_there : (problem : Board) (first n place : ℕ) (w : WorkerView) → slic
 worker_there problem first zero place w e = absurd (cc)
 worker_there problem first (suc n) zero w e =
     let k : first + 0 ≡ first = omega arith in
-    ap (worker_at_first problem) k ∙ some_is (worker_at_first problem first) w e
+    ap (worker_at_first problem) k ∙ same_Some (worker_at_first problem first) w e
 worker_there problem first (suc n) (suc place) w e =
     let k : first + suc place ≡ (first + 1) + place = omega arith in
     ap (worker_at_first problem) k ∙ worker_there problem (first + 1) n place w e
 
 -- 2. WHAT THEY WERE TOLD: NOTHING.
 
-not_in_none : {X : Type 0} (x : X) → Contains [] x → ⊥
-not_in_none {X} x c = let low = c.1 in omega (arith, low)
-
 no_cause : (desk : DeskView) (task : Task) (end : WorkEnd) → HasCause task end [] → IsToldOf desk end
-no_cause desk task Posted (inl c) = absurd (not_in_none _ c.1)
-no_cause desk task Posted (inr c) = absurd (not_in_none _ c)
-no_cause desk task Spent c = absurd (not_in_none _ c)
-no_cause desk task NoRoom c = absurd (not_in_none _ c)
+no_cause desk task Posted (inl c) = absurd (none_in_none _ c.1)
+no_cause desk task Posted (inr c) = absurd (none_in_none _ c)
+no_cause desk task Spent c = absurd (none_in_none _ c)
+no_cause desk task NoRoom c = absurd (none_in_none _ c)
 no_cause desk task TooHigh c = tt
 no_cause desk task NoMemory c = tt
 no_cause desk task Stopped c = tt

@@ -3,13 +3,12 @@ use Rattle.std.proofs.Common.{◌≡◌, ◌≢◌, inl, inr, ℕ, ◌+◌, ◌<
 use Rattle.std.specs.Prelude.{Some, slice_get, if◌then◌else◌}
 use Rattle.std.proofs.lemmas.Bool.{cases_eq, eq-eqb}
 use Rattle.std.proofs.lemmas.Bool.Decides.{nat_tests}
-use Rattle.std.proofs.lemmas.Option.{slice_get_within, slice_get-get_or}
+use Rattle.std.proofs.lemmas.Option.{slice_get_within, slice_get-get_or, same_Some}
 use Rattle.visit_log.specs.Visit.{Exchange}
 use Rattle.visit_log.specs.Frame.{Task}
 use Rattle.visit_log.specs.Machine.{State}
 use Rattle.visit_log.specs.Run.{WorkerView, Leads, IsReached, now_at}
 use Rattle.world_play.specs.Logs.{told_to, GoesOnBy, GoOnBy}
-use Rattle.world_play.proofs.Suited.{some_is}
 use Rattle.world_play.proofs.Stepped.{get_set, get_set_other}
 
 -- 1. A WORLD'S LOG, BY ITS WORKERS.
@@ -60,7 +59,7 @@ pub gone_none : (ws : List WorkerView) → GoOnBy ws [] ws
 gone_none ws = record {
   as_many = refl;
   each = λ place before after e f. (
-      let z : before ≡ after = some_is before after (sym e ∙ f) in
+      let z : before ≡ after = same_Some before after (sym e ∙ f) in
       subst (λ (v : WorkerView). GoesOnBy before v []) z (goes_same before [] refl));
 }
 
@@ -91,12 +90,12 @@ gone_at ws place worker later log there own others = record {
   each = λ n before after e f.
       elim (cases_eq n place) as (λ _. GoesOnBy before after (told_to (n + 1) log)) [
         | inl same ↦ (
-            let b : worker ≡ before = some_is worker before (sym there ∙ (ap (λ (k : ℕ). slice_get ws k) (sym same) ∙ e)) in
-            let a : later ≡ after = some_is later after (sym (get_set ws place later worker there) ∙ (ap (λ (k : ℕ). slice_get (set ws place later) k) (sym same) ∙ f)) in
+            let b : worker ≡ before = same_Some worker before (sym there ∙ (ap (λ (k : ℕ). slice_get ws k) (sym same) ∙ e)) in
+            let a : later ≡ after = same_Some later after (sym (get_set ws place later worker there) ∙ (ap (λ (k : ℕ). slice_get (set ws place later) k) (sym same) ∙ f)) in
             subst (λ (k : ℕ). GoesOnBy before after (told_to (k + 1) log)) (sym same)
             (subst (λ (v : WorkerView). GoesOnBy v after (told_to (place + 1) log)) b (subst (λ (v : WorkerView). GoesOnBy worker v (told_to (place + 1) log)) a own)))
         | inr ne ↦ (
-            let z : before ≡ after = some_is before after (sym e ∙ (sym (get_set_other ws place n later ne) ∙ f)) in
+            let z : before ≡ after = same_Some before after (sym e ∙ (sym (get_set_other ws place n later ne) ∙ f)) in
             subst (λ (v : WorkerView). GoesOnBy before v (told_to (n + 1) log)) z (goes_same before (told_to (n + 1) log) (others n ne)))
       ];
 }

@@ -2,7 +2,7 @@
 use Rattle.std.proofs.Common.{◌≡◌, inl, inr, ℕ, ◌+◌, cond, List, [], ◌∷◌, ◌++◌, length, set, get_or, arith, refl, sym, ap, ◌∙◌, subst, Bool, true, false, length-set, append-nil, append_assoc}
 use Rattle.std.specs.Prelude.{Option, Some, None, slice_get, slice_index_or, IfSome, IfNone, if◌then◌else◌}
 use Rattle.std.proofs.lemmas.List.Sums.{sum_by-append}
-use Rattle.std.proofs.lemmas.Option.{slice_get_within, slice_get_read}
+use Rattle.std.proofs.lemmas.Option.{slice_get_within, slice_get_read, same_Some}
 use Rattle.visit_log.specs.declared.words.WorkEnd.{WorkEnd}
 use Rattle.visit_log.specs.Visit.{Exchange}
 use Rattle.visit_log.specs.Frame.{Task}
@@ -12,6 +12,7 @@ use Rattle.visit_log.specs.Sound.{IsTask}
 use Rattle.visit_log.specs.Laws.{IsLeftAlone, HasCause}
 use Rattle.worker_core.specs.Port.{KeepsOthers, Goes}
 use Rattle.worker_core.specs.Machine.{is_poll}
+use Rattle.worker_core.proofs.Offered.{goes_asks}
 use Rattle.lone_port.specs.Lone.{LonePortView, book_of, opened}
 use Rattle.lone_port.specs.World.{World, Steps, StepsAt, IsAtWork, IsIdle, Happens, Plays}
 use Rattle.lone_port.specs.declared.event.Event.{Event}
@@ -19,7 +20,6 @@ use Rattle.lone_port.specs.declared.event.Event.TheVariants.{Step, Raise, Starve
 use Rattle.world_play.specs.Fair.{IsFair, IsToldOf}
 use Rattle.world_play.specs.Logs.{GoOnBy, is_refused, refused_looks}
 use Rattle.world_play.proofs.Desks.{desk_same, keeps}
-use Rattle.world_play.proofs.Suited.{some_is}
 use Rattle.world_play.proofs.Stepped.{fair_on, member_on}
 use Rattle.world_play.proofs.Gone.{goes_on_by, gone_none, gone_one, gone_quietly, gone_then}
 
@@ -29,10 +29,6 @@ Comes world event refused after =
     (log : List (ℕ × Exchange)) × Happens world event log after × GoOnBy world.workers log after.workers × (refused_looks log ≡ refused)
 
 -- 1. A STEP.
-
-pub goes_asks : (task : Task) (s t : State) (x : Exchange) → Goes task s x t → x.0 ≡ asks s
-goes_asks task s t (q, None) h = h.0
-goes_asks task s t (q, Some a) h = h.0
 
 -- All that is known of one request.
 pub record IsRequest (world after : World) (number place : ℕ) (worker later : WorkerView) (x : Exchange) : Type 0 where
@@ -207,7 +203,7 @@ at_work_by world number place worker read at is =
     record {
       numbered = at.numbered;
       there = e;
-      goes_on = ap (λ (w : WorkerView). end_of w.state) (sym (some_is worker read (sym at.there ∙ e))) ∙ at.goes_on;
+      goes_on = ap (λ (w : WorkerView). end_of w.state) (sym (same_Some worker read (sym at.there ∙ e))) ∙ at.goes_on;
     }
 
 -- A request of the worker that was read.
@@ -220,7 +216,7 @@ pub requested : (world after : World) (ready : LonePortView) (number place : ℕ
 requested world after ready number place found first worker later stops polls result fair at one two polled stopped opens workers raised none some keep =
     let a1 = at_work_by world number place found first at one in
     let a2 = at_work_by world number place found worker at two in
-    let same : first ≡ worker = some_is first worker (sym a1.there ∙ a2.there) in
+    let same : first ≡ worker = same_Some first worker (sym a1.there ∙ a2.there) in
     let asked : polls ≡ is_poll (asks worker.state) = polled ∙ ap (λ (w : WorkerView). is_poll (asks w.state)) same in
     let r = one_answered result stops ready worker after.port later a2.goes_on none some in (
       r.0,

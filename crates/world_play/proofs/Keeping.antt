@@ -17,6 +17,7 @@ use Rattle.visit_log.specs.Sound.{IsSound, IsSoundRequest}
 use Rattle.visit_log.specs.Counts.{own_slots, own_size, enters, leaves, enters_some, leaves_some}
 use Rattle.visit_log.specs.Laws.{WorkersAreSound, AsksSound, SlotsMove, SizesMove, LeavesOwn, StarvingMovesNothing, UnitsMove}
 use Rattle.worker_core.specs.Port.{KeepsOthers, Goes, units_by, rooms_by}
+use Rattle.worker_core.proofs.Offered.{goes_asks, events_snoc}
 use Rattle.lone_port.specs.Lone.{LonePortView, book_of, opened}
 use Rattle.lone_port.specs.Keeps.{IsKeptPort, MayAsk, IsCountedBy, TurnsAreCounted}
 use Rattle.lone_port.specs.World.{World, Steps, StepsAt, IsAtWork, Happens, Plays}
@@ -27,7 +28,7 @@ use Rattle.world_play.specs.Promises.{IsKeptWorld, EventsKeepWorlds, PlaysKeepEn
 use Rattle.world_play.proofs.Desks.{keeps}
 use Rattle.world_play.proofs.Suited.{one_within}
 use Rattle.world_play.proofs.Stepped.{fair_on, member_on}
-use Rattle.world_play.proofs.Happened.{goes_asks, length_if, raise_fair, starved, LeadsStarved, starve_fair}
+use Rattle.world_play.proofs.Happened.{length_if, raise_fair, starved, LeadsStarved, starve_fair}
 use Rattle.world_play.proofs.Promised.{holds}
 use Rattle.world_play.proofs.Entered.{opened_lone, steps_keep}
 
@@ -48,16 +49,12 @@ runs_push : (task : Task) (hs : List Happening) (h : Happening) (s u t : State) 
 runs_push task [] h s u t runs k = (t, subst (λ (z : State). Befalls task z h t) (sym runs) k, refl)
 runs_push task (g ∷ hs) h s u t (v, first, rest) k = (v, first, runs_push task hs h v u t rest k)
 
-events_push : (hs : List Happening) (h : Happening) → events (hs ++ h ∷ []) ≡ events hs ++ event h
-events_push [] h = append-nil (event h)
-events_push (g ∷ hs) h = ap (λ (z : List Exchange). event g ++ z) (events_push hs h) ∙ sym (append_assoc (event g) (events hs) (event h))
-
 -- One thing more happens to it.
 leads_push : (task : Task) (h : Happening) (s t : State) → Befalls task s h t → (log : List Exchange) → Leads task log s → Leads task (log ++ event h) t
 leads_push task h s t befalls log leads = record {
   happenings = leads.happenings ++ h ∷ [];
   runs = runs_push task leads.happenings h _ s t leads.runs befalls;
-  logged = events_push leads.happenings h ∙ ap (λ (z : List Exchange). z ++ event h) leads.logged;
+  logged = events_snoc leads.happenings h ∙ ap (λ (z : List Exchange). z ++ event h) leads.logged;
 }
 
 -- Its request is answered, or refused memory.

@@ -7,9 +7,10 @@ use Rattle.std.specs.declared.cmp.Ordering.TheVariants.{Less, Equal, Greater}
 use Rattle.std.proofs.lemmas.Map.Lookups.{CmpEqualImpliesEq, exact_bytes}
 use Rattle.std.proofs.lemmas.List.Sums.{sum_by-cons}
 use Rattle.std.proofs.lemmas.Bool.{cases_lt}
-use Rattle.std.proofs.lemmas.Option.{slice_get_within, slice_get_read}
+use Rattle.std.proofs.lemmas.Option.{slice_get_within, slice_get_read, same_Some}
+use Rattle.value_laws.proofs.Keys.{key_exact, equal_of}
 use Rattle.board_core.specs.declared.keys.Key.{Key}
-use Rattle.path_tags.specs.Tag.{key_cmp}
+use Rattle.board_core.specs.KeyOrder.{key_cmp}
 use Rattle.table_shard.specs.Entry.{EntryView}
 use Rattle.table_shard.specs.Shard.{row_of}
 use Rattle.visit_log.specs.declared.parts.Stage.{Stage}
@@ -24,27 +25,11 @@ use Rattle.visit_log.specs.Counts.{own_slots, own_size}
 use Rattle.visit_log.specs.Laws.{WorkersAreSound, WorkersAreCounted, LogsAreWhole, EndsHaveCauses}
 use Rattle.lone_port.specs.Lone.{held_at, pins_of}
 use Rattle.lone_port.specs.World.{World}
+use Rattle.lone_port.proofs.Offered.{held_there}
 use Rattle.world_play.specs.Fair.{IsFair, IsToldOf}
-use Rattle.world_play.proofs.Suited.{some_is}
 use Rattle.world_play.specs.Promises.{HoldsWhatIsEntered, AreSoundWorkers, AreToldOf, HasEnded, AllHaveEnded, IsOver, IsLeft}
 
 -- 1. WHAT IS ENTERED IS HELD.
-
-key_exact : CmpEqualImpliesEq key_cmp
-key_exact a b h = ap (λ (words : List ℕ). record { 0 = words }) (exact_bytes a.0 b.0 h)
-
-equal_of : (o : Ordering) → is_eq o ≡ true → o ≡ Equal
-equal_of Less h = cc
-equal_of Equal h = refl
-equal_of Greater h = cc
-
-pub held_there : (o : Option EntryView) (key : Key) (count : ℕ) → 0 < held_at o key count → IsSomeAnd o (λ e. e.key ≡ key) × (0 < count)
-held_there None key count some = absurd (omega (arith, some))
-held_there (Some e) key count some = by_test (is_eq (key_cmp e.key key)) refl some
-  where
-    by_test : (b : Bool) → is_eq (key_cmp e.key key) ≡ b → 0 < (if b then count else 0) → (e.key ≡ key) × (0 < count)
-    by_test true h more = (key_exact e.key key (equal_of (key_cmp e.key key) h), more)
-    by_test false h more = absurd (omega (arith, more))
 
 pub holds : (world : World) → IsFair world → HoldsWhatIsEntered world
 holds world fair key slot some =
@@ -131,7 +116,7 @@ one_more_ended ws i w end result low is ends some before place within v there =
       | inl less ↦ before place less v there
       | inr more ↦ (
           let same : place ≡ i = omega (arith, within, more) in
-          let z : v ≡ w = some_is v w (sym there ∙ (ap (λ (n : ℕ). slice_get ws n) same ∙ slice_get_read ws (length ws) i w refl low is)) in
+          let z : v ≡ w = same_Some v w (sym there ∙ (ap (λ (n : ℕ). slice_get ws n) same ∙ slice_get_read ws (length ws) i w refl low is)) in
           record { end = end; ended = ap (λ (u : WorkerView). end_of u.state) z ∙ (sym ends ∙ some) })
     ]
 

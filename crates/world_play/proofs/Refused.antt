@@ -2,7 +2,7 @@
 use Rattle.std.proofs.Common.{◌≡◌, ℕ, Bool, true, false, cond, List, [], ◌∷◌, set, get_or, arith, refl, sym, ap, ap₂, ◌∙◌}
 use Rattle.std.specs.Prelude.{Some, None, slice_get, slice_index_or, ◌&&◌, if◌then◌else◌}
 use Rattle.std.proofs.lemmas.List.{get_or-set_same}
-use Rattle.std.proofs.lemmas.Option.{slice_get_within}
+use Rattle.std.proofs.lemmas.Option.{slice_get_within, same_Some}
 use Rattle.std.proofs.lemmas.List.Sums.{sum_by-cons}
 use Rattle.board_core.specs.declared.keys.Key.{Key}
 use Rattle.notes.specs.declared.words.Seen.{Seen}
@@ -21,7 +21,6 @@ use Rattle.worker_core.specs.Machine.{looks_at, winds_at}
 use Rattle.lone_port.specs.Lone.{LonePortView, Turns, opened}
 use Rattle.lone_port.specs.World.{World, Steps}
 use Rattle.world_play.specs.Logs.{is_refused, refused_looks}
-use Rattle.world_play.proofs.Suited.{some_is}
 use Rattle.world_play.proofs.Happened.{IsRequest, at_work_by}
 
 -- 1. WHERE A WORKER STANDS BEHIND A LOOK.
@@ -90,7 +89,7 @@ pub step_refused : (world after : World) (number place : ℕ) (worker later : Wo
     → refused_looks ((number, x) ∷ []) ≡ refused
 step_refused world after number place worker later x first last looks winds refused r one two looked_is winds_is counts =
     let a1 = at_work_by world number place worker first r.at_work one in
-    let same : worker ≡ first = some_is worker first (sym r.at_work.there ∙ a1.there) in
+    let same : worker ≡ first = same_Some worker first (sym r.at_work.there ∙ a1.there) in
     let behind : last ≡ later = read_set world.workers place worker later last r.at_work.there two in
     let l : looks_at worker.state.stage ≡ looks = ap (λ (w : WorkerView). looks_at w.state.stage) same ∙ sym looked_is in
     let w : winds_at later.state.stage ≡ winds = ap (λ (v : WorkerView). winds_at v.state.stage) (sym behind) ∙ sym winds_is in

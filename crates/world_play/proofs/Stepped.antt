@@ -3,7 +3,7 @@ use Rattle.std.proofs.Common.{◌≡◌, ◌≢◌, inl, inr, ℕ, zero, suc, �
 use Rattle.std.specs.Prelude.{Some, slice_get}
 use Rattle.std.proofs.lemmas.Bool.{cases_eq}
 use Rattle.std.proofs.lemmas.List.Sums.{sum_by-set}
-use Rattle.std.proofs.lemmas.Option.{slice_get_within, get_or_from_slice_get}
+use Rattle.std.proofs.lemmas.Option.{slice_get_within, get_or_from_slice_get, same_Some}
 use Rattle.unit_desk.specs.Desk.{DeskView}
 use Rattle.visit_log.specs.Visit.{Exchange}
 use Rattle.visit_log.specs.Frame.{Task, task_for}
@@ -18,7 +18,6 @@ use Rattle.lone_port.specs.Lone.{LonePortView, book_of, opened}
 use Rattle.lone_port.specs.World.{World, Steps}
 use Rattle.world_play.specs.Fair.{IsFair, IsMember, IsToldOf}
 use Rattle.world_play.proofs.Desks.{KeepsDesk, keeps, told_still, told_on}
-use Rattle.world_play.proofs.Suited.{some_is}
 
 -- 1. ONE OF A LIST IN ANOTHER'S PLACE.
 
@@ -40,7 +39,7 @@ pub each_set : {X : Type 0} (P : ℕ → X → Type 0) (xs : List X) (i : ℕ) (
 each_set {X} P xs i x old there here others j y e =
     elim (cases_eq j i) as (λ _. P j y) [
       | inl same ↦ (let g : slice_get (set xs i x) i ≡ Some y = ap (λ (n : ℕ). slice_get (set xs i x) n) (sym same) ∙ e in
-          let z : x ≡ y = some_is x y (sym (get_set xs i x old there) ∙ g) in
+          let z : x ≡ y = same_Some x y (sym (get_set xs i x old there) ∙ g) in
           subst (λ (n : ℕ). P n y) (sym same) (subst (λ (v : X). P i v) z here))
       | inr ne ↦ others j y ne (sym (get_set_other xs i j x ne) ∙ e)
     ]

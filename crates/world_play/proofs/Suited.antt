@@ -2,6 +2,7 @@
 use Rattle.std.proofs.Common.{◌≡◌, inl, ℕ, zero, suc, ◌+◌, ◌≤◌, List, [], ◌∷◌, length, arith, refl, ap, false, sum_by}
 use Rattle.std.specs.Prelude.{Option, Some, None, slice_get}
 use Rattle.std.proofs.lemmas.List.Sums.{sum_by-cons}
+use Rattle.std.proofs.lemmas.Option.{same_Some}
 use Rattle.notes.specs.declared.words.Kept.{Kept}
 use Rattle.notes.specs.declared.words.Kept.TheVariants.{Slot, Unkept}
 use Rattle.unit_desk.specs.Desk.{IsDesk}
@@ -12,6 +13,7 @@ use Rattle.visit_log.specs.Run.{WorkerView}
 use Rattle.visit_log.specs.Sound.{IsSoundAt}
 use Rattle.visit_log.specs.Counts.{own_slots, own_size, slots_in}
 use Rattle.visit_log.specs.Laws.{WorkersAreSound, WorkersAreCounted}
+use Rattle.visit_log.proofs.Offered.{size_length}
 use Rattle.worker_core.specs.Port.{Suits, entering}
 use Rattle.lone_port.specs.Lone.{book_of, opened}
 use Rattle.lone_port.specs.World.{World}
@@ -19,19 +21,12 @@ use Rattle.world_play.specs.Fair.{IsFair}
 
 -- 1. SUMS.
 
-pub some_is : {X : Type 0} (x y : X) → Some x ≡ Some y → x ≡ y
-some_is {X} x y e = ap (λ (o : Option X). or_x o) e
-  where
-    or_x : Option X → X
-    or_x None = x
-    or_x (Some z) = z
-
 -- What one has is no more than what all have.
 pub one_within : (f : WorkerView → ℕ) (ws : List WorkerView) (i : ℕ) (w : WorkerView) → slice_get ws i ≡ Some w → f w ≤ sum_by f ws
 one_within f [] i w e = absurd (cc)
 one_within f (x ∷ xs) zero w e =
     let s = sum_by-cons f x xs in
-    let same : f x ≡ f w = ap f (some_is x w e) in
+    let same : f x ≡ f w = ap f (same_Some x w e) in
     omega (arith, s, same)
 one_within f (x ∷ xs) (suc i) w e =
     let s = sum_by-cons f x xs in
@@ -55,8 +50,8 @@ all_with_one f g [] more i w low e h = absurd (cc)
 all_with_one f g (x ∷ xs) more zero w low e h =
     let one = sum_by-cons f x xs in
     let two = sum_by-cons g x xs in
-    let fx : f x ≡ f w = ap f (some_is x w e) in
-    let gx : g x ≡ g w = ap g (some_is x w e) in
+    let fx : f x ≡ f w = ap f (same_Some x w e) in
+    let gx : g x ≡ g w = ap g (same_Some x w e) in
     let r = all_within f g xs (λ j v k. low (suc j) v k) in
     omega (arith, one, two, fx, gx, r, h)
 all_with_one f g (x ∷ xs) more (suc i) w low e h =
@@ -73,13 +68,6 @@ kept_few None = omega arith
 kept_few (Some Unkept) = omega arith
 kept_few (Some (Slot n)) = omega arith
 
-size_few : (fs : List FrameView) → own_size fs ≤ length fs
-size_few [] = omega arith
-size_few (f ∷ fs) =
-    let one = kept_few f.kept in
-    let r = size_few fs in
-    omega (arith, one, r)
-
 -- It has no more slots than units, with the one that it is about to enter.
 pub enters_within : (task : Task) (stage : Stage) (fs : List FrameView) (visits : ℕ) → IsSoundAt task stage fs → own_size fs ≤ length fs → length fs ≤ visits
     → own_size fs + entering stage ≤ visits
@@ -88,7 +76,7 @@ enters_within task (Drawing e) fs v s a b = omega (arith, a, b)
 enters_within task Entering [] v s a b = absurd s
 enters_within task Entering (f ∷ fs) v s a b =
     let none : slots_in f.kept ≡ 0 = ap (λ (g : FrameView). slots_in g.kept) s.1 in
-    let r = size_few fs in
+    let r = size_length fs in
     omega (arith, none, r, b)
 enters_within task (Looking p) fs v s a b = omega (arith, a, b)
 enters_within task Claiming fs v s a b = omega (arith, a, b)

@@ -2,7 +2,7 @@
 use Rattle.std.specs.Prelude.{◌≡◌, ◌<◌, ◌+◌, ℕ, zero, suc, false, List, [], ◌∷◌, Option, Some, None, length, slice_get, sum, sum_by, if◌then◌else◌}
 use Rattle.std.specs.Ordering.{is_eq}
 use Rattle.board_core.specs.declared.keys.Key.{Key}
-use Rattle.path_tags.specs.Tag.{key_cmp}
+use Rattle.board_core.specs.KeyOrder.{key_cmp}
 use Rattle.notes.specs.declared.words.Kept.{Kept}
 use Rattle.notes.specs.declared.words.Kept.TheVariants.{Slot}
 use Rattle.unit_desk.specs.Desk.{DeskView, HasPosted}

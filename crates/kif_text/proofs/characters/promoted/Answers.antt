@@ -1,5 +1,5 @@
 use Rattle.std.proofs.Common.{rules}
-use Rattle.kif_text.proofs.Pieces.{promoted_is}
+use Rattle.sfen_text.proofs.Offered.{promoted_is}
 use Rattle.kif_text.proofs.characters.promoted.Goals as goal
 
 pub returns : goal.returns

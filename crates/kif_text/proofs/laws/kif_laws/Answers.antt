@@ -2,4 +2,4 @@ use Rattle.kif_text.proofs.Outcome.{one_outcome}
 use Rattle.kif_text.proofs.laws.kif_laws.Goals as goal
 
 pub returns : goal.returns
-returns c = record { outcomes = one_outcome c.value_laws.ensures.in_hand c.value_laws.ensures.squares c.value_laws.ensures.places }
+returns c = record { outcomes = one_outcome c.build_laws.ensures.once }

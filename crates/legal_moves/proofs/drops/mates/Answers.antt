@@ -1,12 +1,8 @@
-use Rattle.std.proofs.Common.{◌≡◌, Option, Some, None, IsSome, arith}
+use Rattle.std.proofs.Common.{arith}
 use Rattle.std.proofs.lemmas.Bool.{both_ways}
-use Rattle.bit_boards.specs.declared.piece.Piece.{Piece}
+use Rattle.value_laws.proofs.Cells.{full_there}
 use Rattle.board_core.specs.Board.{piece_at}
 use Rattle.legal_moves.proofs.drops.mates.Goals as goal
-
-full_there : (cell : Option Piece) → cell ≡ None → ¬ IsSome cell
-full_there None e h = cc
-full_there (Some piece) e h = cc
 
 pub drop_piece-next-requires-clause-empty : goal.drop_piece-next-requires-clause-empty
 drop_piece-next-requires-clause-empty c = full_there (piece_at c.args.position.now.cells c.args.to.number) c.requires.empty

@@ -1,8 +1,8 @@
 use Rattle.std.proofs.Common.{◌≡◌, ◌/◌, ℕ, arith, sym, subst, ◌∙◌, inl, inr, eq-eqb}
 use Rattle.std.proofs.lemmas.Bool.{cases_eq, ltb-true, lt-ltb, eqb-true, and_parts, and_from, or_left, or_right, or_cases}
+use Rattle.value_laws.proofs.Truth.{gone_before}
 use Rattle.bit_boards.specs.Mask.{holds}
 use Rattle.bit_boards.specs.Square.{file_of}
-use Rattle.legal_moves.proofs.Masked.{gone_before}
 use Rattle.legal_moves.proofs.drops.pawn_files.Goals as goal
 
 on_file : (s t : ℕ) → file_of s ≡ file_of t → t / 9 ≡ s / 9

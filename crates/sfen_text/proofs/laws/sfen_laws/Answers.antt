@@ -16,4 +16,4 @@ pub returns-clause-spelled : goal.returns-clause-spelled
 returns-clause-spelled c = (one_spelled c.value_laws.ensures.in_hand)
 
 pub returns-clause-outcomes : goal.returns-clause-outcomes
-returns-clause-outcomes c = one_outcome c.value_laws.ensures.in_hand c.value_laws.ensures.squares c.value_laws.ensures.places
+returns-clause-outcomes c = one_outcome c.value_laws.ensures.in_hand c.build_laws.ensures.once

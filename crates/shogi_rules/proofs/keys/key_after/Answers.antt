@@ -1,5 +1,6 @@
 use Rattle.shogi_rules.specs.declared.illegal.Illegal.TheVariants.{NotThere, OwnPiece, Occupied, NotInHand}
 use Rattle.shogi_rules.proofs.Decided.{own_decided}
+use Rattle.shogi_rules.proofs.KeptAfter.{kept_after}
 use Rattle.shogi_rules.proofs.Turns.{legal_board_of, legal_drop_of}
 use Rattle.shogi_rules.proofs.keys.key_after.Goals as goal
 
@@ -14,3 +15,9 @@ key_after_drop-requires-clause-empty c = legal_drop_of c.args.position.now c.arg
 
 pub key_after_drop-requires-clause-in_hand : goal.key_after_drop-requires-clause-in_hand
 key_after_drop-requires-clause-in_hand c = legal_drop_of c.args.position.now c.args.by c.in-Drop.kind c.in-Drop.to c.in-Drop.is c.requires.legal NotInHand
+
+pub returns-in-Board-clause-kept : goal.returns-in-Board-clause-kept
+returns-in-Board-clause-kept c = kept_after c.args.position.now c.args.by c.laws.ensures c.requires.legal
+
+pub returns-in-Drop-clause-kept : goal.returns-in-Drop-clause-kept
+returns-in-Drop-clause-kept c = kept_after c.args.position.now c.args.by c.laws.ensures c.requires.legal

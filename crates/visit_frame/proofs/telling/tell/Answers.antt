@@ -6,8 +6,8 @@ use Rattle.board_core.specs.Key.{key_of}
 use Rattle.shogi_rules.specs.Rules.{after}
 use Rattle.notes.specs.Derivation.{position_of}
 use Rattle.notes.specs.declared.words.Seen.{Seen}
+use Rattle.notes.proofs.Offered.{valid_kept}
 use Rattle.visit_log.specs.Round.{IsStart, MayShow, IsFactOn, Tells, told}
-use Rattle.visit_frame.proofs.Settling.{valid_kept}
 use Rattle.visit_frame.proofs.telling.tell.Goals as goal
 
 pub returns-in-New : goal.returns-in-New

@@ -1,7 +1,5 @@
-use Rattle.std.proofs.Common.{◌≡◌, ◌≢◌, ◌<◌, ℕ, rules, refl, sym, subst, ◌∙◌}
-use Rattle.std.proofs.lemmas.Bool.{and_parts, and_from, both_ways, not-true, not_from_false}
-use Rattle.std.specs.Prelude.{true, false}
-use Rattle.std.proofs.Common.{Bool}
+use Rattle.std.proofs.Common.{◌≡◌, ◌≢◌, ◌<◌, ℕ, rules, sym, subst, ◌∙◌}
+use Rattle.std.proofs.lemmas.Bool.{and_parts, and_from, both_ways, not-true, not_from_false, false_from_ne_true}
 use Rattle.bit_boards.specs.declared.piece.Side.{Side}
 use Rattle.bit_boards.specs.Mask.{holds}
 use Rattle.bit_boards.specs.declared.piece.Kind.{Kind}
@@ -11,10 +9,6 @@ use Rattle.shogi_rules.specs.Rules.{IsPawnMate, HasPawnOnFile}
 use Rattle.shogi_rules.specs.Laws.{CanDrop}
 use Rattle.legal_moves.specs.Droppable.{IsFreeFor}
 use Rattle.legal_moves.proofs.guard.Guard.drops.Goals as goal
-
-false_by : (p : Bool) → ¬ (p ≡ true) → p ≡ false
-false_by true h = absurd (h refl)
-false_by false h = refl
 
 can : (b : Board) (wanted : Kind) (to : ℕ) → IsFreeFor b wanted to → 0 < hand_count (hand_of b b.side) wanted
     → ¬ ((wanted ≡ Pawn) × HasPawnOnFile b.cells b.side to) → ¬ IsPawnMate b wanted to → CanDrop b wanted to
@@ -68,7 +62,7 @@ returns-then-eq c = λ to.
           let may = (c.legal_laws.ensures.drops b wanted to).0 known.1 in
           let low = c.mask_laws.ensures.on_board c.args.wanted to known.0 in
           let free = (c.free-free.ensures to).1 (known.0, free_of b wanted to low may) in
-          let alone = c.minus-alone.ensures to ∙ and_from _ _ free (not_from_false _ (false_by (holds c.pawn_files.result to)
+          let alone = c.minus-alone.ensures to ∙ and_from _ _ free (not_from_false _ (false_from_ne_true (holds c.pawn_files.result to)
           (λ on. may.pawn (pawn, subst (λ (s : Side). HasPawnOnFile b.cells s to) c.side.ensures ((c.pawn_files.ensures to).0 on).1)))) in
           (c.without_mate.ensures to).1 (alone, (λ mate. may.no_mate (subst (λ (k : Kind). IsPawnMate b k to) (sym pawn) mate)))),
     )

@@ -1,15 +1,12 @@
-use Rattle.std.proofs.Common.{◌≡◌, ◌<◌, ◌&&◌, Option, Some, None, false, is_some, ap, sym, ◌∙◌, refl}
+use Rattle.std.proofs.Common.{◌≡◌, ◌<◌, ◌&&◌, Some, is_some, ap, sym, ◌∙◌}
 use Rattle.std.proofs.lemmas.Bool.{lt-ltb, and_parts, and_from, not-true, not_from_false}
+use Rattle.value_laws.proofs.Cells.{empty_of}
 use Rattle.bit_boards.specs.declared.piece.Piece.{Piece}
 use Rattle.bit_boards.specs.Mask.{holds}
 use Rattle.bit_boards.specs.Piece.{plain_piece, is_dead}
 use Rattle.board_core.specs.Board.{piece_at}
 use Rattle.legal_moves.proofs.Dropping.{drop_safe, drop_stops}
 use Rattle.legal_moves.proofs.guard.Guard.free.Goals as goal
-
-none_there : (cell : Option Piece) → is_some cell ≡ false → cell ≡ None
-none_there None h = refl
-none_there (Some piece) h = absurd (cc)
 
 pub returns : goal.returns
 returns c = λ to.
@@ -24,7 +21,7 @@ returns c = λ to.
           let two = and_parts _ _ (sym (c.minus-2.ensures to) ∙ one.0) in
           let three = and_parts _ _ (sym (c.minus.ensures to) ∙ two.0) in
           let low = c.mask_laws.ensures.on_board c.args.wanted to three.0 in
-          let empty = none_there cell (sym (c.all_occupied.ensures to) ∙ not-true _ three.1) in (
+          let empty = empty_of cell (sym (c.all_occupied.ensures to) ∙ not-true _ three.1) in (
             three.0,
             record {
               on_board = low;

@@ -1,7 +1,7 @@
 use Rattle.std.proofs.Common.{◌≡◌, ◌++◌, [], ◌∷◌, List, sym, subst, ◌∙◌, length}
 use Rattle.std.specs.BTreeMap.{get}
 use Rattle.board_core.specs.declared.keys.Key.{Key}
-use Rattle.path_tags.specs.Tag.{key_cmp}
+use Rattle.board_core.specs.KeyOrder.{key_cmp}
 use Rattle.path_tags.specs.Path.{IsIndex}
 use Rattle.path_tags.proofs.Places.{popped_index, still_index, told_place, untold_place}
 use Rattle.path_tags.proofs.path.Path.pop.Goals as goal

@@ -3,7 +3,7 @@ use Rattle.std.specs.Option.{unwrap_or}
 use Rattle.std.specs.BTreeMap.{BTreeMap, get}
 use Rattle.std.specs.BTreeMap.Entry.{map_with_value}
 use Rattle.board_core.specs.declared.keys.Key.{Key}
-use Rattle.path_tags.specs.Tag.{key_cmp}
+use Rattle.board_core.specs.KeyOrder.{key_cmp}
 use Rattle.path_tags.specs.Path.{IsIndex}
 use Rattle.path_tags.proofs.Places.{pushed_index}
 use Rattle.path_tags.proofs.path.Path.push.Goals as goal

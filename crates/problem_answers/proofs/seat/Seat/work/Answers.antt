@@ -1,8 +1,9 @@
 use Rattle.tsume_words.specs.Meaning.{collection_in}
 use Rattle.search_limits.specs.Settings.{settings_in}
 use Rattle.problem_answers.specs.Inside.{IsReportAt}
-use Rattle.problem_answers.proofs.Places.{told_there, all_pushed}
+use Rattle.problem_answers.proofs.Places.{told_there}
 use Rattle.problem_answers.proofs.seat.Seat.work.Goals as goal
+use Rattle.list_laws.proofs.Standing.{all_pushed}
 
 pub returns-then-is_err : goal.returns-then-is_err
 returns-then-is_err c =

@@ -1,4 +1,4 @@
-use Rattle.std.proofs.Common.{◌≡◌, ◌<◌, List, length, set, sym, subst, ap, ◌∙◌}
+use Rattle.std.proofs.Common.{List, set, sym, subst, ap, ◌∙◌}
 use Rattle.table_shard.specs.Entry.{EntryView}
 use Rattle.table_shard.specs.Marks.{marks_of}
 use Rattle.table_shard.specs.Row.{IsRow, Lacks}

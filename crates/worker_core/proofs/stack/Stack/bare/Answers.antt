@@ -1,8 +1,9 @@
 use Rattle.std.proofs.Common.{◌≡◌, ◌++◌, List, reverse, map, take, drop, length, sym, ap, ◌∙◌}
 use Rattle.visit_log.specs.Frame.{FrameView, task_for}
 use Rattle.visit_log.specs.Machine.{bare, path_of}
+use Rattle.visit_log.proofs.Offered.{bare_path}
 use Rattle.worker_core.specs.Stack.{StackView}
-use Rattle.worker_core.proofs.Last.{bared, bare_path}
+use Rattle.worker_core.proofs.Last.{bared}
 use Rattle.worker_core.proofs.stack.Stack.bare.Goals as goal
 
 pub invariant_of-self : goal.invariant_of-self

@@ -1,4 +1,4 @@
--- Keys compare alike only where they are the same.
+-- Keys compare alike only where they are the same, and are the same only for one position.
 use Rattle.std.proofs.Common.{◌≡◌, ℕ, List, true, ap, refl, subst, ◌∙◌}
 use Rattle.std.specs.Ordering.{is_eq, ordering_reverse}
 use Rattle.std.specs.declared.cmp.Ordering.{Ordering}
@@ -7,7 +7,9 @@ use Rattle.std.specs.Cmp.{IsTotalOrder}
 use Rattle.std.proofs.lemmas.Cmp.{on_total, nat_list_cmp_total, tied_itself}
 use Rattle.std.proofs.lemmas.Map.Lookups.{CmpEqualImpliesEq, exact_bytes}
 use Rattle.board_core.specs.declared.keys.Key.{Key}
-use Rattle.path_tags.specs.Tag.{key_cmp}
+use Rattle.board_core.specs.KeyOrder.{key_cmp}
+-- equal keys are those of equal positions; what a hand's counts are at most
+pub use Rattle.board_core.proofs.KeyExact.{cells_exact, key_exact as position_exact, hand_small, modest_black, modest_white}
 
 pub key_total : IsTotalOrder key_cmp
 key_total = on_total (λ (k : Key). k.0) nat_list_cmp_total
@@ -15,7 +17,7 @@ key_total = on_total (λ (k : Key). k.0) nat_list_cmp_total
 pub key_exact : CmpEqualImpliesEq key_cmp
 key_exact a b h = ap (λ (words : List ℕ). record { 0 = words }) (exact_bytes a.0 b.0 h)
 
-equal_of : (o : Ordering) → is_eq o ≡ true → o ≡ Equal
+pub equal_of : (o : Ordering) → is_eq o ≡ true → o ≡ Equal
 equal_of Less h = cc
 equal_of Equal h = refl
 equal_of Greater h = cc
@@ -24,8 +26,15 @@ equal_of Greater h = cc
 pub same_from_test : (a b : Key) → is_eq (key_cmp a b) ≡ true → a ≡ b
 same_from_test a b h = key_exact a b (equal_of (key_cmp a b) h)
 
+-- keys of the same words are one
+pub same_key : (a b : Key) → a.0 ≡ b.0 → a ≡ b
+same_key a b e = ap (λ (words : List ℕ). record { 0 = words }) e
+
 pub test_from_same : (a b : Key) → a ≡ b → is_eq (key_cmp a b) ≡ true
 test_from_same a b e = subst (λ (k : Key). is_eq (key_cmp a k) ≡ true) e (ap is_eq (tied_itself key_total a))
+
+pub test_itself : (a : Key) → is_eq (key_cmp a a) ≡ true
+test_itself a = ap is_eq (tied_itself key_total a)
 
 -- a key isn't below itself
 pub not_below_itself : (a b : Key) → a ≡ b → key_cmp a b ≡ Less → ⊥

@@ -1,12 +1,10 @@
 -- Parts make one position, or have one first fault.
 use Rattle.std.proofs.Common.{◌≡◌, ℕ, ◌<◌, Result, Ok, Err, refl, sym, ap, ◌∙◌, arith}
-use Rattle.std.proofs.lemmas.Bool.{false≢true}
 use Rattle.bit_boards.specs.declared.square.Square.{Square}
 use Rattle.bit_boards.specs.declared.piece.Kind.{Kind}
 use Rattle.board_core.specs.declared.build.BadPosition.{BadPosition as Bad}
 use Rattle.board_core.specs.declared.build.BadPosition.TheVariants as bad
-use Rattle.board_core.specs.Board.{Board, HasDefender}
-use Rattle.board_core.specs.Kept.{IsKept}
+use Rattle.board_core.specs.Board.{Board}
 use Rattle.board_core.specs.Build.{HasFault, fault_order, IsBuilt}
 use Rattle.board_core.specs.Laws.{SquaresApart, PlacesApart, PlacesInHand}
 
@@ -46,11 +44,3 @@ built_once in_hand squares_apart places b (Ok p) (Ok q) x y = ap (λ (c : Board)
 built_once in_hand squares_apart places b (Ok p) (Err fault) x y = absurd (x.1 fault y.0)
 built_once in_hand squares_apart places b (Err fault) (Ok q) x y = absurd (y.1 fault x.0)
 built_once in_hand squares_apart places b (Err f) (Err g) x y = ap (λ (h : Bad). Err h) (faults_apart in_hand squares_apart places b f g x.0 y.0 (same_order (fault_order f) (fault_order g) (λ less. y.1 f less x.0) (λ more. x.1 g more y.0)))
-
--- A position that is kept has no fault, where the side that isn't to move has a king.
-pub no_fault : (b : Board) (fault : Bad) → IsKept b → HasDefender b → HasFault b fault → ⊥
-no_fault b (bad.TooMany k) kept king h = omega (arith, h.1, kept.totals k h.0)
-no_fault b bad.NoDefenderKing kept king h = omega (arith, h, king)
-no_fault b bad.TwoKings kept king h = omega (arith, h.1, kept.kings h.0)
-no_fault b (bad.DeadPiece square) kept king h = false≢true (sym (kept.alive square.number square.on_board) ∙ h)
-no_fault b (bad.TwoPawns file) kept king h = kept.pawns h.0 file h.1

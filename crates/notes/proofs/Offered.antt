@@ -1,0 +1,4 @@
+-- What of derivations is offered to the crates above; they cite no other lemma of this one.
+pub use Rattle.notes.proofs.Truth.{note_after, height_le, valid_kept}
+-- may cross threads
+pub use Rattle.notes.proofs.Sent.{note_send}

@@ -1,0 +1,3 @@
+-- What of turns and kings is offered to the crates above; they cite no other lemma of this one.
+pub use Rattle.shogi_rules.proofs.ToMove.{turn_after, after_check, after_evasion}
+pub use Rattle.shogi_rules.proofs.Moves.{kings_dropped}
