@@ -1,29 +1,27 @@
 -- What the rules give of the notes of a valid tree, by who is to move.
-use Rattle.std.proofs.Common.{◌≡◌, ◌<◌, ◌≤◌, ◌⊎◌, inl, inr, zero, suc, List, [], ◌∷◌, length, Contains, arith, refl, sym, ◌∙◌, ap, subst}
+use Rattle.std.proofs.Common.{◌≡◌, ◌<◌, ◌⊎◌, inl, inr, zero, suc, List, [], ◌∷◌, length, Contains, arith, refl, sym, ◌∙◌, ap, subst}
 use Rattle.std.specs.Prelude.{nat_eq}
 use Rattle.std.specs.Cmp.Lexicographic.{pointwise, bytes_decides}
 use Rattle.std.proofs.lemmas.Bool.{cases_Bool}
 use Rattle.std.proofs.lemmas.Option.{slice_get-get_or}
-use Rattle.value_laws.proofs.Sides.{other_twice, other_apart}
+use Rattle.value_laws.proofs.Sides.{other_apart}
 use Rattle.bit_boards.specs.declared.piece.Side.{Side}
-use Rattle.bit_boards.specs.declared.piece.Side.TheVariants.{Black, White}
 use Rattle.bit_boards.specs.Kind.{other}
 use Rattle.board_core.specs.declared.keys.Key.{Key}
 use Rattle.board_core.specs.declared.moves.Move.{Move}
-use Rattle.board_core.specs.declared.moves.Move.TheVariants as moves
 use Rattle.board_core.specs.Board.{Board, kings_of}
 use Rattle.board_core.specs.Kept.{IsKept}
 use Rattle.board_core.specs.Key.{key_of}
 use Rattle.list_laws.proofs.Standing.{at_place, contained, first_of}
 use Rattle.shogi_rules.specs.Rules.{after}
 use Rattle.shogi_rules.specs.Tsume.{IsCheck, IsEvasion, IsProblem}
-use Rattle.shogi_rules.proofs.Offered.{turn_after, after_check, after_evasion}
+use Rattle.shogi_rules.proofs.Offered.{after_check, after_evasion}
 use Rattle.mate_def.specs.Mate.{after_both, HasEvasionTo}
 use Rattle.notes.specs.declared.rule.Rule.{Rule}
 use Rattle.notes.specs.declared.rule.Rule.TheVariants.{MateEnd, MateAll, MateBy, EscapeEnd, EscapeBy, EscapeRepeat, EscapeAll}
 use Rattle.notes.specs.declared.rule.Conclusion.{Conclusion}
 use Rattle.notes.specs.declared.rule.Conclusion.TheVariants.{Mate, Escape}
-use Rattle.notes.specs.Derivation.{Step, Derivation, derived, listed, step_of, under_of, rule_of, attacker_of, position_of, tag_of, height_of, conclusion_of, concluded, highest}
+use Rattle.notes.specs.Derivation.{Step, Derivation, derived, listed, step_of, under_of, rule_of, attacker_of, position_of, tag_of, height_of, conclusion_of, concluded}
 use Rattle.notes.specs.Valid.{Says, SayEach, IsValid, IsKeyAlone, meets}
 use Rattle.notes.proofs.Offered.{note_after, height_le}
 use Rattle.cert_extract.specs.Tree.{IsIn, two_under}

@@ -1,5 +1,5 @@
 -- The rows of a table and their counts, once a row and its counts have changed.
-use Rattle.std.proofs.Common.{◌≡◌, ◌≢◌, ◌<◌, ◌≤◌, ◌+◌, ◌%◌, ℕ, List, [], length, get_or, set, sum, inl, inr, sym, subst, ap, ap₂, ◌∙◌, arith}
+use Rattle.std.proofs.Common.{◌≡◌, ◌≢◌, ◌<◌, ◌≤◌, ◌+◌, ℕ, List, [], length, get_or, set, sum, inl, inr, sym, subst, ap, ap₂, ◌∙◌, arith}
 use Rattle.std.specs.Prelude.{slice_get, sum_by}
 use Rattle.std.proofs.lemmas.Bool.{cases_eq}
 use Rattle.std.proofs.lemmas.List.{length-set, get_or-set_same, get_or-set_other}
@@ -7,7 +7,7 @@ use Rattle.std.proofs.lemmas.List.Sums.{sum_by-set}
 use Rattle.board_core.specs.declared.keys.Key.{Key}
 use Rattle.table_shard.specs.Entry.{EntryView}
 use Rattle.table_shard.specs.Shard.{row_of, with_row}
-use Rattle.table_shard.specs.Spot.{hash_of, place_of}
+use Rattle.table_shard.specs.Spot.{place_of}
 use Rattle.table_shard.proofs.Offered.{place_within}
 use Rattle.lone_port.specs.Lone.{held_at, held_in, pins_of, with_pins}
 

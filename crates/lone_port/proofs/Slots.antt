@@ -9,8 +9,7 @@ use Rattle.board_core.specs.declared.keys.Key.{Key}
 use Rattle.board_core.specs.KeyOrder.{key_cmp}
 use Rattle.notes.specs.declared.words.Kept.TheVariants.{Slot}
 use Rattle.notes.specs.declared.words.Update.{Update}
-use Rattle.notes.specs.declared.words.Update.TheVariants.{Numbers as SetNumbers, Note as AddNote, Nothing as ChangeNothing}
-use Rattle.table_shard.specs.Entry.{EntryView, updated}
+use Rattle.table_shard.specs.Entry.{EntryView}
 use Rattle.table_shard.specs.Row.{HoldsAt, left}
 use Rattle.table_shard.proofs.Offered.{updated-key}
 use Rattle.visit_log.specs.Counts.{slot_once}

@@ -5,7 +5,6 @@ use Rattle.std.proofs.lemmas.Option.{same_Some, slice_get_cases, slice_get_withi
 use Rattle.std.proofs.lemmas.List.{length_push}
 use Rattle.value_laws.proofs.Sides.{other_apart}
 use Rattle.bit_boards.specs.declared.piece.Side.{Side}
-use Rattle.bit_boards.specs.declared.piece.Side.TheVariants.{Black, White}
 use Rattle.board_core.specs.declared.moves.Move.{Move}
 use Rattle.mate_facts.specs.declared.entry.MateEntry.{MateEntry}
 use Rattle.bit_boards.specs.Kind.{other}

@@ -4,7 +4,6 @@ use Rattle.std.specs.Prelude.{Some, slice_get}
 use Rattle.std.proofs.lemmas.List.{map-append}
 use Rattle.std.proofs.lemmas.List.Elements.{Contains-push_cases}
 use Rattle.board_core.specs.declared.moves.Move.{Move}
-use Rattle.board_core.specs.declared.moves.Move.TheVariants as moves
 use Rattle.board_core.specs.Board.{Board, kings_of}
 use Rattle.bit_boards.specs.Kind.{other}
 use Rattle.board_core.specs.Order.{Lists}

@@ -1,15 +1,13 @@
 -- What one more piece on the board attacks, and what it leaves as it was.
-use Rattle.std.proofs.Common.{◌≡◌, ◌≢◌, ◌<◌, ◌⊎◌, inl, inr, ◌↔◌, ◌∙◌, ℕ, List, Option, Some, None, true, false, arith, ap, sym, refl, subst}
+use Rattle.std.proofs.Common.{◌≡◌, ◌≢◌, ◌<◌, ◌⊎◌, inl, inr, ◌↔◌, ◌∙◌, ℕ, List, Option, Some, None, true, false, ap, sym, refl, subst}
 use Rattle.std.specs.Prelude.{IsSomeAnd}
 use Rattle.std.proofs.lemmas.Bool.{cases_eq}
 use Rattle.value_laws.proofs.Pieces.{not_the_king}
 use Rattle.bit_boards.specs.declared.piece.Piece.{Piece}
-use Rattle.bit_boards.specs.declared.piece.Kind.{Kind}
-use Rattle.bit_boards.specs.declared.piece.Kind.TheVariants.{Pawn, Lance, Knight, Silver, Gold, Bishop, Rook, King}
+use Rattle.bit_boards.specs.declared.piece.Kind.TheVariants.{King}
 use Rattle.bit_boards.specs.declared.piece.Side.{Side}
 use Rattle.bit_boards.specs.declared.piece.Side.TheVariants.{Black, White}
-use Rattle.bit_boards.specs.Kind.{same_kind}
-use Rattle.board_core.specs.Board.{Board, piece_at, is_king_of, kings_of, ChangesCell}
+use Rattle.board_core.specs.Board.{Board, piece_at, is_king_of, ChangesCell}
 use Rattle.shogi_rules.specs.Rules.{Reaches, AttacksFrom, Attacks}
 use Rattle.shogi_rules.proofs.Offered.{kings_dropped}
 use Rattle.problem_gen.specs.declared.drawn.Drawn.{Drawn}

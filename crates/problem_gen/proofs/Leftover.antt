@@ -1,5 +1,5 @@
 -- A set has one more of each kind that is drawn.
-use Rattle.std.proofs.Common.{◌≡◌, ◌<◌, ◌≤◌, ◌+◌, ◌⊎◌, inl, inr, Bool, true, false, arith, refl}
+use Rattle.std.proofs.Common.{◌≡◌, ◌<◌, ◌+◌, ◌⊎◌, inl, inr, arith, refl}
 use Rattle.value_laws.proofs.Cells.{one_if_most}
 use Rattle.bit_boards.specs.declared.piece.Kind.{Kind}
 use Rattle.bit_boards.specs.declared.piece.Kind.TheVariants.{Pawn, Lance, Knight, Silver, Gold, Bishop, Rook, King}

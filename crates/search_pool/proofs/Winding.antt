@@ -16,7 +16,7 @@ use Rattle.visit_log.specs.Run.{WorkerView, IsLooking}
 use Rattle.visit_log.specs.Visit.{Exchange}
 use Rattle.worker_core.specs.Machine.{is_poll}
 use Rattle.worker_core.specs.Port.{Goes}
-use Rattle.worker_core.proofs.Offered.{winds_on}
+use Rattle.worker_core.proofs.Offered.{winds_on as still_winds}
 use Rattle.lone_port.specs.Lone.{LonePortView, Turns, opened}
 use Rattle.search_pool.specs.Inside.{says_stop, says_posted, WasSaid, IsWindingUp}
 use Rattle.search_pool.proofs.Desk.{posted_by}
@@ -80,7 +80,7 @@ winds_posted task s t (q, Some PostedIt) g e = told_posted task s s.stage t g.2
 
 stays_winding : (task : Task) (s t : State) (x : Exchange) (end : WorkEnd) → Goes task s x t → s.stage ≡ Winding end → t.stage ≡ Winding end
 stays_winding task s t (q, None) end g w = absurd (subst IsLooking w g.1)
-stays_winding task s t (q, Some a) end g w = winds_on task s end a t (subst (λ (stage : Stage). LeadsAt task s stage a t) w g.2)
+stays_winding task s t (q, Some a) end g w = still_winds task s end a t (subst (λ (stage : Stage). LeadsAt task s stage a t) w g.2)
 
 -- It polls no more.
 pub not_polling : (stage : Stage) (frames : List FrameView) (end : WorkEnd) → stage ≡ Winding end → is_poll (asks_at stage frames) ≡ true → ⊥

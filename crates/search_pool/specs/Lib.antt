@@ -1,3 +1,4 @@
--- Searches: how they end.
+-- Searches: how they end, and what is true of them.
 pub mod End
 pub mod Inside
+pub mod Laws

@@ -1,6 +1,6 @@
 -- What stands at the places of a list, and what is found in one.
 use Rattle.std.proofs.Common.{◌≡◌, ◌==◌, ◌<◌, ℕ, zero, suc, Bool, true, false, cond, List, [], ◌∷◌, Some, None, length, ltb, refl, sym, ap, subst, ◌∙◌, arith}
-use Rattle.std.specs.Prelude.{IsSome, slice_get, All, Contains}
+use Rattle.std.specs.Prelude.{IsSome, slice_get, All}
 use Rattle.std.specs.List.{find, position, position_or_len, list_all}
 use Rattle.std.proofs.lemmas.Bool.{false≢true, true_from_ne_false}
 use Rattle.std.proofs.lemmas.Bool.Decides.{nat_tests}

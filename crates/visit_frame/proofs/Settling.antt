@@ -3,10 +3,7 @@ use Rattle.std.proofs.Common.{◌≡◌, ℕ, true, false, List, Some, inr, refl
 use Rattle.std.specs.Prelude.{slice_get, IsSome, All}
 use Rattle.std.proofs.lemmas.Bool.{false≢true}
 use Rattle.board_core.specs.declared.keys.Key.{Key}
-use Rattle.board_core.specs.Kept.{IsKept}
 use Rattle.pn_numbers.specs.Numbers.{IsOpen}
-use Rattle.notes.specs.Derivation.{Derivation, derived, position_of}
-use Rattle.notes.specs.Valid.{IsValid}
 use Rattle.notes.specs.declared.words.Seen.{Seen}
 use Rattle.visit_log.specs.declared.parts.Child.{Child}
 use Rattle.visit_log.specs.declared.parts.Look.{Look}

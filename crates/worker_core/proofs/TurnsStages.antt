@@ -1,7 +1,6 @@
 -- What an answer to a worker's request leads to: whether it enters next, whether more may be handed out, and which answers may come.
-use Rattle.std.proofs.Common.{◌≡◌, ◌⊎◌, inl, inr, ℕ, ◌≤◌, ◌<◌, List, [], ◌∷◌, length, arith, refl, ap, ◌∙◌, subst, Bool, true, false}
-use Rattle.std.proofs.lemmas.List.{length-map}
-use Rattle.std.specs.Prelude.{Option, Some, None, if◌then◌else◌, is_some, map, slice_get}
+use Rattle.std.proofs.Common.{◌≡◌, ◌⊎◌, inl, inr, ℕ, ◌≤◌, ◌<◌, List, [], ◌∷◌, arith, refl, ap, ◌∙◌, subst, Bool, true, false}
+use Rattle.std.specs.Prelude.{Option, Some, None, if◌then◌else◌, slice_get}
 use Rattle.search_limits.specs.declared.expansions.TheConstants.{MOST_EXPANSIONS}
 use Rattle.board_core.specs.declared.keys.Key.{Key}
 use Rattle.notes.specs.Derivation.{Derivation}
@@ -25,7 +24,7 @@ use Rattle.visit_log.specs.declared.words.Reply.{Reply}
 use Rattle.visit_log.specs.declared.words.Reply.TheVariants.{Poll as Polled, Draw as Drew, Claim as Claimed, Look as Looked, Enter as Entered, Leave as LeftIt, Post as PostedIt}
 use Rattle.visit_log.specs.Frame.{Task, FrameView, attacker_in}
 use Rattle.visit_log.specs.Round.{MayShow}
-use Rattle.visit_log.specs.Machine.{State, at_stage, bare, entered_ones, wind, starve, Settles, Opens, Sees, Makes, Returns, LeadsAt, Fits, rest_of, path_of, asks, asks_at, ask_look, ask_leave, ask_post, asked, asked_at}
+use Rattle.visit_log.specs.Machine.{State, at_stage, wind, starve, Settles, Opens, Sees, Makes, Returns, LeadsAt, Fits, rest_of, path_of, asks, asks_at, ask_look, ask_leave, ask_post, asked, asked_at}
 use Rattle.visit_log.specs.Run.{IsLooking}
 use Rattle.visit_log.specs.Counts.{enters, leaves, enters_some, leaves_some, units_in, to_come}
 use Rattle.visit_log.specs.Visit.{Exchange}

@@ -1,9 +1,8 @@
 -- The count of a key's slot is that of the visits of the key's position, over all workers.
-use Rattle.std.proofs.Common.{◌≡◌, ◌≢◌, inl, inr, ℕ, suc, ◌%◌, ◌<◌, List, [], ◌∷◌, length, arith, refl, sym, ap, ◌∙◌, Bool, true, false}
+use Rattle.std.proofs.Common.{◌≡◌, ◌≢◌, inl, inr, ℕ, suc, ◌<◌, List, [], ◌∷◌, length, arith, refl, sym, ap, ◌∙◌, Bool, true, false}
 use Rattle.std.specs.Prelude.{Option, Some, None, IsSomeAnd, All, slice_get, slice_index, ◌==◌, ◌&&◌, if◌then◌else◌}
 use Rattle.std.specs.Ordering.{is_eq}
-use Rattle.std.specs.Cmp.{IsTotalOrder}
-use Rattle.std.proofs.lemmas.Cmp.{on_total, nat_list_cmp_total, tied_itself}
+use Rattle.std.proofs.lemmas.Cmp.{tied_itself}
 use Rattle.std.proofs.lemmas.Bool.{cases_lt, eq-eqb}
 use Rattle.std.proofs.lemmas.List.Elements.{All-get_or}
 use Rattle.std.proofs.lemmas.List.Sums.{sum_by-cons}
@@ -16,7 +15,7 @@ use Rattle.notes.specs.declared.words.Kept.TheVariants.{Slot, Unkept}
 use Rattle.table_shard.specs.Entry.{EntryView}
 use Rattle.table_shard.specs.Row.{HoldsAt, Lacks, IsRow}
 use Rattle.table_shard.specs.Shard.{row_of}
-use Rattle.table_shard.specs.Spot.{place_of, hash_of}
+use Rattle.table_shard.specs.Spot.{place_of}
 use Rattle.table_shard.proofs.Offered.{place_within}
 use Rattle.visit_log.specs.Frame.{FrameView}
 use Rattle.visit_log.specs.Run.{WorkerView}

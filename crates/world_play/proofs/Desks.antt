@@ -3,7 +3,6 @@ use Rattle.std.proofs.Common.{◌≡◌, inl, inr, List, [], ◌∷◌, ◌++◌
 use Rattle.std.specs.Prelude.{Option, Some, None, IsSome}
 use Rattle.std.proofs.lemmas.List.Elements.{Contains-push_cases}
 use Rattle.board_core.specs.declared.keys.Key.{Key}
-use Rattle.notes.specs.Derivation.{Derivation}
 use Rattle.notes.specs.declared.words.Draw.TheVariants.{Go, Done, Spent as AllDrawn}
 use Rattle.notes.specs.declared.words.RoomAnswer.TheVariants.{Room, NoRoom as Full}
 use Rattle.visit_log.specs.declared.words.WorkEnd.{WorkEnd}
@@ -15,7 +14,7 @@ use Rattle.visit_log.specs.declared.words.Reply.TheVariants.{Poll as Polled, Dra
 use Rattle.visit_log.specs.Visit.{Exchange, drew, claimed}
 use Rattle.visit_log.specs.Frame.{Task}
 use Rattle.visit_log.specs.Laws.{HasCause}
-use Rattle.unit_desk.specs.Desk.{DeskView, first_posted}
+use Rattle.unit_desk.specs.Desk.{DeskView}
 use Rattle.unit_desk.proofs.Offered.{first_is}
 use Rattle.lone_port.specs.Lone.{LonePortView, Turns}
 use Rattle.world_play.specs.Fair.{IsToldOf}

@@ -1,19 +1,15 @@
 -- A step gives up no entry that a visit has entered.
-use Rattle.std.proofs.Common.{◌≡◌, ◌≢◌, inl, inr, ℕ, zero, suc, ◌%◌, ◌<◌, List, [], ◌∷◌, ◌++◌, length, get_or, arith, refl, sym, ap, ◌∙◌, subst, Bool, length-set}
-use Rattle.std.specs.Prelude.{Option, Some, None, IsSomeAnd, slice_get, slice_index}
+use Rattle.std.proofs.Common.{◌≡◌, inl, inr, ℕ, ◌<◌, List, [], length, get_or, sym, ap, ◌∙◌, subst, Bool, length-set}
+use Rattle.std.specs.Prelude.{Option, Some, None, slice_get, slice_index}
 use Rattle.std.proofs.lemmas.Bool.{cases_eq}
 use Rattle.std.proofs.lemmas.List.{get_or-set_same, get_or-set_other}
 use Rattle.board_core.specs.declared.keys.Key.{Key}
-use Rattle.pn_numbers.specs.declared.numbers.Numbers.{Numbers}
-use Rattle.notes.specs.declared.words.Kept.{Kept}
 use Rattle.notes.specs.declared.words.Kept.TheVariants.{Slot, Unkept}
-use Rattle.notes.specs.declared.words.Update.{Update}
-use Rattle.notes.specs.declared.words.Update.TheVariants.{Numbers as SetNumbers, Note as AddNote, Nothing as ChangeNothing}
-use Rattle.table_shard.specs.Entry.{EntryView, updated}
-use Rattle.table_shard.specs.Row.{HoldsAt, Enters, IsGivenUp, fresh, left}
+use Rattle.table_shard.specs.Entry.{EntryView}
+use Rattle.table_shard.specs.Row.{HoldsAt, IsGivenUp, left}
 use Rattle.table_shard.specs.Shard.{row_of, with_row}
-use Rattle.table_shard.specs.Spot.{place_of, hash_of}
-use Rattle.table_shard.proofs.Offered.{place_within, updated-key, holds_more, enters_stays, left_stays}
+use Rattle.table_shard.specs.Spot.{place_of}
+use Rattle.table_shard.proofs.Offered.{place_within, enters_stays, left_stays}
 use Rattle.visit_log.specs.declared.words.Request.{Request}
 use Rattle.visit_log.specs.declared.words.Request.TheVariants.{Poll, Draw as Draws, Claim as Claims, Look, Enter, Leave, Post}
 use Rattle.visit_log.specs.declared.words.Reply.{Reply}
@@ -22,7 +18,6 @@ use Rattle.visit_log.specs.Machine.{path_of}
 use Rattle.lone_port.specs.Lone.{LonePortView, IsLone, Turns, opened, pins_of}
 use Rattle.lone_port.proofs.Offered.{held_there}
 use Rattle.world_play.specs.Promises.{StepsKeepEntered}
-use Rattle.world_play.proofs.Stepped.{get_set_other}
 
 -- 1. IN A ROW.
 

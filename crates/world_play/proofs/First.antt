@@ -1,6 +1,6 @@
 -- The world at first is fair.
 use Rattle.std.proofs.Common.{◌≡◌, inl, inr, ℕ, zero, suc, ◌+◌, ◌<◌, List, [], ◌∷◌, ◌++◌, length, get_or, replicate, arith, refl, sym, ap, ◌∙◌, subst, Bool, false, sum_by}
-use Rattle.std.specs.Prelude.{Some, slice_get, sum, Contains}
+use Rattle.std.specs.Prelude.{Some, slice_get, sum}
 use Rattle.std.proofs.lemmas.List.{length-replicate, get_or-replicate}
 use Rattle.std.proofs.lemmas.List.Sums.{sum_by-cons}
 use Rattle.std.proofs.lemmas.List.Folds.{sum_by-replicate}

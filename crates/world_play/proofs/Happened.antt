@@ -10,7 +10,7 @@ use Rattle.visit_log.specs.Machine.{State, asks, starve, end_of}
 use Rattle.visit_log.specs.Run.{WorkerView, Leads, now_at}
 use Rattle.visit_log.specs.Sound.{IsTask}
 use Rattle.visit_log.specs.Laws.{IsLeftAlone, HasCause}
-use Rattle.worker_core.specs.Port.{KeepsOthers, Goes}
+use Rattle.worker_core.specs.Port.{KeepsOthers}
 use Rattle.worker_core.specs.Machine.{is_poll}
 use Rattle.worker_core.proofs.Offered.{goes_asks}
 use Rattle.lone_port.specs.Lone.{LonePortView, book_of, opened}

@@ -1,5 +1,5 @@
 -- A world stays as it is kept whatever happens in it.
-use Rattle.std.proofs.Common.{◌≡◌, ◌≤◌, ◌<◌, inl, inr, ℕ, ◌+◌, List, [], ◌∷◌, ◌++◌, length, arith, refl, sym, ap, ◌∙◌, subst, Bool, false, append-nil, append_assoc}
+use Rattle.std.proofs.Common.{◌≡◌, ◌≤◌, ◌<◌, inl, inr, ℕ, ◌+◌, List, [], ◌∷◌, ◌++◌, length, arith, refl, sym, ap, ◌∙◌, subst, Bool, false, append-nil}
 use Rattle.std.specs.Prelude.{Option, Some, None, All, slice_get, slice_index_or}
 use Rattle.std.proofs.lemmas.List.Elements.{All-weaker}
 use Rattle.board_core.specs.Board.{Board}
@@ -12,7 +12,7 @@ use Rattle.visit_log.specs.declared.words.Reply.{Reply}
 use Rattle.visit_log.specs.Visit.{Exchange}
 use Rattle.visit_log.specs.Frame.{Task, task_for}
 use Rattle.visit_log.specs.Machine.{State, asks, path_of}
-use Rattle.visit_log.specs.Run.{Happening, Told, Dark, Starved, Happens as Befalls, Runs, event, events, WorkerView, Leads, now_at}
+use Rattle.visit_log.specs.Run.{Happening, Told, Dark, Starved, Happens as Befalls, Runs, event, WorkerView, Leads, now_at}
 use Rattle.visit_log.specs.Sound.{IsSound, IsSoundRequest}
 use Rattle.visit_log.specs.Counts.{own_slots, own_size, enters, leaves, enters_some, leaves_some}
 use Rattle.visit_log.specs.Laws.{WorkersAreSound, AsksSound, SlotsMove, SizesMove, LeavesOwn, StarvingMovesNothing, UnitsMove}

@@ -1,17 +1,9 @@
 -- What follows of a fair world.
-use Rattle.std.proofs.Common.{◌≡◌, inl, inr, ℕ, suc, ◌+◌, ◌≤◌, ◌<◌, List, [], ◌∷◌, length, get_or, arith, refl, sym, ap, ◌∙◌, subst, Bool, true, false, sum_by}
-use Rattle.std.specs.Prelude.{Option, Some, None, IsSomeAnd, slice_get, slice_index, if◌then◌else◌}
-use Rattle.std.specs.Ordering.{is_eq}
-use Rattle.std.specs.declared.cmp.Ordering.{Ordering}
-use Rattle.std.specs.declared.cmp.Ordering.TheVariants.{Less, Equal, Greater}
-use Rattle.std.proofs.lemmas.Map.Lookups.{CmpEqualImpliesEq, exact_bytes}
+use Rattle.std.proofs.Common.{◌≡◌, inl, inr, ℕ, suc, ◌+◌, ◌≤◌, ◌<◌, List, [], ◌∷◌, length, get_or, arith, refl, sym, ap, ◌∙◌, subst, sum_by}
+use Rattle.std.specs.Prelude.{Option, Some, None, slice_get, slice_index}
 use Rattle.std.proofs.lemmas.List.Sums.{sum_by-cons}
 use Rattle.std.proofs.lemmas.Bool.{cases_lt}
 use Rattle.std.proofs.lemmas.Option.{slice_get_within, slice_get_read, same_Some}
-use Rattle.value_laws.proofs.Keys.{key_exact, equal_of}
-use Rattle.board_core.specs.declared.keys.Key.{Key}
-use Rattle.board_core.specs.KeyOrder.{key_cmp}
-use Rattle.table_shard.specs.Entry.{EntryView}
 use Rattle.table_shard.specs.Shard.{row_of}
 use Rattle.visit_log.specs.declared.parts.Stage.{Stage}
 use Rattle.visit_log.specs.declared.parts.Stage.TheVariants.{Polling, Drawing, Entering, Looking, Claiming, Leaving, Posting, Winding}
@@ -23,7 +15,7 @@ use Rattle.visit_log.specs.Machine.{end_of, end_at}
 use Rattle.visit_log.specs.Run.{WorkerView}
 use Rattle.visit_log.specs.Counts.{own_slots, own_size}
 use Rattle.visit_log.specs.Laws.{WorkersAreSound, WorkersAreCounted, LogsAreWhole, EndsHaveCauses}
-use Rattle.lone_port.specs.Lone.{held_at, pins_of}
+use Rattle.lone_port.specs.Lone.{pins_of}
 use Rattle.lone_port.specs.World.{World}
 use Rattle.lone_port.proofs.Offered.{held_there}
 use Rattle.world_play.specs.Fair.{IsFair, IsToldOf}

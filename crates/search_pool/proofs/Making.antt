@@ -1,0 +1,76 @@
+-- The note that is made of others, by a rule and about a position: there is one.
+use Rattle.std.proofs.Common.{◌≡◌, ◌+◌, ◌≤◌, List, [], ◌∷◌, refl, sym, subst, ap, ap₂, ◌∙◌, arith}
+use Rattle.board_core.specs.declared.keys.Key.{Key}
+use Rattle.board_core.specs.Board.{Board}
+use Rattle.shogi_rules.specs.Rules.{after}
+use Rattle.path_tags.specs.Tag.{IsRising}
+use Rattle.path_tags.specs.Laws.{TagsApart}
+use Rattle.notes.specs.declared.rule.Rule.{Rule}
+use Rattle.notes.specs.declared.rule.Rule.TheVariants.{MateEnd, MateAll, MateBy, EscapeEnd, EscapeBy, EscapeRepeat, EscapeAll}
+use Rattle.notes.specs.Derivation.{Step, Derivation, Derivations, derived, none_under, one_under, derivations, listed, under_of, rule_of, attacker_of, position_of, tag_of, highest}
+use Rattle.notes.specs.Valid.{IsStep, IsValid, IsKeyAlone, JoinsTags, meets}
+use Rattle.visit_log.specs.Frame.{Task, FrameView}
+use Rattle.visit_log.specs.Children.{notes_under}
+use Rattle.visit_log.specs.Round.{node_in, IsMade}
+
+-- 1. TAGS.
+
+key_alone : (a b : List Key) (p : Board) → IsKeyAlone a p → IsKeyAlone b p → a ≡ b
+key_alone a b p h k =
+    let words = h.is_key ∙ sym k.is_key in
+    let same : h.key ≡ k.key = λ i. record { 0 = words i } in
+    h.alone ∙ (ap (λ (key : Key). key ∷ []) same ∙ sym k.alone)
+
+one_of : (xs : List Derivation) (a b : Derivation) → xs ≡ a ∷ [] → xs ≡ b ∷ [] → a ≡ b
+one_of xs a b h k = (let e : a ∷ [] ≡ b ∷ [] = sym h ∙ k in cc)
+
+joined_once : TagsApart → (a b : List Key) (p : Board) (notes : List Derivation) → IsRising a → IsRising b → JoinsTags a p notes → JoinsTags b p notes → a ≡ b
+joined_once apart a b p notes up too h k = apart a b up too (λ key. (λ c. (k key).1 ((h key).0 c), λ c. (h key).1 ((k key).0 c)))
+
+-- Steps by one rule about one position, over the same notes, have one tag.
+tag_once : TagsApart → (rule : Rule) (a b : List Key) (s t : Step) (notes : List Derivation) → s.tag ≡ a → t.tag ≡ b → s.position ≡ t.position → IsRising a → IsRising b
+    → meets rule s notes → meets rule t notes → a ≡ b
+tag_once apart MateEnd a b s t notes p q at up too h k = sym p ∙ (h.2 ∙ (sym k.2 ∙ q))
+tag_once apart MateAll a b s t notes p q at up too h k = sym p ∙ (h.1 ∙ (sym k.1 ∙ q))
+tag_once apart (MateBy check) a b s t notes p q at up too h k = sym p ∙ (h.2 ∙ (sym k.2 ∙ q))
+tag_once apart EscapeEnd a b s t notes p q at up too h k = sym p ∙ (h.2 ∙ (sym k.2 ∙ q))
+tag_once apart (EscapeBy evasion) a b s t notes p q at up too h k =
+    let same = one_of notes h.1.0.note k.1.0.note h.1.0.alone k.1.0.alone in sym p ∙ (h.1.1 ∙ (ap tag_of same ∙ (sym k.1.1 ∙ q)))
+tag_once apart (EscapeRepeat evasion) a b s t notes p q at up too h k =
+    key_alone a b (after s.position evasion) (subst (λ (x : List Key). IsKeyAlone x (after s.position evasion)) p h.2)
+    (subst (λ (x : List Key). IsKeyAlone x (after s.position evasion)) q (subst (λ (x : Board). IsKeyAlone t.tag (after x evasion)) (sym at) k.2))
+tag_once apart EscapeAll a b s t notes p q at up too h k =
+    joined_once apart a b s.position notes up too (subst (λ (x : List Key). JoinsTags x s.position notes) p h.1)
+    (subst (λ (x : List Key). JoinsTags x s.position notes) q (subst (λ (x : Board). JoinsTags t.tag x notes) (sym at) k.1))
+
+-- 2. NOTES.
+
+relisted : (d : Derivations) → derivations (listed d) ≡ d
+relisted none_under = refl
+relisted (one_under note notes) = ap (one_under note) (relisted notes)
+
+step_once : TagsApart → (s t : Step) (notes : List Derivation) → s.rule ≡ t.rule → s.attacker ≡ t.attacker → s.position ≡ t.position → IsStep s notes → IsStep t notes → s ≡ t
+step_once apart s t notes rule attacker position h k =
+    let tag : s.tag ≡ t.tag = tag_once apart t.rule s.tag t.tag s t notes refl refl position h.rising k.rising
+    (subst (λ (r : Rule). meets r s notes) rule h.rule) k.rule in
+    let height : s.height ≡ t.height = h.height ∙ sym k.height in
+    λ i. record { rule = rule i; attacker = attacker i; position = position i; tag = tag i; height = height i }
+
+note_once : TagsApart → (m n : Derivation) → rule_of m ≡ rule_of n → attacker_of m ≡ attacker_of n → position_of m ≡ position_of n → under_of m ≡ under_of n → IsValid m
+    → IsValid n → m ≡ n
+note_once apart (derived s d) (derived t e) rule attacker position under h k =
+    let notes : d ≡ e = sym (relisted d) ∙ (ap derivations under ∙ relisted e) in
+    let step : s ≡ t = step_once apart s t (listed e) rule attacker position (subst (IsStep s) under h.1) k.1 in
+    ap₂ derived step notes
+
+-- The note of a solved node is one.
+pub made_once : TagsApart → (task : Task) (f : FrameView) (m n : Derivation) → IsMade task f m → IsMade task f n → m ≡ n
+made_once apart task f m n h k =
+    note_once apart m n (h.rule ∙ sym k.rule) (h.same_attacker ∙ sym k.same_attacker) (h.about ∙ sym k.about) (h.under ∙ sym k.under) h.valid k.valid
+
+low_valid : (n : Derivation) → IsValid n → highest (under_of n) + 1 ≤ 4096
+low_valid (derived s d) v = (let low = v.1.low in let height = v.1.height in omega (arith, low, height))
+
+-- Where it is made, it wouldn't have been too high.
+pub low_made : (task : Task) (f : FrameView) (n : Derivation) → IsMade task f n → highest (notes_under (node_in task f) f.children) + 1 ≤ 4096
+low_made task f n h = subst (λ (xs : List Derivation). highest xs + 1 ≤ 4096) h.under (low_valid n h.valid)
