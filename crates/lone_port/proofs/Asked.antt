@@ -1,7 +1,7 @@
 -- What the table does at each request, as a whole.
-use Rattle.std.proofs.Common.{sum, ◌≡◌, ◌<◌, ◌≤◌, ◌+◌, ◌-◌, ℕ, List, [], length, get_or, set, refl, sym, subst, ap, ap₂, ◌∙◌, arith, replicate, inl}
-use Rattle.std.specs.Prelude.{Some, Result, Ok, Err, IfOk, All, slice_get}
-use Rattle.std.proofs.lemmas.List.{length-set, get_or_default}
+use Rattle.std.proofs.Common.{sum, ◌≡◌, ◌<◌, ◌≤◌, ◌+◌, ◌-◌, ℕ, List, [], length, get_or, set, refl, sym, subst, ap, ap₂, ◌∙◌, arith, replicate, inl, inr}
+use Rattle.std.specs.Prelude.{Some, Result, Ok, Err, IfOk, All}
+use Rattle.std.proofs.lemmas.List.{length-set, set-get_or, get_or_default}
 use Rattle.std.proofs.lemmas.List.Elements.{All-get_or, All-set}
 use Rattle.board_core.specs.declared.keys.Key.{Key}
 use Rattle.pn_numbers.specs.declared.numbers.Numbers.{Numbers}
@@ -9,23 +9,22 @@ use Rattle.notes.specs.declared.words.Kept.TheVariants.{Slot}
 use Rattle.notes.specs.declared.words.Seen.{Seen}
 use Rattle.notes.specs.declared.words.Update.{Update}
 use Rattle.table_shard.specs.Entry.{EntryView}
-use Rattle.table_shard.specs.Row.{HoldsAt, IsRow, Looks, Enters, left}
+use Rattle.table_shard.specs.Row.{IsRow, Looks, Enters, left}
 use Rattle.table_shard.specs.Shard.{row_of, with_row, EntersIn}
-use Rattle.table_shard.specs.Spot.{place_of, spot_of}
+use Rattle.table_shard.specs.Spot.{place_of, spot_of, word_of}
 use Rattle.table_shard.specs.declared.hash.Spot.{Spot}
 use Rattle.table_shard.proofs.Offered.{holds_within, length-left, place_within}
 use Rattle.visit_log.specs.declared.words.Request.TheVariants.{Look, Enter, Leave}
 use Rattle.visit_log.specs.declared.words.Reply.TheVariants.{Enter as Entered, Leave as LeftIt}
 use Rattle.visit_log.specs.Round.{MayShow}
 use Rattle.visit_log.specs.Sound.{IsSoundUpdate}
-use Rattle.visit_log.specs.Counts.{slot_once}
 use Rattle.worker_core.specs.Port.{IsBooked, Suits, shown}
 use Rattle.board_core.specs.Board.{Board}
 use Rattle.std.proofs.lemmas.List.Folds.{sum_by-replicate}
-use Rattle.lone_port.specs.Lone.{LonePortView, IsLone, AreFor, Turns, book_of, held_in, pins_of, with_pins, pinned, unpinned, alone_at_first, worker_at_first}
-use Rattle.lone_port.proofs.Slots.{held_entered, held_left, held_there, once_apart, once_itself, holds_left, get_left_other}
+use Rattle.lone_port.specs.Lone.{LonePortView, IsLone, AreFor, IsLeftIn, Turns, book_of, pins_of, with_pins, pinned, unpinned, alone_at_first, worker_at_first}
+use Rattle.lone_port.proofs.Words.{held_entered, held_left, IsOwn}
 use Rattle.lone_port.proofs.Rows.{IsEntered, entered, left_for, looks_may}
-use Rattle.lone_port.proofs.Places.{held_moves, size_moves, there_moves, there_at}
+use Rattle.lone_port.proofs.Places.{size_moves, there_moves, there_at}
 
 -- 1. WHERE THE COUNTS ARE.
 
@@ -136,10 +135,8 @@ enter_books_at port key numbers slot row is few enters =
       units = omega arith;
       most = λ h. h;
       going = refl;
-      held = held_moves port.rows port.pins key row (set (pins_of port.pins key) slot (get_or (pins_of port.pins key) slot 0 + 1)) (λ k s. 0) (slot_once (Slot slot) key)
-          is.some is.as_many
-          (λ k s. omega (arith, held_entered (row_of port.rows key) row (pins_of port.pins key) slot key went.holds went.others went.before within k s))
-          (λ k s not. (refl, once_apart key k slot s not));
+      words = ap word_of (length-set port.pins (place_of key (length port.pins)) (set (pins_of port.pins key) slot (get_or (pins_of port.pins key) slot 0 + 1)));
+      held = λ word. let now = held_entered port.pins key slot known.pins_within went.within within word in omega (arith, now);
       size = omega (arith, sums);
       rooms = omega arith;
     }
@@ -175,105 +172,96 @@ enter_books port after key numbers p n slot counts seen is rows long at within i
 
 -- 5. LEAVING.
 
--- What a worker that has entered a slot of a key knows of it.
-pub record IsOwn (port : LonePortView) (key : Key) (slot : ℕ) : Type 0 where
-  pub holds : HoldsAt (row_of port.rows key) slot key
-  pub some : 0 < get_or (pins_of port.pins key) slot 0
+-- A row of the table once one of its slots was left: it has as many entries, and they are for the attacker as before.
+pub record IsLeft (port : LonePortView) (key : Key) (update : Update) (after : List (List EntryView)) : Type 0 where
+  pub row : List EntryView
+  pub is : after ≡ with_row port.rows key row
+  pub long : length row ≡ length (row_of port.rows key)
+  pub notes : IsSoundUpdate port.desk.position.side key update → All (AreFor port.desk.position.side) (row_of port.rows key) → All (AreFor port.desk.position.side) row
 
-pub own : (port : LonePortView) (key : Key) (slot : ℕ) → ((other : Key) (s : ℕ) → slot_once (Slot slot) key other s ≤ held_in port.rows port.pins other s) → IsOwn port key slot
-own port key slot held =
-    let one = once_itself key slot in
-    let more = held key slot in
-    let both = held_there (slice_get (row_of port.rows key) slot) key (get_or (pins_of port.pins key) slot 0) (omega (arith, one, more)) in
-    record { holds = both.0; some = both.1 }
-
--- A slot that is left has the key's entry.
-pub leave_holds : (port : LonePortView) (key : Key) (slot : ℕ) → ((other : Key) (s : ℕ) → slot_once (Slot slot) key other s ≤ held_in port.rows port.pins other s)
-    → HoldsAt (row_of port.rows key) slot key
-leave_holds port key slot held = (own port key slot held).holds
-
--- It is one of the eight.
-pub leave_within : (port : LonePortView) (key : Key) (slot : ℕ) → IsLone port → All IsRow port.rows
-    → ((other : Key) (s : ℕ) → slot_once (Slot slot) key other s ≤ held_in port.rows port.pins other s) → slot < 8
-leave_within port key slot is rows held =
-    let known = row_known port key is in
-    let few = (All-get_or IsRow port.rows (place_of key (length port.rows)) [] known.row_within rows).few in
-    let low = holds_within (row_of port.rows key) key slot (own port key slot held).holds in
-    omega (arith, few, low)
+pub left_row : (port : LonePortView) (key : Key) (slot : ℕ) (update : Update) (after : List (List EntryView)) → IsLeftIn port.rows (Slot slot) key update after
+    → IsLeft port key update after
+left_row port key slot update after (inl updated) = record {
+  row = left (row_of port.rows key) slot update;
+  is = updated.1;
+  long = length-left (row_of port.rows key) slot update;
+  notes = λ sound notes. left_for port.desk.position.side key update (row_of port.rows key) slot sound notes;
+}
+left_row port key slot update after (inr other) = record {
+  row = row_of port.rows key;
+  is = other.1 ∙ sym (set-get_or port.rows (place_of key (length port.rows)) []);
+  long = refl;
+  notes = λ sound notes. notes;
+}
 
 -- And a visit is below it.
 pub leave_some : (port : LonePortView) (key : Key) (p n slot : ℕ) (counts : List ℕ) → n ≡ length port.pins → p ≡ place_of key n → p < n → counts ≡ get_or port.pins p counts
-    → ((other : Key) (s : ℕ) → slot_once (Slot slot) key other s ≤ held_in port.rows port.pins other s) → 1 ≤ get_or counts slot 0
-leave_some port key p n slot counts long at within is held =
-    subst (λ (c : List ℕ). 1 ≤ get_or c slot 0) (sym (found port.pins key p n counts long at within is)) (let s = (own port key slot held).some in omega (arith, s))
+    → IsOwn port.pins key slot → 1 ≤ get_or counts slot 0
+leave_some port key p n slot counts long at within is mine =
+    subst (λ (c : List ℕ). 1 ≤ get_or c slot 0) (sym (found port.pins key p n counts long at within is)) (let s = mine.some in omega (arith, s))
 
 -- The table after a slot of a key was left.
-abbrev pub after_leave : LonePortView → Key → ℕ → Update → LonePortView
-after_leave port key slot update = record port { rows = with_row port.rows key (left (row_of port.rows key) slot update); pins = unpinned port.pins key (Slot slot) }
+abbrev pub after_leave : LonePortView → Key → ℕ → List EntryView → LonePortView
+after_leave port key slot row = record port { rows = with_row port.rows key row; pins = unpinned port.pins key (Slot slot) }
 
-pub leave_keeps_at : (port : LonePortView) (key : Key) (slot : ℕ) (update : Update) → IsLone port → IsOwn port key slot → IsSoundUpdate port.desk.position.side key update
-    → IsLone (after_leave port key slot update)
-leave_keeps_at port key slot update is mine sound =
+-- A slot that is entered has an entry.
+low_in : (port : LonePortView) (key : Key) (slot : ℕ) → IsLone port → IsOwn port.pins key slot → slot < length (row_of port.rows key)
+low_in port key slot is mine = (row_known port key is).there slot mine.some
+
+pub leave_keeps_at : (port : LonePortView) (key : Key) (slot : ℕ) (update : Update) (after : List (List EntryView)) (left_so : IsLeft port key update after) → IsLone port
+    → IsOwn port.pins key slot → IsSoundUpdate port.desk.position.side key update → IsLone (after_leave port key slot left_so.row)
+leave_keeps_at port key slot update after left_so is mine sound =
     let known = row_known port key is in
-    let row = left (row_of port.rows key) slot update in
-    let long = length-left (row_of port.rows key) slot update in
-    let low = holds_within row key slot (holds_left (row_of port.rows key) slot update key mine.holds) in
-    changed_keeps port key row (set (pins_of port.pins key) slot (get_or (pins_of port.pins key) slot 0 - 1)) is
+    let long = left_so.long in
+    let there = low_in port key slot is mine in
+    changed_keeps port key left_so.row (set (pins_of port.pins key) slot (get_or (pins_of port.pins key) slot 0 - 1)) is
     (length-set (pins_of port.pins key) slot (get_or (pins_of port.pins key) slot 0 - 1) ∙ known.eight)
-    (there_at row (row_of port.rows key) (pins_of port.pins key) slot (get_or (pins_of port.pins key) slot 0 - 1) low (omega (arith, long)) known.there)
-    (left_for port.desk.position.side key update (row_of port.rows key) slot sound known.notes)
+    (there_at left_so.row (row_of port.rows key) (pins_of port.pins key) slot (get_or (pins_of port.pins key) slot 0 - 1) (omega (arith, long, there)) (omega (arith, long)) known.there)
+    (left_so.notes sound known.notes)
 
-pub leave_books_at : (port : LonePortView) (key : Key) (slot : ℕ) (update : Update) → IsLone port → length (row_of port.rows key) ≤ 8 → IsOwn port key slot
-    → IsBooked (Leave (Slot slot) key update, Some LeftIt) (book_of port) (book_of (after_leave port key slot update))
-leave_books_at port key slot update is few mine =
+pub leave_books_at : (port : LonePortView) (key : Key) (slot : ℕ) (update : Update) (row : List EntryView) → IsLone port → IsOwn port.pins key slot
+    → IsBooked (Leave (Slot slot) key update, Some LeftIt) (book_of port) (book_of (after_leave port key slot row))
+leave_books_at port key slot update row is mine =
     let known = row_known port key is in
-    let row = left (row_of port.rows key) slot update in
-    let low = holds_within (row_of port.rows key) key slot mine.holds in
     let some = mine.some in
-    let within : slot < length (pins_of port.pins key) = (let e = known.eight in omega (arith, few, low, e)) in
+    let within : slot < length (pins_of port.pins key) = (let e = known.eight in let low = mine.low in omega (arith, e, low)) in
     let sums = size_moves port.pins (place_of key (length port.pins)) slot (get_or (pins_of port.pins key) slot 0 - 1) known.pins_within within in
     record {
       problem = refl;
       units = omega arith;
       most = λ h. h;
       going = refl;
-      held = held_moves port.rows port.pins key row (set (pins_of port.pins key) slot (get_or (pins_of port.pins key) slot 0 - 1)) (slot_once (Slot slot) key) (λ k s. 0)
-          is.some is.as_many
-          (λ k s. omega (
-            arith,
-            held_left (row_of port.rows key) row (pins_of port.pins key) slot key mine.holds
-                (holds_left (row_of port.rows key) slot update key mine.holds) (λ t not. get_left_other (row_of port.rows key) slot t update not) within mine.some k s,
-          ))
-          (λ k s not. (once_apart key k slot s not, refl));
+      words = ap word_of (length-set port.pins (place_of key (length port.pins)) (set (pins_of port.pins key) slot (get_or (pins_of port.pins key) slot 0 - 1)));
+      held = λ word. let now = held_left port.pins key slot known.pins_within mine.low within mine.some word in omega (arith, now);
       size = omega (arith, sums, some);
       rooms = omega arith;
     }
 
-leave_same : (port : LonePortView) (after : List (List EntryView)) (key : Key) (update : Update) (p n slot : ℕ) (counts : List ℕ) → n ≡ length port.pins → p ≡ place_of key n → p < n
-    → counts ≡ get_or port.pins p counts → after ≡ with_row port.rows key (left (row_of port.rows key) slot update)
-    → after_leave port key slot update ≡ record port { rows = after; pins = set port.pins p (set counts slot (get_or counts slot 0 - 1)) }
-leave_same port after key update p n slot counts long at within is others =
+leave_same : (port : LonePortView) (after : List (List EntryView)) (key : Key) (p n slot : ℕ) (counts : List ℕ) (row : List EntryView) → n ≡ length port.pins → p ≡ place_of key n
+    → p < n → counts ≡ get_or port.pins p counts → after ≡ with_row port.rows key row
+    → after_leave port key slot row ≡ record port { rows = after; pins = set port.pins p (set counts slot (get_or counts slot 0 - 1)) }
+leave_same port after key p n slot counts row long at within is others =
     ap₂ (λ (rs : List (List EntryView)) (ps : List (List ℕ)). record port { rows = rs; pins = ps }) (sym others)
     (ap₂ (λ (q : ℕ) (c : List ℕ). set port.pins q (set c slot (get_or c slot 0 - 1))) (sym (at ∙ ap (place_of key) long)) (sym (found port.pins key p n counts long at within is)))
 
 -- Leaving a slot keeps what is kept.
 pub leave_keeps : (port : LonePortView) (after : List (List EntryView)) (key : Key) (update : Update) (p n slot : ℕ) (counts : List ℕ) → IsLone port
-    → n ≡ length port.pins → p ≡ place_of key n → p < n → counts ≡ get_or port.pins p counts
-    → ((other : Key) (s : ℕ) → slot_once (Slot slot) key other s ≤ held_in port.rows port.pins other s) → IsSoundUpdate port.desk.position.side key update
-    → after ≡ with_row port.rows key (left (row_of port.rows key) slot update)
+    → n ≡ length port.pins → p ≡ place_of key n → p < n → counts ≡ get_or port.pins p counts → IsOwn port.pins key slot
+    → IsSoundUpdate port.desk.position.side key update → IsLeftIn port.rows (Slot slot) key update after
     → IsLone (record port { rows = after; pins = set port.pins p (set counts slot (get_or counts slot 0 - 1)) })
-leave_keeps port after key update p n slot counts is long at within its held sound others =
-    subst IsLone (leave_same port after key update p n slot counts long at within its others) (leave_keeps_at port key slot update is (own port key slot held) sound)
+leave_keeps port after key update p n slot counts is long at within its mine sound leaves =
+    let left_so = left_row port key slot update after leaves in
+    subst IsLone (leave_same port after key p n slot counts left_so.row long at within its left_so.is) (leave_keeps_at port key slot update after left_so is mine sound)
 
 -- Leaving a slot is booked.
-pub leave_books : (port : LonePortView) (after : List (List EntryView)) (key : Key) (update : Update) (p n slot : ℕ) (counts : List ℕ) → IsLone port → All IsRow port.rows
-    → n ≡ length port.pins → p ≡ place_of key n → p < n → counts ≡ get_or port.pins p counts
-    → ((other : Key) (s : ℕ) → slot_once (Slot slot) key other s ≤ held_in port.rows port.pins other s)
-    → after ≡ with_row port.rows key (left (row_of port.rows key) slot update)
+pub leave_books : (port : LonePortView) (after : List (List EntryView)) (key : Key) (update : Update) (p n slot : ℕ) (counts : List ℕ) → IsLone port
+    → n ≡ length port.pins → p ≡ place_of key n → p < n → counts ≡ get_or port.pins p counts → IsOwn port.pins key slot
+    → IsLeftIn port.rows (Slot slot) key update after
     → IsBooked (Leave (Slot slot) key update, Some LeftIt) (book_of port) (book_of (record port { rows = after; pins = set port.pins p (set counts slot (get_or counts slot 0 - 1)) }))
-leave_books port after key update p n slot counts is rows long at within its held others =
+leave_books port after key update p n slot counts is long at within its mine leaves =
+    let left_so = left_row port key slot update after leaves in
     subst (λ (q : LonePortView). IsBooked (Leave (Slot slot) key update, Some LeftIt) (book_of port) (book_of q))
-    (leave_same port after key update p n slot counts long at within its others) (leave_books_at port key slot update is (row_few port key is rows) (own port key slot held))
+    (leave_same port after key p n slot counts left_so.row long at within its left_so.is) (leave_books_at port key slot update left_so.row is mine)
 
 -- 6. AT FIRST.
 
@@ -283,7 +271,7 @@ pub alone_suits : (port : LonePortView) (problem : Board) (expansions room rows 
 alone_suits port problem expansions room rows number is = subst (λ (q : LonePortView). Suits (worker_at_first problem number) (book_of q)) (sym is) (record {
   problem = refl;
   going = inl refl;
-  held = λ key slot. omega arith;
+  held = λ word. omega arith;
   some = omega arith;
   units = omega arith;
   size = let none = sum_by-replicate sum rows (replicate 8 0) in omega (arith, none);

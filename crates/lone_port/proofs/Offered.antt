@@ -1,4 +1,4 @@
--- What of slots is offered to the crates above; they cite no other lemma of this one.
-pub use Rattle.lone_port.proofs.Slots.{held_there}
+-- What of a table and a desk is offered to the crates above; they cite no other lemma of this one.
+pub use Rattle.lone_port.proofs.Words.{IsOwn, held_here, held_some, word_here, word_past}
 -- may cross threads
 pub use Rattle.lone_port.proofs.Sent.{lone_send}

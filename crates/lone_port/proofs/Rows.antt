@@ -1,5 +1,5 @@
 -- What entering a key and leaving a slot does to a row, its counts and its notes.
-use Rattle.std.proofs.Common.{◌≡◌, ◌≢◌, ◌<◌, ◌≤◌, ◌-◌, ◌++◌, ◌⊎◌, ℕ, zero, suc, Bool, true, false, List, [], ◌∷◌, length, get_or, drop, inl, inr, sym, subst, ap, ◌∙◌, refl, arith}
+use Rattle.std.proofs.Common.{◌≡◌, ◌<◌, ◌≤◌, ◌-◌, ◌++◌, ℕ, zero, suc, Bool, true, false, List, [], ◌∷◌, length, get_or, drop, inl, inr, sym, subst, ap, ◌∙◌, arith}
 use Rattle.std.specs.Prelude.{Some, All, IsSomeAnd, slice_get, if◌then◌else◌, ◌||◌, nat_lt}
 use Rattle.std.proofs.lemmas.List.{length-set, length_push}
 use Rattle.std.proofs.lemmas.List.Elements.{All-nil, All-cons, All-head, All-tail, All-push, All-set, All-drop}
@@ -20,19 +20,12 @@ use Rattle.table_shard.proofs.Offered.{holds_end, holds_within, holds_put}
 use Rattle.visit_log.specs.Round.{MayShow}
 use Rattle.visit_log.specs.Sound.{IsSoundUpdate}
 use Rattle.lone_port.specs.Lone.{AreFor}
-use Rattle.lone_port.proofs.Slots.{get_set_other, get_push_other}
 
 -- 1. ENTERING.
 
-zero_or_some : (n : ℕ) → (n ≡ 0) ⊎ (0 < n)
-zero_or_some zero = inl refl
-zero_or_some (suc n) = inr (omega arith)
-
--- What entering a key in a slot does: the slot has the key's entry, the others stay, and where it had none before no visit is below it.
+-- What entering a key in a slot does: the slot has the key's entry.
 pub record IsEntered (attacker : Side) (row : List EntryView) (counts : List ℕ) (key : Key) (slot : ℕ) (after : List EntryView) : Type 0 where
   pub holds : HoldsAt after slot key
-  pub others : (s : ℕ) → s ≢ slot → slice_get after s ≡ slice_get row s
-  pub before : HoldsAt row slot key ⊎ (get_or counts slot 0 ≡ 0)
   pub within : slot < 8
   pub grows : length row ≤ length after
   pub notes : All (AreFor attacker) row → All (AreFor attacker) after
@@ -45,8 +38,6 @@ pub entered : (attacker : Side) (row : List EntryView) (counts : List ℕ) (key 
     → ((s : ℕ) → 0 < get_or counts s 0 → s < length row) → Enters row counts key numbers (Slot slot) after → IsEntered attacker row counts key slot after
 entered attacker row counts key numbers slot after few there (inl h) = record {
   holds = subst (λ (r : List EntryView). HoldsAt r slot key) (sym h.1) h.0;
-  others = λ s not. ap (λ (r : List EntryView). slice_get r s) h.1;
-  before = inl h.0;
   within = let w = holds_within row key slot h.0 in omega (arith, w, few);
   grows = let e = ap length h.1 in omega (arith, e);
   notes = λ notes. subst (All (AreFor attacker)) (sym h.1) notes;
@@ -54,16 +45,12 @@ entered attacker row counts key numbers slot after few there (inl h) = record {
 entered attacker row counts key numbers slot after few there (inr (none, inl (room, at, is))) = record {
   holds = subst (λ (r : List EntryView). HoldsAt r slot key) (sym is)
       (subst (λ (s : ℕ). HoldsAt (row ++ fresh key numbers ∷ []) s key) (sym at) (holds_end row (fresh key numbers)));
-  others = λ s not. ap (λ (r : List EntryView). slice_get r s) is ∙ get_push_other row s (fresh key numbers) (λ q. not (q ∙ sym at));
-  before = elim (zero_or_some (get_or counts slot 0)) [ inl z ↦ inr z | inr some ↦ let w = there slot some in absurd (omega (arith, w, at)) ];
   within = omega (arith, at, room);
   grows = let e = ap length is in let n = length_push row (fresh key numbers) in omega (arith, e, n);
   notes = λ notes. subst (All (AreFor attacker)) (sym is) (All-push (AreFor attacker) row (fresh key numbers) notes (fresh_for attacker key numbers));
 }
 entered attacker row counts key numbers slot after few there (inr (none, inr (full, given, is))) = record {
   holds = subst (λ (r : List EntryView). HoldsAt r slot key) (sym is) (holds_put row slot (fresh key numbers) (idle given).0);
-  others = λ s not. ap (λ (r : List EntryView). slice_get r s) is ∙ get_set_other row slot s (fresh key numbers) not;
-  before = inr (idle given).1;
   within = let w = (idle given).0 in omega (arith, w, full);
   grows = let e = ap length is in let n = length-set row slot (fresh key numbers) in omega (arith, e, n);
   notes = λ notes. subst (All (AreFor attacker)) (sym is) (All-set (AreFor attacker) row slot (fresh key numbers) (fresh_for attacker key numbers) notes);

@@ -5,8 +5,9 @@ use Rattle.visit_log.specs.Frame.{task_for}
 use Rattle.visit_log.specs.Visit.{Exchange}
 use Rattle.visit_log.specs.Sound.{IsSoundRequest}
 use Rattle.visit_log.specs.Counts.{enters, leaves, enters_some, leaves_some}
+use Rattle.table_shard.specs.Spot.{word_of}
 use Rattle.worker_core.specs.Port.{units_by, rooms_by}
-use Rattle.lone_port.specs.Lone.{LonePortView, IsLone, Turns, held_in}
+use Rattle.lone_port.specs.Lone.{LonePortView, IsLone, Turns, held_by}
 
 -- A table and a desk as they are kept, and no row has more than eight entries.
 pub record IsKeptPort (port : LonePortView) : Type 0 where
@@ -16,12 +17,14 @@ pub record IsKeptPort (port : LonePortView) : Type 0 where
 -- What is asked may be: what it hands in is sound, and the slot that it leaves is entered.
 pub record MayAsk (port : LonePortView) (event : Exchange) : Type 0 where
   pub sound : IsSoundRequest (task_for port.desk.position 1) event.0
-  pub held : (key : Key) (slot : ℕ) → leaves event key slot ≤ held_in port.rows port.pins key slot
+  pub held : (word : ℕ) → leaves (word_of (length port.pins)) event word ≤ held_by port.pins word
 
 -- What is kept stays kept; and what is held, and what was given, changes by what the event enters, leaves and gives, and by nothing else.
 pub record IsCountedBy (event : Exchange) (before after : LonePortView) : Type 0 where
   pub kept : IsKeptPort after
-  pub held : (key : Key) (slot : ℕ) → held_in after.rows after.pins key slot + leaves event key slot ≡ held_in before.rows before.pins key slot + enters event key slot
+  pub as_many : length after.pins ≡ length before.pins
+  pub held : (word : ℕ) → held_by after.pins word + leaves (word_of (length before.pins)) event word
+      ≡ held_by before.pins word + enters (word_of (length before.pins)) event word
   pub size : sum_by sum after.pins + leaves_some event ≡ sum_by sum before.pins + enters_some event
   pub units : after.desk.drawn ≡ before.desk.drawn + units_by event
   pub rooms : after.desk.claimed ≡ before.desk.claimed + rooms_by event

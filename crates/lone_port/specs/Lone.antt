@@ -1,18 +1,16 @@
 -- A table, the counts of workers below its slots, and a desk: how a worker alone sees them, and what each request does with them.
-use Rattle.std.specs.Prelude.{◌≡◌, ◌<◌, ◌+◌, ◌-◌, ◌⊎◌, ℕ, Bool, true, false, List, [], Option, Some, None, All, length, replicate, slice_get, slice_set, slice_index, slice_index_or, sum, sum_by, if◌then◌else◌}
-use Rattle.std.specs.Ordering.{is_eq}
+use Rattle.std.specs.Prelude.{◌≡◌, ◌<◌, ◌+◌, ◌-◌, ◌/◌, ◌%◌, ◌⊎◌, ℕ, Bool, true, false, List, [], Option, Some, None, All, length, replicate, slice_set, slice_index, slice_index_or, sum, sum_by, if◌then◌else◌}
 use Rattle.bit_boards.specs.declared.piece.Side.{Side}
 use Rattle.board_core.specs.Board.{Board}
 use Rattle.board_core.specs.declared.keys.Key.{Key}
-use Rattle.board_core.specs.KeyOrder.{key_cmp}
 use Rattle.notes.specs.Derivation.{attacker_of}
 use Rattle.notes.specs.declared.words.Kept.{Kept}
 use Rattle.notes.specs.declared.words.Kept.TheVariants.{Slot, Unkept}
 use Rattle.notes.specs.declared.words.Update.{Update}
 use Rattle.table_shard.specs.Entry.{EntryView}
-use Rattle.table_shard.specs.Row.{HoldsAt, Lacks, Looks, left}
-use Rattle.table_shard.specs.Shard.{row_of, with_row, EntersIn}
-use Rattle.table_shard.specs.Spot.{place_of}
+use Rattle.table_shard.specs.Row.{HoldsAt, Lacks, Looks}
+use Rattle.table_shard.specs.Shard.{row_of, EntersIn, IsLeftAt}
+use Rattle.table_shard.specs.Spot.{place_of, word_of}
 use Rattle.unit_desk.specs.Desk.{DeskView, Draws, Claims, first_posted, fresh}
 use Rattle.visit_log.specs.declared.words.Request.{Request}
 use Rattle.visit_log.specs.declared.words.Request.TheVariants.{Poll, Draw, Claim, Look, Enter, Leave, Post}
@@ -60,14 +58,9 @@ abbrev pub unpinned : List (List ℕ) → Key → Kept → List (List ℕ)
 unpinned pins key Unkept = pins
 unpinned pins key (Slot slot) = with_pins pins key (slice_set (pins_of pins key) slot (slice_index (pins_of pins key) slot - 1))
 
--- How many visits are below the slot of a row, if the row has the key's entry there; else none.
-abbrev pub held_at : Option EntryView → Key → ℕ → ℕ
-held_at None key below = 0
-held_at (Some entry) key below = if is_eq (key_cmp entry.key key) then below else 0
-
--- How often the slot of the key is entered and not left.
-abbrev pub held_in : List (List EntryView) → List (List ℕ) → Key → ℕ → ℕ
-held_in rows pins key slot = held_at (slice_get (row_of rows key) slot) key (slice_index (pins_of pins key) slot)
+-- How often the slot of a word is entered and not left: the eight words of a row are the counts of its slots.
+abbrev pub held_by : List (List ℕ) → ℕ → ℕ
+held_by pins word = slice_index (slice_index_or pins (word / 8) []) (word % 8)
 
 -- How many visits are below the slot of the key's entry; none where its row has none.
 abbrev pub IsBelow : List (List EntryView) → List (List ℕ) → Key → ℕ → Type 0
@@ -77,7 +70,7 @@ IsBelow rows pins key count =
 
 -- What it tells of itself.
 abbrev pub book_of : LonePortView → Book
-book_of port = record { problem = port.desk.position; units = port.desk.drawn; going = port.going; held = held_in port.rows port.pins; size = sum_by sum port.pins; rooms = port.desk.claimed }
+book_of port = record { problem = port.desk.position; units = port.desk.drawn; going = port.going; words = word_of (length port.pins); held = held_by port.pins; size = sum_by sum port.pins; rooms = port.desk.claimed }
 
 -- The worker of this number in the search of the problem, before it asks anything.
 abbrev pub worker_at_first : Board → ℕ → WorkerView
@@ -103,10 +96,10 @@ pub record IsLone (port : LonePortView) : Type 0 where
 abbrev pub goes_on : Reply → Bool → Bool
 goes_on answer going = if ends_by (Some answer) then false else going
 
--- The rows after the key's entry in a slot was left with an update.
-abbrev pub left_in : List (List EntryView) → Kept → Key → Update → List (List EntryView)
-left_in rows Unkept key update = rows
-left_in rows (Slot slot) key update = with_row rows key (left (row_of rows key) slot update)
+-- The rows after what was entered so is left with an update: the slot's entry is updated where it is the key's; else nothing changes.
+abbrev pub IsLeftIn : List (List EntryView) → Kept → Key → Update → List (List EntryView) → Type 0
+IsLeftIn rows Unkept key update after = after ≡ rows
+IsLeftIn rows (Slot slot) key update after = IsLeftAt rows slot key update after
 
 -- From one state to the next, by a request of a worker on this path and its answer. It says whether the worker is to stop. The desk draws, claims
 -- and keeps what is posted; the table shows what its rows do on the path, or there is no memory for it; the key's row enters the key,
@@ -124,7 +117,7 @@ Turns before path (Enter key numbers) (Some (Entered kept)) after =
     EntersIn before.rows (pins_of before.pins key) key numbers kept after.rows
     × (after ≡ record before { rows = after.rows; pins = pinned before.pins key kept })
 Turns before path (Leave kept key update) (Some LeftIt) after =
-    after ≡ record before { rows = left_in before.rows kept key update; pins = unpinned before.pins key kept }
+    IsLeftIn before.rows kept key update after.rows × (after ≡ record before { rows = after.rows; pins = unpinned before.pins key kept })
 Turns before path (Post note) (Some PostedIt) after =
     after ≡ record before { desk = record before.desk { posted = first_posted before.desk.posted note } }
 Turns before path request answer after = ⊥

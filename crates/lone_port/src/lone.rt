@@ -211,7 +211,7 @@ impl Port for LonePort {
         self.shard.laws();
         let spot = self.shard.spot_of(key);
         self.pins[spot.place][slot as usize] -= 1;
-        self.shard.leave(spot, slot, key, update);
+        self.shard.leave_held(spot, slot, key, update);
     }
 
     fn post(&mut self, note: Note) {

@@ -1,5 +1,5 @@
 -- What a request does to a table and a desk: there is one answer to it, and one table and one desk behind it.
-use Rattle.std.proofs.Common.{◌≡◌, ℕ, List, refl, sym, subst, ap, ap₂, ◌∙◌, arith}
+use Rattle.std.proofs.Common.{◌≡◌, ℕ, List, refl, sym, subst, ap, ap₂, ◌∙◌, arith, inl, inr}
 use Rattle.std.specs.Prelude.{Some, length}
 use Rattle.board_core.specs.declared.keys.Key.{Key}
 use Rattle.pn_numbers.specs.declared.numbers.Numbers.{Numbers}
@@ -19,7 +19,7 @@ use Rattle.visit_log.specs.declared.words.Request.{Request}
 use Rattle.visit_log.specs.declared.words.Request.TheVariants.{Poll, Draw, Claim, Look, Enter, Leave, Post, End}
 use Rattle.visit_log.specs.declared.words.Reply.{Reply}
 use Rattle.visit_log.specs.declared.words.Reply.TheVariants.{Poll as Polled, Draw as Drew, Claim as Claimed, Look as Looked, Enter as Entered, Leave as LeftIt, Post as PostedIt}
-use Rattle.lone_port.specs.Lone.{LonePortView, Turns, pins_of, pinned, unpinned, goes_on, left_in}
+use Rattle.lone_port.specs.Lone.{LonePortView, Turns, pins_of, pinned, unpinned, goes_on, IsLeftIn}
 use Rattle.search_pool.proofs.Entering.{AreApartIn, enters_apart, left_apart, rows_apart, looks_once, enters_once}
 
 -- 1. THE DESK.
@@ -59,10 +59,19 @@ in_apart rows pins key numbers kept after apart h =
     subst AreApartIn (sym h.others) (rows_apart rows (place_of key (length rows)) h.row apart
     (enters_apart (row_of rows key) pins key numbers kept h.row (apart (place_of key (length rows))) h.enters))
 
-left_in_apart : (rows : List (List EntryView)) (kept : Kept) (key : Key) (update : Update) → AreApartIn rows → AreApartIn (left_in rows kept key update)
-left_in_apart rows Unkept key update apart = apart
-left_in_apart rows (Slot slot) key update apart =
-    rows_apart rows (place_of key (length rows)) (left (row_of rows key) slot update) apart (left_apart (row_of rows key) slot update (apart (place_of key (length rows))))
+left_in_apart : (rows after : List (List EntryView)) (kept : Kept) (key : Key) (update : Update) → IsLeftIn rows kept key update after → AreApartIn rows → AreApartIn after
+left_in_apart rows after Unkept key update h apart = subst AreApartIn (sym h) apart
+left_in_apart rows after (Slot slot) key update (inl updated) apart =
+    subst AreApartIn (sym updated.1)
+    (rows_apart rows (place_of key (length rows)) (left (row_of rows key) slot update) apart (left_apart (row_of rows key) slot update (apart (place_of key (length rows)))))
+left_in_apart rows after (Slot slot) key update (inr other) apart = subst AreApartIn (sym other.1) apart
+
+left_in_once : (rows one two : List (List EntryView)) (kept : Kept) (key : Key) (update : Update) → IsLeftIn rows kept key update one → IsLeftIn rows kept key update two → one ≡ two
+left_in_once rows one two Unkept key update h k = h ∙ sym k
+left_in_once rows one two (Slot slot) key update (inl h) (inl k) = h.1 ∙ sym k.1
+left_in_once rows one two (Slot slot) key update (inl h) (inr k) = absurd (k.0 h.0)
+left_in_once rows one two (Slot slot) key update (inr h) (inl k) = absurd (h.0 k.0)
+left_in_once rows one two (Slot slot) key update (inr h) (inr k) = h.1 ∙ sym k.1
 
 -- 3. ANY REQUEST.
 
@@ -97,7 +106,9 @@ turns_once before path (Enter key numbers) (Entered kept) (Entered other) one tw
     )
 turns_once before path (Enter key numbers) (Entered kept) b one two apart h k = absurd k
 turns_once before path (Enter key numbers) a b one two apart h k = absurd h
-turns_once before path (Leave kept key update) LeftIt LeftIt one two apart h k = (refl, h ∙ sym k)
+turns_once before path (Leave kept key update) LeftIt LeftIt one two apart h k =
+    let rows = left_in_once before.rows one.rows two.rows kept key update h.0 k.0 in
+    (refl, h.1 ∙ (ap (λ (rs : List (List EntryView)). record before { rows = rs; pins = unpinned before.pins key kept }) rows ∙ sym k.1))
 turns_once before path (Leave kept key update) LeftIt b one two apart h k = absurd k
 turns_once before path (Leave kept key update) a b one two apart h k = absurd h
 turns_once before path (Post note) PostedIt PostedIt one two apart h k = (refl, h ∙ sym k)
@@ -121,8 +132,7 @@ turns_apart before path (Look key) (Looked seen) after apart h = rows_by after b
 turns_apart before path (Look key) a after apart h = absurd h
 turns_apart before path (Enter key numbers) (Entered kept) after apart h = in_apart before.rows (pins_of before.pins key) key numbers kept after.rows apart h.0
 turns_apart before path (Enter key numbers) a after apart h = absurd h
-turns_apart before path (Leave kept key update) LeftIt after apart h =
-    rows_by after (record before { rows = left_in before.rows kept key update; pins = unpinned before.pins key kept }) h (left_in_apart before.rows kept key update apart)
+turns_apart before path (Leave kept key update) LeftIt after apart h = left_in_apart before.rows after.rows kept key update h.0 apart
 turns_apart before path (Leave kept key update) a after apart h = absurd h
 turns_apart before path (Post note) PostedIt after apart h =
     rows_by after (record before { desk = record before.desk { posted = first_posted before.desk.posted note } }) h apart

@@ -4,7 +4,6 @@ use Rattle.std.specs.Prelude.{Option, Some, None, IsSome}
 use Rattle.std.proofs.lemmas.List.Elements.{Contains-push_cases}
 use Rattle.std.proofs.lemmas.Bool.{false≢true}
 use Rattle.board_core.specs.declared.keys.Key.{Key}
-use Rattle.notes.specs.Derivation.{Derivation}
 use Rattle.notes.specs.declared.words.Draw.TheVariants.{Go, Done, Spent as AllDrawn}
 use Rattle.notes.specs.declared.words.RoomAnswer.TheVariants.{Room, NoRoom as Full}
 use Rattle.visit_log.specs.declared.words.Request.{Request}
@@ -12,7 +11,7 @@ use Rattle.visit_log.specs.declared.words.Request.TheVariants.{Poll, Draw as Dra
 use Rattle.visit_log.specs.declared.words.Reply.{Reply}
 use Rattle.visit_log.specs.declared.words.Reply.TheVariants.{Poll as Polled, Draw as Drew, Claim as Claimed, Look as Looked, Enter as Entered, Leave as LeftIt, Post as PostedIt}
 use Rattle.visit_log.specs.Visit.{Exchange}
-use Rattle.unit_desk.specs.Desk.{DeskView, first_posted}
+use Rattle.unit_desk.specs.Desk.{DeskView}
 use Rattle.unit_desk.proofs.Offered.{first_is}
 use Rattle.lone_port.specs.Lone.{LonePortView, Turns, opened}
 use Rattle.search_pool.specs.Inside.{says_spent, says_full, says_posted, WasSaid, IsToldDesk}
@@ -151,7 +150,7 @@ moves before path (Leave kept key update) (Some (Claimed (Room room))) after h =
 moves before path (Leave kept key update) (Some (Claimed Full)) after h = absurd h
 moves before path (Leave kept key update) (Some (Looked seen)) after h = absurd h
 moves before path (Leave kept key update) (Some (Entered kept_in)) after h = absurd h
-moves before path (Leave kept key update) (Some LeftIt) after h = stays_at before after ((Leave kept key update), Some LeftIt) (ap (λ (p : LonePortView). p.desk) h) refl refl refl
+moves before path (Leave kept key update) (Some LeftIt) after h = stays_at before after ((Leave kept key update), Some LeftIt) (ap (λ (p : LonePortView). p.desk) h.1) refl refl refl
 moves before path (Leave kept key update) (Some PostedIt) after h = absurd h
 moves before path (Post note) None after h = absurd h
 moves before path (Post note) (Some (Polled stop)) after h = absurd h

@@ -1,17 +1,17 @@
 -- A search with one worker goes on by one request.
 use Rattle.std.proofs.Common.{◌≡◌, inl, inr, ℕ, List, [], ◌∷◌, ◌++◌, arith, refl, sym, ap, ◌∙◌, subst, append_assoc, Bool, true, false}
-use Rattle.std.specs.Prelude.{Some, None, All, if◌then◌else◌}
+use Rattle.std.specs.Prelude.{None, All, if◌then◌else◌}
 use Rattle.std.proofs.lemmas.List.{map_push}
 use Rattle.std.proofs.lemmas.List.Elements.{All-push, All-append, All-cons, All-nil}
 use Rattle.board_core.specs.Board.{Board}
 use Rattle.search_limits.specs.Sizes.{SettingsView}
 use Rattle.visit_log.specs.Visit.{Exchange}
 use Rattle.visit_log.specs.Frame.{Task}
-use Rattle.visit_log.specs.Machine.{State, asks, end_of, path_of}
+use Rattle.visit_log.specs.Machine.{asks, end_of, path_of}
 use Rattle.visit_log.specs.Run.{WorkerView, Leads}
 use Rattle.visit_log.specs.declared.words.WorkEnd.TheVariants.{Stopped}
 use Rattle.worker_core.specs.Machine.{is_poll}
-use Rattle.worker_core.specs.Port.{Suits, KeepsOthers, Goes}
+use Rattle.worker_core.specs.Port.{Suits, KeepsOthers}
 use Rattle.worker_core.proofs.Offered.{goes_asks}
 use Rattle.lone_port.specs.Lone.{LonePortView, book_of, opened}
 use Rattle.search_gate.specs.Stop.{Signal, one_more, polled}

@@ -1,5 +1,5 @@
 -- A port suits a worker as it did before, once a position was entered and left.
-use Rattle.std.proofs.Common.{◌≡◌, ◌∙◌, inl, inr, Some, arith, sym}
+use Rattle.std.proofs.Common.{◌≡◌, ◌+◌, ◌∙◌, inl, inr, Some, arith, sym, ap, subst}
 use Rattle.board_core.specs.declared.keys.Key.{Key}
 use Rattle.notes.specs.declared.words.Kept.{Kept}
 use Rattle.notes.specs.declared.words.Update.{Update}
@@ -7,6 +7,7 @@ use Rattle.pn_numbers.specs.declared.numbers.Numbers.{Numbers}
 use Rattle.visit_log.specs.declared.words.Request.TheVariants.{Enter, Leave}
 use Rattle.visit_log.specs.declared.words.Reply.TheVariants.{Enter as Entered, Leave as LeftIt}
 use Rattle.visit_log.specs.Run.{WorkerView}
+use Rattle.visit_log.specs.Counts.{Words, own_slots, enters, leaves}
 use Rattle.worker_core.specs.Port.{Book, IsBooked, Suits}
 
 pub learnt_suits : (worker : WorkerView) (a b c : Book) (key : Key) (numbers : Numbers) (kept : Kept) (update : Update)
@@ -18,7 +19,12 @@ learnt_suits worker a b c key numbers kept update first second suits =
     record {
       problem = suits.problem ∙ sym (second.problem ∙ first.problem);
       going = elim suits.going [ inl goes ↦ inl (going ∙ goes) | inr winding ↦ inr winding ];
-      held = λ k slot. let one = first.held k slot in let two = second.held k slot in let h = suits.held k slot in omega (arith, one, two, h);
+      held = λ word.
+          let one = first.held word in
+          let two = subst (λ (ws : Words). c.held word + leaves ws (Leave kept key update, Some LeftIt) word ≡ b.held word + enters ws (Leave kept key update, Some LeftIt) word) first.words (second.held word) in
+          let h = suits.held word in
+          let z = ap (λ (ws : Words). own_slots ws worker.state.frames word) (second.words ∙ first.words) in
+          omega (arith, one, two, h, z);
       some = (let some = suits.some in omega (arith, size, some));
       units = (let own = suits.units in omega (arith, units, own));
       size = (let own = suits.size in omega (arith, size, units, own));

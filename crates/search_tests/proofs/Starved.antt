@@ -24,7 +24,7 @@ starved_suits v w book suits is alone =
     record {
       problem = ap (λ (z : WorkerView). z.task.problem) is ∙ suits.problem;
       going = inr (winds.0, stage);
-      held = λ key slot. let own = alone.slots key slot in let h = suits.held key slot in omega (arith, own, h);
+      held = λ word. let own = alone.slots book.words word in let h = suits.held word in omega (arith, own, h);
       some = (let own = alone.size in let some = suits.some in omega (arith, own, some));
       units = (let visits = alone.visits in let units = suits.units in omega (arith, visits, units));
       size = (let size = suits.size in omega (arith, none, size));

@@ -6,3 +6,4 @@ mod Marks
 mod Emptied
 pub mod Offered
 pub mod Sent
+mod Sites

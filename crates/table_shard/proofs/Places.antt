@@ -1,5 +1,5 @@
 -- Where a key's row is once one row has changed.
-use Rattle.std.proofs.Common.{◌≡◌, ◌≢◌, ◌<◌, ◌%◌, ℕ, List, [], length, get_or, set, inl, inr, sym, subst, ap, ◌∙◌, arith}
+use Rattle.std.proofs.Common.{◌≡◌, ◌≢◌, ◌<◌, ◌%◌, ℕ, List, [], length, get_or, set, inl, inr, sym, subst, ap, ◌∙◌, arith, refl}
 use Rattle.std.proofs.lemmas.Bool.{cases_eq}
 use Rattle.std.proofs.lemmas.List.{length-set, get_or-set_same, get_or-set_other}
 use Rattle.board_core.specs.declared.keys.Key.{Key}
@@ -7,7 +7,7 @@ use Rattle.table_shard.specs.Entry.{EntryView}
 use Rattle.pn_numbers.specs.declared.numbers.Numbers.{Numbers}
 use Rattle.notes.specs.declared.words.Kept.{Kept}
 use Rattle.table_shard.specs.Row.{HoldsAt, Enters, IsKeptAt}
-use Rattle.table_shard.specs.Shard.{row_of, with_row, KeepsPinned}
+use Rattle.table_shard.specs.Shard.{row_of, with_row, KeepsPinned, EntersIn}
 use Rattle.table_shard.specs.Spot.{hash_of, place_of, spot_of}
 use Rattle.table_shard.specs.declared.hash.Spot.{Spot}
 use Rattle.table_shard.proofs.Rows.{enters_held, enters_stays}
@@ -62,3 +62,10 @@ pinned_in rows place pins key numbers kept before row some is old enters other s
     (stays_in rows key other row slot some
     (λ same here. enters_stays before pins key numbers kept row slot other enters (pinned same) (subst (λ (r : List EntryView). HoldsAt r slot other) (sym old) here))
     h)
+
+-- So it is in a table that was entered.
+pub entered_at : (rows : List (List EntryView)) (pins : List ℕ) (key : Key) (numbers : Numbers) (kept : Kept) (after : List (List EntryView)) → 0 < length rows
+    → EntersIn rows pins key numbers kept after → IsKeptAt (row_of after key) key kept
+entered_at rows pins key numbers kept after some enters =
+    subst (λ (r : List (List EntryView)). IsKeptAt (row_of r key) key kept) (sym enters.others)
+    (kept_in rows (place_of key (length rows)) pins key numbers kept (row_of rows key) enters.row some refl enters.enters)

@@ -1,10 +1,11 @@
 -- A shard: rows, and what is done to the one that a position has.
-use Rattle.std.specs.Prelude.{◌≡◌, ◌<◌, ℕ, List, [], length, slice_index, slice_index_or, slice_set}
+use Rattle.std.specs.Prelude.{◌≡◌, ◌<◌, ◌⊎◌, ℕ, List, [], length, slice_index, slice_index_or, slice_set}
 use Rattle.board_core.specs.declared.keys.Key.{Key}
 use Rattle.pn_numbers.specs.declared.numbers.Numbers.{Numbers}
 use Rattle.notes.specs.declared.words.Kept.{Kept}
+use Rattle.notes.specs.declared.words.Update.{Update}
 use Rattle.table_shard.specs.Entry.{EntryView}
-use Rattle.table_shard.specs.Row.{HoldsAt, Enters}
+use Rattle.table_shard.specs.Row.{HoldsAt, Enters, left}
 use Rattle.table_shard.specs.Spot.{place_of}
 
 -- The key's row.
@@ -29,3 +30,9 @@ StaysAt rows after key slot = HoldsAt (row_of rows key) slot key → HoldsAt (ro
 abbrev pub KeepsPinned : List (List EntryView) → List ℕ → Key → List (List EntryView) → Type 0
 KeepsPinned rows pins key after =
     (other : Key) (slot : ℕ) → (place_of other (length rows) ≡ place_of key (length rows) → 0 < slice_index pins slot) → StaysAt rows after other slot
+
+-- The rows after a slot of the key's row is left with an update: the slot's entry is updated where it is the key's; else nothing changes.
+abbrev pub IsLeftAt : List (List EntryView) → ℕ → Key → Update → List (List EntryView) → Type 0
+IsLeftAt rows slot key update after =
+    (HoldsAt (row_of rows key) slot key × (after ≡ with_row rows key (left (row_of rows key) slot update)))
+    ⊎ ((¬ HoldsAt (row_of rows key) slot key) × (after ≡ rows))

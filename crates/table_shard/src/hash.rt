@@ -1,6 +1,6 @@
 // Which row a key has, and how it is told apart there at a glance.
-ghost use Rattle.std.specs.Prelude.{◌≡◌, ◌<◌, fold};
-ghost use Rattle.table_shard.specs.Spot.{hashed, hash_of, spot_of};
+ghost use Rattle.std.specs.Prelude.{◌≡◌, ◌<◌, ◌≤◌, ◌+◌, ◌*◌, ◌/◌, ◌%◌, ◌^◌, ℕ, fold};
+ghost use Rattle.table_shard.specs.Spot.{hashed, hash_of, spot_of, place_of, word_of};
 
 use board_core::Key;
 
@@ -56,5 +56,41 @@ pub(crate) fn spot_of(key: &Key, rows: usize) -> Spot
     Spot {
         place: (hash % rows as u64) as usize,
         mark: (hash >> 32) as u32,
+    }
+}
+
+/// Where a table that is cut into shards has a position: in which shard, where that shard has it, and which word counts the visits below the
+/// first slot of its row; the words of the other slots follow it.
+#[derive(Clone, Copy, Debug)]
+pub struct Site {
+    /// The shard, from 0.
+    pub shard: usize,
+    /// Where the shard has it.
+    pub spot: Spot,
+    /// The word of the row's first slot, from 0.
+    pub word: usize,
+}
+
+/// Where a table of so many shards, each of `own` rows, has the position of a key: in the row that a hash of the key's words names, modulo all
+/// rows. The shards have the rows in their order, so the row's place in its shard is that hash modulo the shard's own rows. Takes no memory.
+pub fn site_of(key: &Key, shards: usize, own: usize) -> Site
+    requires shards { 0 < shards }
+    requires own { 0 < own }
+    requires few { shards * own ≤ 2 ^ 40 }
+    ensures shard { result.shard ≡ place_of key.now (shards * own) / own }
+    ensures within { result.shard < shards }
+    ensures spot { result.spot ≡ spot_of key.now own }
+    ensures place { result.spot.place ≡ place_of key.now (shards * own) % own }
+    ensures words { (slot : ℕ) → slot < 8 → word_of (shards * own) key.now slot ≡ result.word + slot }
+{
+    let hash = hash_of(key);
+    let row = (hash % (shards * own) as u64) as usize;
+    Site {
+        shard: row / own,
+        spot: Spot {
+            place: (hash % own as u64) as usize,
+            mark: (hash >> 32) as u32,
+        },
+        word: 8 * row,
     }
 }

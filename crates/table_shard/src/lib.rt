@@ -14,5 +14,5 @@ mod hash;
 mod row;
 mod shard;
 
-pub use hash::Spot;
+pub use hash::{Site, Spot, site_of};
 pub use shard::Shard;

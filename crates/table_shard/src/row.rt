@@ -89,6 +89,16 @@ impl Row {
         slot_of(self.marks.as_slice(), &self.entries, mark, key)
     }
 
+    // Whether the slot has the key's entry.
+    pub(crate) fn holds(&self, slot: u8, key: &Key) -> bool
+        ensures { IsTrue result ↔ HoldsAt self.now slot key.now }
+    {
+        match self.entries.as_slice().get(slot as usize) {
+            Some(entry) => entry.is_of(key),
+            None => false,
+        }
+    }
+
     // What a look for the key shows. Errors: want of memory alone.
     pub(crate) fn look(
         &self,

@@ -1,10 +1,10 @@
 // A shard of the table.
-ghost use Rattle.std.specs.Prelude.{◌≡◌, ◌<◌, [], ℕ, List, IfOk, IfSome, IfNone, All, length, replicate};
+ghost use Rattle.std.specs.Prelude.{◌≡◌, ◌<◌, ◌↔◌, [], ℕ, List, IfOk, IfSome, IfNone, IsTrue, All, length, replicate};
 ghost use Rattle.board_core.specs.declared.keys.Key.{Key};
 ghost use Rattle.pn_numbers.specs.Numbers.{IsOpen};
 ghost use Rattle.table_shard.specs.Entry.{EntryView, FitsKey};
 ghost use Rattle.table_shard.specs.Row.{HoldsAt, Lacks, IsRow, IsKeptAt, Looks, left};
-ghost use Rattle.table_shard.specs.Shard.{row_of, with_row, EntersIn, KeepsPinned, StaysAt};
+ghost use Rattle.table_shard.specs.Shard.{row_of, with_row, EntersIn, KeepsPinned, StaysAt, IsLeftAt};
 ghost use Rattle.table_shard.specs.Spot.{spot_of};
 ghost use Rattle.table_shard.specs.Emptied.{AreUncounted};
 
@@ -105,6 +105,14 @@ impl Shard {
         self.rows[spot.place].slot_of(spot.mark, key)
     }
 
+    /// Whether the slot of the key's row has the key's entry. Takes no memory.
+    pub fn holds(&self, spot: Spot, slot: u8, key: &Key) -> bool
+        requires { spot ≡ spot_of key.now (length self.now) }
+        ensures { IsTrue result ↔ HoldsAt (row_of self.now key.now) slot key.now }
+    {
+        self.rows[spot.place].holds(slot, key)
+    }
+
     /// What the table shows of a position to a worker on the path: New exactly where it has no entry of the key; Solved with the first
     /// note that holds on the path, where one does; else Open with the numbers and how many workers are below. The note is shared.
     /// Errors: want of memory alone.
@@ -156,5 +164,17 @@ impl Shard {
         let row = &mut self.rows[spot.place];
         row.leave(slot as usize, update);
         row.laws();
+    }
+
+    /// Leaves a position for which entering was answered this slot, as [`leave`](Shard::leave) does, where the slot has its entry; where it
+    /// hasn't, nothing changes. So nobody has to know that the entry is still there. Takes no memory.
+    pub fn leave_held(&mut self, spot: Spot, slot: u8, key: &Key, update: Update)
+        requires spot { spot ≡ spot_of key.now (length self.old) }
+        requires fits { FitsKey key.now update }
+        ensures { IsLeftAt self.old slot key.now update self.new }
+    {
+        if self.holds(spot, slot, key) {
+            self.leave(spot, slot, key, update);
+        }
     }
 }

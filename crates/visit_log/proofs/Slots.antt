@@ -25,7 +25,7 @@ use Rattle.visit_log.specs.Frame.{Task, Place, FrameView, opened}
 use Rattle.visit_log.specs.Visit.{Exchange, kept_by}
 use Rattle.visit_log.specs.Machine.{State, at_stage, bare, entered_ones, wind, starve, starve_at, starve_winding, Settles, GoesOn, Opens, Sees, Makes, Returns, Begins, keep, update_by, one_unit, one_claim, rest_of, LeadsAt, LeadsTo, ask_enter, ask_look, ask_look_in, ask_leave, ask_post, asks_at, asks}
 use Rattle.visit_log.specs.Sound.{IsSoundAt, IsSound}
-use Rattle.visit_log.specs.Counts.{slot_once, kept_once, slot_of, slots_in, own_slots, own_size, enters, leaves, enters_some, leaves_some}
+use Rattle.visit_log.specs.Counts.{Words, slot_once, kept_once, slot_of, slots_in, own_slots, own_size, enters, leaves, enters_some, leaves_some}
 use Rattle.visit_log.specs.Laws.{SlotsMove, SizesMove, StarvingMovesNothing}
 
 -- 1. WHAT SLOTS WEIGH. The count of one slot and the number of all are sums of one kind.
@@ -213,18 +213,18 @@ moves : (w : Weight) (task : Task) (s t : State) (answer : Reply) → IsSound ta
     → total w t.frames + given w (asks s, Some answer) ≡ total w s.frames + taken w (asks s, Some answer)
 moves w task s t answer sound h = moves_at w task s t s.stage answer (sound_unentered task s.stage s.frames sound) h
 
--- the weight of one slot of a key, and that of all
-abbrev one_slot : Key → ℕ → Weight
-one_slot key slot = record { of = λ kept of. slot_once kept of key slot; unkept = λ of. refl }
+-- the weight of the slots of one word, and that of all
+abbrev one_word : Words → ℕ → Weight
+one_word words word = record { of = λ kept of. slot_once words kept of word; unkept = λ of. refl }
 
 abbrev all_slots : Weight
 all_slots = record { of = λ kept of. kept_once kept; unkept = λ of. refl }
 
-own_total : (fs : List FrameView) (key : Key) (slot : ℕ) → own_slots fs key slot ≡ total (one_slot key slot) fs
-own_total [] key slot = refl
-own_total (f ∷ fs) key slot = ap₂ (λ (a b : ℕ). a + b) (by_kept f.kept) (own_total fs key slot)
+own_total : (words : Words) (fs : List FrameView) (word : ℕ) → own_slots words fs word ≡ total (one_word words word) fs
+own_total words [] word = refl
+own_total words (f ∷ fs) word = ap₂ (λ (a b : ℕ). a + b) (by_kept f.kept) (own_total words fs word)
   where
-    by_kept : (o : Option Kept) → slot_of o f.place.key key slot ≡ weighed (one_slot key slot) o f.place.key
+    by_kept : (o : Option Kept) → slot_of words o f.place.key word ≡ weighed (one_word words word) o f.place.key
     by_kept None = refl
     by_kept (Some kept) = refl
 
@@ -236,13 +236,13 @@ size_total (f ∷ fs) = ap₂ (λ (a b : ℕ). a + b) (by_kept f.kept) (size_tot
     by_kept None = refl
     by_kept (Some kept) = refl
 
-enters_taken : (e : Exchange) (key : Key) (slot : ℕ) → enters e key slot ≡ taken (one_slot key slot) e
-enters_taken (Enter of numbers, Some (Entered kept)) key slot = refl
-enters_taken e key slot = refl
+enters_taken : (words : Words) (e : Exchange) (word : ℕ) → enters words e word ≡ taken (one_word words word) e
+enters_taken words (Enter of numbers, Some (Entered kept)) word = refl
+enters_taken words e word = refl
 
-leaves_given : (e : Exchange) (key : Key) (slot : ℕ) → leaves e key slot ≡ given (one_slot key slot) e
-leaves_given (Leave kept of update, Some LeftIt) key slot = refl
-leaves_given e key slot = refl
+leaves_given : (words : Words) (e : Exchange) (word : ℕ) → leaves words e word ≡ given (one_word words word) e
+leaves_given words (Leave kept of update, Some LeftIt) word = refl
+leaves_given words e word = refl
 
 enters_some_taken : (e : Exchange) → enters_some e ≡ taken all_slots e
 enters_some_taken (Enter of numbers, Some (Entered kept)) = refl
@@ -254,13 +254,13 @@ leaves_some_given e = refl
 
 -- Each answer changes the count of a slot by what it enters and leaves.
 pub slots_move : SlotsMove
-slots_move task s t answer key slot sound fits h = omega (
+slots_move words task s t answer word sound fits h = omega (
   arith,
-  moves (one_slot key slot) task s t answer sound h,
-  own_total s.frames key slot,
-  own_total t.frames key slot,
-  enters_taken (asks s, Some answer) key slot,
-  leaves_given (asks s, Some answer) key slot,
+  moves (one_word words word) task s t answer sound h,
+  own_total words s.frames word,
+  own_total words t.frames word,
+  enters_taken words (asks s, Some answer) word,
+  leaves_given words (asks s, Some answer) word,
 )
 
 -- And their number.
@@ -312,7 +312,7 @@ starve_counts s = by_stage s.stage
 -- Want of memory changes no slots, units or room.
 pub starving_alone : StarvingMovesNothing
 starving_alone s = record {
-  slots = λ key slot. own_total (starve s).frames key slot ∙ (starve_total (one_slot key slot) s ∙ sym (own_total s.frames key slot));
+  slots = λ words word. own_total words (starve s).frames word ∙ (starve_total (one_word words word) s ∙ sym (own_total words s.frames word));
   size = size_total (starve s).frames ∙ (starve_total all_slots s ∙ sym (size_total s.frames));
   visits = (starve_counts s).0;
   claims = (starve_counts s).1;

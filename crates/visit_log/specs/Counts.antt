@@ -1,9 +1,7 @@
--- What a worker counts: the slots that it has entered and not left, its units and its room; and what is still to come.
-use Rattle.std.specs.Prelude.{◌≡◌, ◌+◌, ◌-◌, ◌*◌, ◌==◌, ◌&&◌, ℕ, Bool, true, false, List, [], ◌∷◌, Option, Some, None, length, count_by, not, if◌then◌else◌}
-use Rattle.std.specs.Ordering.{is_eq}
+-- What a worker counts: the slots that it has entered and not left, by their words, its units and its room; and what is still to come.
+use Rattle.std.specs.Prelude.{◌≡◌, ◌+◌, ◌-◌, ◌*◌, ◌==◌, ℕ, Bool, true, false, List, [], ◌∷◌, Option, Some, None, length, count_by, not, if◌then◌else◌}
 use Rattle.search_limits.specs.declared.expansions.TheConstants.{MOST_EXPANSIONS}
 use Rattle.board_core.specs.declared.keys.Key.{Key}
-use Rattle.board_core.specs.KeyOrder.{key_cmp}
 use Rattle.notes.specs.declared.words.Kept.{Kept}
 use Rattle.notes.specs.declared.words.Kept.TheVariants.{Slot, Unkept}
 use Rattle.notes.specs.declared.words.Draw.{Draw}
@@ -23,45 +21,49 @@ use Rattle.visit_log.specs.Machine.{State}
 
 -- 1. SLOTS.
 
--- 1 where this is the slot of the key, else 0.
-abbrev pub slot_once : Kept → Key → Key → ℕ → ℕ
-slot_once Unkept of key slot = 0
-slot_once (Slot number) of key slot = if is_eq (key_cmp of key) && (number == slot) then 1 else 0
+-- Which word counts the visits below a slot, by the key whose row it is in: keys of one row have one word for each slot.
+abbrev pub Words : Type 0
+Words = Key → ℕ → ℕ
+
+-- 1 where it is the slot of a key that has this word, else 0.
+abbrev pub slot_once : Words → Kept → Key → ℕ → ℕ
+slot_once words Unkept of word = 0
+slot_once words (Slot number) of word = if words of number == word then 1 else 0
 
 -- 1 where it is some slot, else 0.
 abbrev pub kept_once : Kept → ℕ
 kept_once Unkept = 0
 kept_once (Slot number) = 1
 
--- 1 where what entering was answered is this slot of the key, else 0; 0 where nothing was answered yet.
-abbrev pub slot_of : Option Kept → Key → Key → ℕ → ℕ
-slot_of None of key slot = 0
-slot_of (Some kept) of key slot = slot_once kept of key slot
+-- 1 where what entering was answered is a slot that has this word, else 0; 0 where nothing was answered yet.
+abbrev pub slot_of : Words → Option Kept → Key → ℕ → ℕ
+slot_of words None of word = 0
+slot_of words (Some kept) of word = slot_once words kept of word
 
 -- 1 where what entering was answered is some slot, else 0.
 abbrev pub slots_in : Option Kept → ℕ
 slots_in None = 0
 slots_in (Some kept) = kept_once kept
 
--- How many of these visits have entered this slot of the key.
-abbrev pub own_slots : List FrameView → Key → ℕ → ℕ
-own_slots [] key slot = 0
-own_slots (f ∷ fs) key slot = slot_of f.kept f.place.key key slot + own_slots fs key slot
+-- How many of these visits have entered a slot that has this word.
+abbrev pub own_slots : Words → List FrameView → ℕ → ℕ
+own_slots words [] word = 0
+own_slots words (f ∷ fs) word = slot_of words f.kept f.place.key word + own_slots words fs word
 
 -- How many of these visits have entered a slot.
 abbrev pub own_size : List FrameView → ℕ
 own_size [] = 0
 own_size (f ∷ fs) = slots_in f.kept + own_size fs
 
--- How often an event enters this slot of the key, and how often it leaves it.
-abbrev pub enters : Exchange → Key → ℕ → ℕ
-enters (Enter of numbers, Some (Entered kept)) key slot = slot_once kept of key slot
-enters event key slot = 0
+-- How often an event enters a slot that has this word.
+abbrev pub enters : Words → Exchange → ℕ → ℕ
+enters words (Enter of numbers, Some (Entered kept)) word = slot_once words kept of word
+enters words event word = 0
 
--- How often it leaves this slot of the key.
-abbrev pub leaves : Exchange → Key → ℕ → ℕ
-leaves (Leave kept of update, Some LeftIt) key slot = slot_once kept of key slot
-leaves event key slot = 0
+-- How often it leaves one.
+abbrev pub leaves : Words → Exchange → ℕ → ℕ
+leaves words (Leave kept of update, Some LeftIt) word = slot_once words kept of word
+leaves words event word = 0
 
 -- How often an event enters some slot, and how often it leaves one.
 abbrev pub enters_some : Exchange → ℕ

@@ -22,7 +22,7 @@ use Rattle.visit_log.specs.Unmade.{EndsTooHigh}
 use Rattle.visit_log.specs.Machine.{State, start, asks, starve, end_of, path_of, Fits, LeadsTo}
 use Rattle.visit_log.specs.Run.{Happening, Runs, Happens, event, events, IsBegunLog}
 use Rattle.visit_log.specs.Sound.{IsTask, IsSound, IsSoundRequest, IsSoundPlace, IsSoundVisit, IsLookedAt, IsNoteOf}
-use Rattle.visit_log.specs.Counts.{own_slots, own_size, enters, leaves, enters_some, leaves_some, units_in, rooms_in, gives_unit, gives_room, asks_room, to_come, AreBrackets}
+use Rattle.visit_log.specs.Counts.{Words, own_slots, own_size, enters, leaves, enters_some, leaves_some, units_in, rooms_in, gives_unit, gives_room, asks_room, to_come, AreBrackets}
 
 -- A law: whatever happens to a worker, its log is the beginning of a visit log.
 abbrev pub LogsBegin : Type 0
@@ -53,11 +53,11 @@ StaysSound = (task : Task) (s t : State) (happening : Happening) → IsTask task
 abbrev pub AsksSound : Type 0
 AsksSound = (task : Task) (s : State) → IsTask task → IsSound task s → IsSoundRequest task (asks s)
 
--- A law: an event changes a sound worker's own slots by what it enters and leaves.
+-- A law: an event changes a sound worker's own slots by what it enters and leaves, whatever words they have.
 abbrev pub SlotsMove : Type 0
-SlotsMove = (task : Task) (s t : State) (answer : Reply) (key : Key) (slot : ℕ) → IsSound task s
+SlotsMove = (words : Words) (task : Task) (s t : State) (answer : Reply) (word : ℕ) → IsSound task s
     → Fits task s answer → LeadsTo task s answer t
-    → own_slots t.frames key slot + leaves (asks s, Some answer) key slot ≡ own_slots s.frames key slot + enters (asks s, Some answer) key slot
+    → own_slots words t.frames word + leaves words (asks s, Some answer) word ≡ own_slots words s.frames word + enters words (asks s, Some answer) word
 
 -- A law: and their number.
 abbrev pub SizesMove : Type 0
@@ -66,7 +66,7 @@ SizesMove = (task : Task) (s t : State) (answer : Reply) → IsSound task s → 
 
 -- A law: what a worker asks to leave is its own.
 abbrev pub LeavesOwn : Type 0
-LeavesOwn = (s : State) (answer : Reply) (key : Key) (slot : ℕ) → leaves (asks s, Some answer) key slot ≤ own_slots s.frames key slot
+LeavesOwn = (words : Words) (s : State) (answer : Reply) (word : ℕ) → leaves words (asks s, Some answer) word ≤ own_slots words s.frames word
 
 -- A law: and it has entered a slot where it asks to leave one.
 abbrev pub LeavesSome : Type 0
@@ -74,7 +74,7 @@ LeavesSome = (s : State) (answer : Reply) → leaves_some (asks s, Some answer) 
 
 -- A law: starving changes no slots, units or room.
 pub record IsLeftAlone (s t : State) : Type 0 where
-  pub slots : (key : Key) (slot : ℕ) → own_slots t.frames key slot ≡ own_slots s.frames key slot
+  pub slots : (words : Words) (word : ℕ) → own_slots words t.frames word ≡ own_slots words s.frames word
   pub size : own_size t.frames ≡ own_size s.frames
   pub visits : t.visits ≡ s.visits
   pub claims : t.claims ≡ s.claims

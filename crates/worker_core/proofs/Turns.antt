@@ -25,7 +25,7 @@ use Rattle.visit_log.specs.Visit.{Exchange, IsVisitLog}
 use Rattle.visit_log.specs.Machine.{State, asks, asked, asked_at, starve, end_of, path_of, Fits, LeadsTo}
 use Rattle.visit_log.specs.Run.{Leads, WorkerView, Happens, Told, Dark, IsReached, IsLooking, now_at}
 use Rattle.visit_log.specs.Sound.{IsSoundRequest, IsSoundUpdate, IsAnswer}
-use Rattle.visit_log.specs.Counts.{own_slots, own_size, slot_once, enters, leaves, enters_some, leaves_some, units_in, rooms_in, to_come}
+use Rattle.visit_log.specs.Counts.{Words, own_slots, own_size, slot_once, enters, leaves, enters_some, leaves_some, units_in, rooms_in, to_come}
 use Rattle.visit_log.specs.Laws.{IsLeftAlone, LeavesOwn}
 use Rattle.worker_core.specs.Port.{Book, IsBooked, entering, Went, Suits, KeepsOthers, WentBy}
 use Rattle.worker_core.proofs.Reached.{starve_now}
@@ -58,12 +58,12 @@ few_slots v book key numbers suits e =
 
 -- What it leaves is held.
 pub left_held : LeavesOwn → (v : WorkerView) (book : Book) (kept : Kept) (key : Key) (update : Update) → Suits v book → Leave kept key update ≡ asks v.state
-    → (other : Key) (slot : ℕ) → slot_once kept key other slot ≤ book.held other slot
-left_held law v book kept key update suits e other slot =
-    let own : leaves (asks v.state, Some LeftIt) other slot ≤ own_slots v.state.frames other slot = law v.state LeftIt other slot in
-    let this : leaves (Leave kept key update, Some LeftIt) other slot ≡ leaves (asks v.state, Some LeftIt) other slot =
-    ap (λ (z : Request). leaves (z, Some LeftIt) other slot) e in
-    let held = suits.held other slot in
+    → (word : ℕ) → slot_once book.words kept key word ≤ book.held word
+left_held law v book kept key update suits e word =
+    let own : leaves book.words (asks v.state, Some LeftIt) word ≤ own_slots book.words v.state.frames word = law book.words v.state LeftIt word in
+    let this : leaves book.words (Leave kept key update, Some LeftIt) word ≡ leaves book.words (asks v.state, Some LeftIt) word =
+    ap (λ (z : Request). leaves book.words (z, Some LeftIt) word) e in
+    let held = suits.held word in
     omega (arith, own, this, held)
 
 -- The update with which it leaves is one for the port's problem.
@@ -120,7 +120,8 @@ pub turned_by : {P : Type 0} (turn : P → List Key → Request → Option Reply
     → q ≡ asks v.state → m ≡ once_asked v → turn pa (path_of v.task v.state.frames) q (Some a) pb → IsBooked (q, Some a) (book pa) (book pb) → Suits v (book pa) → w.task ≡ m.task
     → ((log : List Exchange) (s : State) → Leads m.task log s → m.state ≡ asked s → Leads m.task (log ++ (asks s, Some a) ∷ []) w.state)
     → ((s : State) → m.state ≡ asked s → Happens m.task s (Told (asks s) a) w.state) → LeadsTo m.task m.state a w.state
-    → ((key : Key) (slot : ℕ) → own_slots w.state.frames key slot + leaves (asks m.state, Some a) key slot ≡ own_slots m.state.frames key slot + enters (asks m.state, Some a) key slot)
+    → ((words : Words) (word : ℕ) → own_slots words w.state.frames word + leaves words (asks m.state, Some a) word
+    ≡ own_slots words m.state.frames word + enters words (asks m.state, Some a) word)
     → own_size w.state.frames + leaves_some (asks m.state, Some a) ≡ own_size m.state.frames + enters_some (asks m.state, Some a)
     → w.state.visits ≡ m.state.visits + units_in a → w.state.claims ≡ m.state.claims + rooms_in a → to_come w.state < to_come m.state → Turned turn book pa pb v w (q, Some a)
 turned_by turn book pa pb v w m q a eq em t booked suits task log happens leads slots sizes visits claims less =
@@ -134,18 +135,19 @@ turned_by turn book pa pb v w m q a eq em t booked suits task log happens leads 
     let v1 : m.state.visits ≡ s.visits = ap (λ (z : State). z.visits) ms in
     let c1 : m.state.claims ≡ s.claims = ap (λ (z : State). z.claims) ms in
     let st : m.state.stage ≡ asked_at s.stage = ap (λ (z : State). z.stage) ms in
-    let own : (key : Key) (slot : ℕ) → own_slots w.state.frames key slot + leaves (q, Some a) key slot ≡ own_slots s.frames key slot + enters (q, Some a) key slot =
-    λ k x.
-    let move = slots k x in
-    let same = asked_same s a k x in
-    let o : own_slots m.state.frames k x ≡ own_slots s.frames k x = ap (λ (z : List FrameView). own_slots z k x) f1 in
-    let i : enters (asks m.state, Some a) k x ≡ enters (q, Some a) k x =
-    ap (λ (z : State). enters (asks z, Some a) k x) ms ∙ (same.0 ∙ ap (λ (z : Request). enters (z, Some a) k x) (sym eq)) in
-    let l : leaves (asks m.state, Some a) k x ≡ leaves (q, Some a) k x =
-    ap (λ (z : State). leaves (asks z, Some a) k x) ms ∙ (same.1 ∙ ap (λ (z : Request). leaves (z, Some a) k x) (sym eq)) in
+    let words : Words = b.words in
+    let own : (word : ℕ) → own_slots words w.state.frames word + leaves words (q, Some a) word ≡ own_slots words s.frames word + enters words (q, Some a) word =
+    λ x.
+    let move = slots words x in
+    let same = asked_same words s a x in
+    let o : own_slots words m.state.frames x ≡ own_slots words s.frames x = ap (λ (z : List FrameView). own_slots words z x) f1 in
+    let i : enters words (asks m.state, Some a) x ≡ enters words (q, Some a) x =
+    ap (λ (z : State). enters words (asks z, Some a) x) ms ∙ (same.0 ∙ ap (λ (z : Request). enters words (z, Some a) x) (sym eq)) in
+    let l : leaves words (asks m.state, Some a) x ≡ leaves words (q, Some a) x =
+    ap (λ (z : State). leaves words (asks z, Some a) x) ms ∙ (same.1 ∙ ap (λ (z : Request). leaves words (z, Some a) x) (sym eq)) in
     omega (arith, move, o, i, l) in
     let size : own_size w.state.frames + leaves_some (q, Some a) ≡ own_size s.frames + enters_some (q, Some a) =
-    let same = asked_same s a (record { 0 = [] }) 0 in
+    let same = asked_same words s a 0 in
     let o : own_size m.state.frames ≡ own_size s.frames = ap own_size f1 in
     let i : enters_some (asks m.state, Some a) ≡ enters_some (q, Some a) =
     ap (λ (z : State). enters_some (asks z, Some a)) ms ∙ (same.2 ∙ ap (λ (z : Request). enters_some (z, Some a)) (sym eq)) in
@@ -159,8 +161,8 @@ turned_by turn book pa pb v w m q a eq em t booked suits task log happens leads 
     let room : d.rooms ≡ b.rooms + rooms_in a = booked.rooms in
     let asks_this : Happens v.task s (Told q a) w.state =
     subst (λ (z : Request). Happens v.task s (Told z a) w.state) (sym eq) (subst (λ (z : Task). Happens z s (Told (asks s) a) w.state) mt (happens s ms)) in
-    let held : (key : Key) (slot : ℕ) → d.held key slot + own_slots s.frames key slot ≡ b.held key slot + own_slots w.state.frames key slot =
-    λ k x. let o = own k x in let h = booked.held k x in omega (arith, o, h) in
+    let held : (word : ℕ) → d.held word + own_slots words s.frames word ≡ b.held word + own_slots words w.state.frames word =
+    λ x. let o = own x in let h = booked.held x in omega (arith, o, h) in
     let all : d.size + own_size s.frames ≡ b.size + own_size w.state.frames = let h = booked.size in omega (arith, size, h) in
     let costs : to_come m.state ≡ to_come s = ap to_come ms ∙ asked_costs s in
     record {
@@ -168,7 +170,11 @@ turned_by turn book pa pb v w m q a eq em t booked suits task log happens leads 
         problem = ap (λ (z : Task). z.problem) wt ∙ (suits.problem ∙ sym booked.problem);
         going = going_after m.task m.state m.state.stage a w.state b.going d.going leads
             (subst (Going b.going) (sym st) (going_asked b.going s.stage suits.going)) booked.going;
-        held = λ k x. let h = held k x in let r = suits.held k x in omega (arith, h, r);
+        held = λ x.
+            let h = held x in
+            let r = suits.held x in
+            let z : own_slots d.words w.state.frames x ≡ own_slots words w.state.frames x = ap (λ (ws : Words). own_slots ws w.state.frames x) booked.words in
+            omega (arith, h, r, z);
         some = (let r = suits.some in omega (arith, all, r));
         units = (let r = suits.units in omega (arith, visits, v1, gave, r));
         size = (let r = suits.size in let h = booked.size in omega (arith, r, h, few, unit, gave));
@@ -180,7 +186,7 @@ turned_by turn book pa pb v w m q a eq em t booked suits task log happens leads 
         log = λ l h. subst (λ (z : Request). Leads v.task (l ++ (z, Some a) ∷ []) w.state) (sym eq)
             (subst (λ (z : Task). Leads z (l ++ (asks s, Some a) ∷ []) w.state) mt (log l s (subst (λ (z : Task). Leads z l s) (sym mt) h) ms));
       };
-      others = record { held = held; size = all; units = omega (arith, visits, v1, gave); rooms = omega (arith, claims, c1, room) };
+      others = record { words = booked.words; held = held; size = all; units = omega (arith, visits, v1, gave); rooms = omega (arith, claims, c1, room) };
       less = omega (arith, costs, less);
     }
 
@@ -202,14 +208,15 @@ turned_dark turn book pa pb v w m key eq em t booked suits ew dark alone =
     let v1 : m.state.visits ≡ s.visits = ap (λ (z : State). z.visits) ms in
     let c1 : m.state.claims ≡ s.claims = ap (λ (z : State). z.claims) ms in
     let at : IsLooking s.stage = looking_at key s.stage s.frames eq in
-    let own : (key : Key) (slot : ℕ) → own_slots w.state.frames key slot ≡ own_slots s.frames key slot =
-    λ k x. alone.slots k x ∙ ap (λ (z : List FrameView). own_slots z k x) f1 in
+    let words : Words = b.words in
+    let own : (word : ℕ) → own_slots words w.state.frames word ≡ own_slots words s.frames word =
+    λ x. alone.slots words x ∙ ap (λ (z : List FrameView). own_slots words z x) f1 in
     let size : own_size w.state.frames ≡ own_size s.frames = alone.size ∙ ap own_size f1 in
     let winds : w.state.stage ≡ Winding NoMemory = ap (λ (z : State). z.stage) ws ∙ starves_wind s at in
     let unit : entering w.state.stage ≡ 0 = ap entering winds in
     let gave : d.units ≡ b.units + 0 = booked.units in
     let now : d.size + 0 ≡ b.size + 0 = booked.size in
-    let same : (key : Key) (slot : ℕ) → d.held key slot + 0 ≡ b.held key slot + 0 = booked.held in
+    let same : (word : ℕ) → d.held word + 0 ≡ b.held word + 0 = booked.held in
     let visits : w.state.visits ≡ m.state.visits = alone.visits in
     let claims : w.state.claims ≡ m.state.claims = alone.claims in
     let room : d.rooms ≡ b.rooms + 0 = booked.rooms in
@@ -221,7 +228,12 @@ turned_dark turn book pa pb v w m key eq em t booked suits ew dark alone =
       suits = record {
         problem = ap (λ (z : Task). z.problem) wt ∙ (suits.problem ∙ sym booked.problem);
         going = inr (NoMemory, winds);
-        held = λ k x. let o = own k x in let h = same k x in let r = suits.held k x in omega (arith, o, h, r);
+        held = λ x.
+            let o = own x in
+            let h = same x in
+            let r = suits.held x in
+            let z : own_slots d.words w.state.frames x ≡ own_slots words w.state.frames x = ap (λ (ws : Words). own_slots ws w.state.frames x) booked.words in
+            omega (arith, o, h, r, z);
         some = (let r = suits.some in omega (arith, size, now, r));
         units = (let r = suits.units in omega (arith, visits, v1, gave, r));
         size = (let r = suits.size in omega (arith, r, now, unit, gave));
@@ -235,7 +247,8 @@ turned_dark turn book pa pb v w m key eq em t booked suits ew dark alone =
             (dark l s (subst (λ (z : Task). Leads z l s) (sym mt) h) ms at));
       };
       others = record {
-        held = λ k x. let o = own k x in let h = same k x in omega (arith, o, h);
+        words = booked.words;
+        held = λ x. let o = own x in let h = same x in omega (arith, o, h);
         size = omega (arith, size, now);
         units = omega (arith, visits, v1, gave);
         rooms = omega (arith, claims, c1, room);
@@ -255,7 +268,7 @@ went_none turn p v = record {
 
 -- What the port holds beside the worker's own slots is what it was.
 pub keeps_none : (v : WorkerView) (book : Book) → KeepsOthers v v book book
-keeps_none v book = record { held = λ k x. refl; size = refl; units = refl; rooms = refl }
+keeps_none v book = record { words = refl; held = λ x. refl; size = refl; units = refl; rooms = refl }
 
 went_then : {P : Type 0} (turn : P → List Key → Request → Option Reply → P → Type 0) (task : Task) (a m b : P) (s t u : State) (es fs : List Exchange)
     → Went turn task a s es m t → Went turn task m t fs b u → Went turn task a s (es ++ fs) b u
@@ -278,7 +291,11 @@ went_on turn p0 p1 p2 w0 w1 w2 es fs one two = record {
 -- And keeps what the other kept.
 pub keeps_on : (w0 w1 w2 : WorkerView) (b0 b1 b2 : Book) → KeepsOthers w0 w1 b0 b1 → KeepsOthers w1 w2 b1 b2 → KeepsOthers w0 w2 b0 b2
 keeps_on w0 w1 w2 b0 b1 b2 one two = record {
-  held = λ k x. let h = one.held k x in let j = two.held k x in omega (arith, h, j);
+  words = two.words ∙ one.words;
+  held = λ x.
+      let h = one.held x in
+      let j = subst (λ (ws : Words). b2.held x + own_slots ws w1.state.frames x ≡ b1.held x + own_slots ws w2.state.frames x) one.words (two.held x) in
+      omega (arith, h, j);
   size = (let h = one.size in let j = two.size in omega (arith, h, j));
   units = (let h = one.units in let j = two.units in omega (arith, h, j));
   rooms = (let h = one.rooms in let j = two.rooms in omega (arith, h, j));

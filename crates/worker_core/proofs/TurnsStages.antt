@@ -26,7 +26,7 @@ use Rattle.visit_log.specs.Frame.{Task, FrameView, attacker_in}
 use Rattle.visit_log.specs.Round.{MayShow}
 use Rattle.visit_log.specs.Machine.{State, at_stage, wind, starve, Settles, Opens, Sees, Makes, Returns, LeadsAt, Fits, rest_of, path_of, asks, asks_at, ask_look, ask_leave, ask_post, asked, asked_at}
 use Rattle.visit_log.specs.Run.{IsLooking}
-use Rattle.visit_log.specs.Counts.{enters, leaves, enters_some, leaves_some, units_in, to_come}
+use Rattle.visit_log.specs.Counts.{Words, enters, leaves, enters_some, leaves_some, units_in, to_come}
 use Rattle.visit_log.specs.Visit.{Exchange}
 use Rattle.visit_log.proofs.Offered.{length-entered}
 use Rattle.worker_core.specs.Port.{ends_by, entering, Goes}
@@ -404,20 +404,20 @@ asked_costs s = by_stage s.stage
     by_stage (Winding end) = refl
 
 -- Both events enter and leave the same.
-abbrev pub IsSame : Request → Request → Reply → Key → ℕ → Type 0
-IsSame q r a key slot =
-    (enters (q, Some a) key slot ≡ enters (r, Some a) key slot) × (leaves (q, Some a) key slot ≡ leaves (r, Some a) key slot)
+abbrev pub IsSame : Words → Request → Request → Reply → ℕ → Type 0
+IsSame words q r a word =
+    (enters words (q, Some a) word ≡ enters words (r, Some a) word) × (leaves words (q, Some a) word ≡ leaves words (r, Some a) word)
     × (enters_some (q, Some a) ≡ enters_some (r, Some a)) × (leaves_some (q, Some a) ≡ leaves_some (r, Some a))
 
 -- What it would ask once more enters and leaves what it asked does.
-pub asked_same : (s : State) (a : Reply) (key : Key) (slot : ℕ) → IsSame (asks (asked s)) (asks s) a key slot
-asked_same s a key slot = by_stage s.stage
+pub asked_same : (words : Words) (s : State) (a : Reply) (word : ℕ) → IsSame words (asks (asked s)) (asks s) a word
+asked_same words s a word = by_stage s.stage
   where
-    by_note : (note : Option Derivation) → IsSame (ask_post None) (ask_post note) a key slot
+    by_note : (note : Option Derivation) → IsSame words (ask_post None) (ask_post note) a word
     by_note None = (refl, refl, refl, refl)
     by_note (Some note) = (refl, refl, refl, refl)
 
-    by_stage : (st : Stage) → IsSame (asks_at (asked_at st) s.frames) (asks_at st s.frames) a key slot
+    by_stage : (st : Stage) → IsSame words (asks_at (asked_at st) s.frames) (asks_at st s.frames) a word
     by_stage (Polling e) = (refl, refl, refl, refl)
     by_stage (Drawing e) = (refl, refl, refl, refl)
     by_stage Entering = (refl, refl, refl, refl)

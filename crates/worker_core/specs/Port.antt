@@ -16,15 +16,17 @@ use Rattle.visit_log.specs.Visit.{Exchange}
 use Rattle.visit_log.specs.Frame.{Task}
 use Rattle.visit_log.specs.Machine.{State, path_of}
 use Rattle.visit_log.specs.Run.{WorkerView, Leads, Happens, Told, Dark}
-use Rattle.visit_log.specs.Counts.{own_slots, own_size, enters, leaves, enters_some, leaves_some, units_in, rooms_in}
+use Rattle.visit_log.specs.Counts.{Words, own_slots, own_size, enters, leaves, enters_some, leaves_some, units_in, rooms_in}
 
 -- What a port tells: the problem; how many units it gave; whether it goes on (it said neither that all is done or spent nor that there is no room);
--- how often each slot of a key is entered and not left; how many slots that is in all; and for how many notes it gave room.
+-- which word each slot of a key's row has; how often the slot of a word is entered and not left; how many slots that is in all; and for how many
+-- notes it gave room.
 pub record Book : Type 0 where
   pub problem : Board
   pub units : ℕ
   pub going : Bool
-  pub held : Key → ℕ → ℕ
+  pub words : Words
+  pub held : ℕ → ℕ
   pub size : ℕ
   pub rooms : ℕ
 
@@ -51,7 +53,8 @@ pub record IsBooked (event : Exchange) (before after : Book) : Type 0 where
   pub units : after.units ≡ before.units + units_by event
   pub most : before.units ≤ MOST_EXPANSIONS → after.units ≤ MOST_EXPANSIONS
   pub going : after.going ≡ (if ends_by event.1 then false else before.going)
-  pub held : (key : Key) (slot : ℕ) → after.held key slot + leaves event key slot ≡ before.held key slot + enters event key slot
+  pub words : after.words ≡ before.words
+  pub held : (word : ℕ) → after.held word + leaves before.words event word ≡ before.held word + enters before.words event word
   pub size : after.size + leaves_some event ≡ before.size + enters_some event
   pub rooms : after.rooms ≡ before.rooms + rooms_by event
 
@@ -83,15 +86,17 @@ entering stage = 0
 pub record Suits (worker : WorkerView) (book : Book) : Type 0 where
   pub problem : worker.task.problem ≡ book.problem
   pub going : (book.going ≡ true) ⊎ ((end : WorkEnd) × (worker.state.stage ≡ Winding end))
-  pub held : (key : Key) (slot : ℕ) → own_slots worker.state.frames key slot ≤ book.held key slot
+  pub held : (word : ℕ) → own_slots book.words worker.state.frames word ≤ book.held word
   pub some : own_size worker.state.frames ≤ book.size
   pub units : worker.state.visits ≤ book.units
   pub size : book.size + entering worker.state.stage ≤ book.units
   pub most : book.units ≤ MOST_EXPANSIONS
 
--- What the port holds beside the worker's own slots, and gave beside the worker's own units and room, stays as it was.
+-- What the port holds beside the worker's own slots, by their words, and gave beside the worker's own units and room, stays as it was.
 pub record KeepsOthers (worker later : WorkerView) (before after : Book) : Type 0 where
-  pub held : (key : Key) (slot : ℕ) → after.held key slot + own_slots worker.state.frames key slot ≡ before.held key slot + own_slots later.state.frames key slot
+  pub words : after.words ≡ before.words
+  pub held : (word : ℕ) → after.held word + own_slots before.words worker.state.frames word
+      ≡ before.held word + own_slots before.words later.state.frames word
   pub size : after.size + own_size worker.state.frames ≡ before.size + own_size later.state.frames
   pub units : after.units + worker.state.visits ≡ before.units + later.state.visits
   pub rooms : after.rooms + worker.state.claims ≡ before.rooms + later.state.claims

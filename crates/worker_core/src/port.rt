@@ -11,7 +11,7 @@ use std::alloc::AllocError;
 /// The table of positions and the desk of a search, as one worker has them: alone, beside others under some schedule, or on a thread.
 ///
 /// What it tells of itself is its book: the problem; how many units it gave, at most a billion, and for how many notes it gave room; whether it
-/// goes on; and how often each slot of a key is entered and not left. Each call changes the book as its request and answer say (`IsBooked`), and is one step of the port
+/// goes on; which word each slot of a key's row has, and how often the slot of a word is entered and not left. Each call changes the book as its request and answer say (`IsBooked`), and is one step of the port
 /// (`turn`).
 pub trait Port {
     ghost use Rattle.std.specs.Prelude.{◌≡◌, ◌<◌, ◌≤◌, ℕ, true, IfOk, Some, Option, List};
@@ -69,7 +69,7 @@ pub trait Port {
     /// attacker. A slot that is left is held.
     fn leave(&mut self, kept: Kept, key: &Key, update: Update)
         requires sound { IsSoundUpdate (book self.old).problem.side key.now update }
-        requires held { (other : Key) (slot : ℕ) → slot_once kept key.now other slot ≤ (book self.old).held other slot }
+        requires held { (word : ℕ) → slot_once (book self.old).words kept key.now word ≤ (book self.old).held word }
         ensures turn { (path : List Key) → turn self.old path (Leave kept key.now update) (Some LeftIt) self.new }
         ensures book { IsBooked (Leave kept key.now update, Some LeftIt) (book self.old) (book self.new) };
 

@@ -51,7 +51,7 @@ impl Worker {
     ghost use Rattle.visit_log.specs.Machine.{State, start, asks, asked, starve, end_of, path_of, Fits, LeadsTo};
     ghost use Rattle.visit_log.specs.Run.{Leads, Happens, Told, IsReached, IsBegunLog, IsLooking, now_at};
     ghost use Rattle.visit_log.specs.Sound.{IsTask, IsSound, IsSoundRequest};
-    ghost use Rattle.visit_log.specs.Counts.{own_slots, own_size, enters, leaves, enters_some, leaves_some, units_in, rooms_in, to_come};
+    ghost use Rattle.visit_log.specs.Counts.{Words, own_slots, own_size, enters, leaves, enters_some, leaves_some, units_in, rooms_in, to_come};
     ghost use Rattle.visit_log.specs.Laws.{IsLeftAlone, IsCounted};
     ghost use Rattle.visit_log.specs.declared.words.WorkEnd.{WorkEnd};
     ghost use Rattle.visit_log.specs.declared.words.Request.TheVariants.{End};
@@ -94,7 +94,7 @@ impl Worker {
         ensures task { self.new.task ≡ self.old.task }
         // Whatever log it stood by, it stands by that log with the request and this answer behind.
         ensures log { (log : List Exchange) (s : State) → Leads self.old.task log s → self.old.state ≡ asked s → Leads self.old.task (log ++ (asks s, Some answer) ∷ []) self.new.state }
-        ensures slots { (key : Key) (slot : ℕ) → own_slots self.new.state.frames key slot + leaves (asks self.old.state, Some answer) key slot ≡ own_slots self.old.state.frames key slot + enters (asks self.old.state, Some answer) key slot }
+        ensures slots { (words : Words) (word : ℕ) → own_slots words self.new.state.frames word + leaves words (asks self.old.state, Some answer) word ≡ own_slots words self.old.state.frames word + enters words (asks self.old.state, Some answer) word }
         ensures sizes { own_size self.new.state.frames + leaves_some (asks self.old.state, Some answer) ≡ own_size self.old.state.frames + enters_some (asks self.old.state, Some answer) }
         ensures visits { self.new.state.visits ≡ self.old.state.visits + units_in answer }
         ensures claims { self.new.state.claims ≡ self.old.state.claims + rooms_in answer }

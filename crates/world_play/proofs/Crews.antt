@@ -8,13 +8,13 @@ use Rattle.visit_log.specs.Visit.{Exchange}
 use Rattle.visit_log.specs.Frame.{Task}
 use Rattle.visit_log.specs.Run.{WorkerView, Leads}
 use Rattle.visit_log.specs.Sound.{IsTask}
-use Rattle.visit_log.specs.Counts.{own_slots, own_size}
+use Rattle.visit_log.specs.Counts.{Words, own_slots, own_size}
 use Rattle.visit_log.specs.Laws.{WorkersAreSound, WorkersAreCounted, IsLeftAlone}
 use Rattle.worker_core.specs.Port.{Book, Suits, KeepsOthers, entering}
 use Rattle.unit_desk.specs.Desk.{IsDesk}
 use Rattle.lone_port.specs.Lone.{book_of}
 use Rattle.lone_port.specs.World.{World}
-use Rattle.world_play.specs.Fair.{IsFair}
+use Rattle.world_play.specs.Fair.{IsFair, all_slots}
 use Rattle.world_play.specs.Crew.{IsInCrew, IsCrew}
 use Rattle.world_play.proofs.Suited.{one_within, all_with_one, enters_within}
 use Rattle.world_play.proofs.Stepped.{each_set, sum_set}
@@ -41,9 +41,9 @@ crew_suits sound counted book ws place worker crew going e =
     record {
       problem = m.of_problem;
       going = inl going;
-      held = λ key slot. (
-          let all = crew.held key slot in
-          let one = one_within (λ (w : WorkerView). own_slots w.state.frames key slot) ws place worker e in
+      held = λ word. (
+          let all = crew.held word in
+          let one = one_within (λ (w : WorkerView). own_slots book.words w.state.frames word) ws place worker e in
           omega (arith, all, one));
       some = (
           let all = crew.size in
@@ -67,11 +67,13 @@ pub crew_on : (before after : Book) (ws : List WorkerView) (place : ℕ) (worker
     → KeepsOthers worker later before after → after.problem ≡ before.problem → after.units ≤ MOST_EXPANSIONS → IsInCrew after.problem later
     → IsCrew after (set ws place later)
 crew_on before after ws place worker later crew there keep problem most member = record {
-  held = λ key slot. (
-      let q = sum_set (λ (w : WorkerView). own_slots w.state.frames key slot) ws place worker later there in
-      let m = keep.held key slot in
-      let b = crew.held key slot in
-      omega (arith, q, m, b));
+  held = λ word. (
+      let q = sum_set (λ (w : WorkerView). own_slots before.words w.state.frames word) ws place worker later there in
+      let m = keep.held word in
+      let b = crew.held word in
+      let n : all_slots after.words (set ws place later) word ≡ all_slots before.words (set ws place later) word =
+      ap (λ (z : Words). all_slots z (set ws place later) word) keep.words in
+      omega (arith, q, m, b, n));
   size = (
       let q = sum_set (λ (w : WorkerView). own_size w.state.frames) ws place worker later there in
       let m = keep.size in
@@ -112,7 +114,8 @@ crew_starved book ws place worker later crew there is leads alone =
     let task : later.task ≡ worker.task = ap (λ (w : WorkerView). w.task) is in
     crew_on book book ws place worker later crew there
     (record {
-      held = λ key slot. (let a = alone.slots key slot in omega (arith, a));
+      words = refl;
+      held = λ word. (let a = alone.slots book.words word in omega (arith, a));
       size = (let a = alone.size in omega (arith, a));
       units = (let a = alone.visits in omega (arith, a));
       rooms = (let a = alone.claims in omega (arith, a));

@@ -63,7 +63,7 @@ keeps before path Claims (Some (Claimed Full)) after h = same_at before.desk aft
 keeps before path (Look key) None after h = same_at before.desk after.desk (ap (λ (p : LonePortView). p.desk) h)
 keeps before path (Look key) (Some (Looked seen)) after h = same_at before.desk after.desk (ap (λ (p : LonePortView). p.desk) h.1)
 keeps before path (Enter key numbers) (Some (Entered kept_in)) after h = same_at before.desk after.desk (ap (λ (p : LonePortView). p.desk) h.1)
-keeps before path (Leave kept key update) (Some LeftIt) after h = same_at before.desk after.desk (ap (λ (p : LonePortView). p.desk) h)
+keeps before path (Leave kept key update) (Some LeftIt) after h = same_at before.desk after.desk (ap (λ (p : LonePortView). p.desk) h.1)
 keeps before path (Post note) (Some PostedIt) after h =
     subst (λ (d : DeskView). KeepsDesk before.desk d) (sym (ap (λ (p : LonePortView). p.desk) h))
     (record {

@@ -1,6 +1,6 @@
 -- A step gives up no entry that a visit has entered.
 use Rattle.std.proofs.Common.{◌≡◌, inl, inr, ℕ, ◌<◌, List, [], length, get_or, sym, ap, ◌∙◌, subst, Bool, length-set}
-use Rattle.std.specs.Prelude.{Option, Some, None, slice_get, slice_index}
+use Rattle.std.specs.Prelude.{Option, Some, None, slice_index}
 use Rattle.std.proofs.lemmas.Bool.{cases_eq}
 use Rattle.std.proofs.lemmas.List.{get_or-set_same, get_or-set_other}
 use Rattle.board_core.specs.declared.keys.Key.{Key}
@@ -16,7 +16,6 @@ use Rattle.visit_log.specs.declared.words.Reply.{Reply}
 use Rattle.visit_log.specs.declared.words.Reply.TheVariants.{Poll as Polled, Draw as Drew, Claim as Claimed, Look as Looked, Enter as Entered, Leave as LeftIt, Post as PostedIt}
 use Rattle.visit_log.specs.Machine.{path_of}
 use Rattle.lone_port.specs.Lone.{LonePortView, IsLone, Turns, opened, pins_of}
-use Rattle.lone_port.proofs.Offered.{held_there}
 use Rattle.world_play.specs.Promises.{StepsKeepEntered}
 
 -- 1. IN A ROW.
@@ -59,10 +58,10 @@ same_rows : (port after : LonePortView) (k : Key) (s : ℕ) → after.rows ≡ p
 same_rows port after k s e h = subst (λ (r : List (List EntryView)). HoldsAt (row_of r k) s k) (sym e) h
 
 -- A visit is below the slot of the key, which holds its entry.
-abbrev IsBelowSlot : LonePortView → Key → ℕ → Type 0
+abbrev pub IsBelowSlot : LonePortView → Key → ℕ → Type 0
 IsBelowSlot port k s = HoldsAt (row_of port.rows k) s k × (0 < slice_index (pins_of port.pins k) s)
 
-turn_keeps : (port : LonePortView) (path : List Key) (q : Request) (a : Option Reply) (after : LonePortView) (k : Key) (s : ℕ) → IsLone port → IsBelowSlot port k s
+pub turn_keeps : (port : LonePortView) (path : List Key) (q : Request) (a : Option Reply) (after : LonePortView) (k : Key) (s : ℕ) → IsLone port → IsBelowSlot port k s
     → Turns port path q a after → HoldsAt (row_of after.rows k) s k
 turn_keeps port path Poll (Some (Polled stop)) after k s lone b h = same_rows port after k s (ap (λ (p : LonePortView). p.rows) h.1) b.0
 turn_keeps port path Draws (Some (Drew draw)) after k s lone b h = same_rows port after k s (ap (λ (p : LonePortView). p.rows) h.1) b.0
@@ -72,10 +71,11 @@ turn_keeps port path (Look key) (Some (Looked seen)) after k s lone b h = same_r
 turn_keeps port path (Enter key numbers) (Some (Entered kept)) after k s lone b h =
     row_keeps port key h.0.row after.rows k s lone h.0.others
     (λ some there. enters_stays (row_of port.rows key) (pins_of port.pins key) key numbers kept h.0.row s k h.0.enters some there) b.0 b.1
-turn_keeps port path (Leave Unkept key update) (Some LeftIt) after k s lone b h = same_rows port after k s (ap (λ (p : LonePortView). p.rows) h) b.0
-turn_keeps port path (Leave (Slot slot) key update) (Some LeftIt) after k s lone b h =
-    row_keeps port key (left (row_of port.rows key) slot update) after.rows k s lone (ap (λ (p : LonePortView). p.rows) h)
+turn_keeps port path (Leave Unkept key update) (Some LeftIt) after k s lone b h = same_rows port after k s h.0 b.0
+turn_keeps port path (Leave (Slot slot) key update) (Some LeftIt) after k s lone b (inl updated, same) =
+    row_keeps port key (left (row_of port.rows key) slot update) after.rows k s lone updated.1
     (λ some there. left_stays (row_of port.rows key) slot update s k there) b.0 b.1
+turn_keeps port path (Leave (Slot slot) key update) (Some LeftIt) after k s lone b (inr other, same) = same_rows port after k s other.1 b.0
 turn_keeps port path (Post note) (Some PostedIt) after k s lone b h = same_rows port after k s (ap (λ (p : LonePortView). p.rows) h) b.0
 turn_keeps port path q a after k s lone b h = absurd h
 
@@ -83,6 +83,5 @@ pub opened_lone : (port : LonePortView) (stops : Bool) → IsLone port → IsLon
 opened_lone port stops l = record { some = l.some; as_many = l.as_many; eight = l.eight; there = l.there; notes = l.notes }
 
 pub steps_keep : StepsKeepEntered
-steps_keep stops port worker x after later lone steps key slot some =
-    let b = held_there (slice_get (row_of port.rows key) slot) key (slice_index (pins_of port.pins key) slot) some in
-    turn_keeps (opened port stops) (path_of worker.task worker.state.frames) x.0 x.1 after key slot (opened_lone port stops lone) b steps.turns
+steps_keep stops port worker x after later lone steps key slot there some =
+    turn_keeps (opened port stops) (path_of worker.task worker.state.frames) x.0 x.1 after key slot (opened_lone port stops lone) (there, some) steps.turns

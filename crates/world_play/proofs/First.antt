@@ -1,5 +1,5 @@
 -- The world at first is fair.
-use Rattle.std.proofs.Common.{◌≡◌, inl, inr, ℕ, zero, suc, ◌+◌, ◌<◌, List, [], ◌∷◌, ◌++◌, length, get_or, replicate, arith, refl, sym, ap, ◌∙◌, subst, Bool, false, sum_by}
+use Rattle.std.proofs.Common.{◌≡◌, inl, inr, ℕ, zero, suc, ◌+◌, ◌/◌, ◌%◌, ◌<◌, List, [], ◌∷◌, ◌++◌, length, get_or, replicate, arith, refl, sym, ap, ◌∙◌, subst, Bool, false, sum_by}
 use Rattle.std.specs.Prelude.{Some, slice_get, sum}
 use Rattle.std.proofs.lemmas.List.{length-replicate, get_or-replicate}
 use Rattle.std.proofs.lemmas.List.Sums.{sum_by-cons}
@@ -11,8 +11,7 @@ use Rattle.list_laws.proofs.Standing.{none_in_none}
 use Rattle.board_core.specs.Board.{Board}
 use Rattle.board_core.specs.Kept.{IsKept}
 use Rattle.shogi_rules.specs.Tsume.{IsProblem}
-use Rattle.table_shard.specs.Entry.{EntryView}
-use Rattle.table_shard.specs.Spot.{place_of}
+use Rattle.table_shard.specs.Spot.{word_of}
 use Rattle.search_limits.specs.Sizes.{SettingsView}
 use Rattle.unit_desk.specs.Desk.{DeskView, fresh}
 use Rattle.visit_log.specs.declared.words.WorkEnd.{WorkEnd}
@@ -21,9 +20,9 @@ use Rattle.visit_log.specs.Frame.{Task, task_for}
 use Rattle.visit_log.specs.Run.{WorkerView}
 use Rattle.visit_log.specs.Counts.{own_slots, own_size}
 use Rattle.visit_log.specs.Laws.{HasCause}
-use Rattle.lone_port.specs.Lone.{held_in, held_at, pins_of, worker_at_first, alone_at_first, LonePortView}
+use Rattle.lone_port.specs.Lone.{held_by, worker_at_first, alone_at_first, LonePortView}
 use Rattle.lone_port.specs.World.{World, world_at_first, workers_from}
-use Rattle.world_play.specs.Fair.{IsFair, IsMember, IsToldOf}
+use Rattle.world_play.specs.Fair.{IsFair, IsMember, IsToldOf, only}
 
 -- 1. THE WORKERS.
 
@@ -71,11 +70,21 @@ no_cause desk task Stopped c = tt
 
 -- 3. THE TABLE: EMPTY.
 
-no_row : (n place : ℕ) (none : List EntryView) → get_or (replicate n none) place none ≡ none
-no_row n place none =
-    elim (cases_lt place n) as (λ _. get_or (replicate n none) place none ≡ none) [
-      | inl low ↦ get_or-replicate n place none none low
-      | inr high ↦ get_or_past (replicate n none) place none (let l = length-replicate n none in omega (arith, l, high))
+abbrev none_of : List ℕ
+none_of = replicate {A = ℕ} 8 0
+
+no_count : (n place slot : ℕ) → get_or {A = ℕ} (get_or {A = List ℕ} (replicate n none_of) place []) slot 0 ≡ 0
+no_count n place slot =
+    elim (cases_lt place n) as (λ _. get_or {A = ℕ} (get_or {A = List ℕ} (replicate n none_of) place []) slot 0 ≡ 0) [
+      | inl low ↦ ap (λ (counts : List ℕ). get_or counts slot 0) (get_or-replicate n place none_of [] low) ∙ eight slot
+      | inr high ↦ ap (λ (counts : List ℕ). get_or counts slot 0) (get_or_past (replicate n none_of) place [] (let l = length-replicate n none_of in omega (arith, l, high)))
+          ∙ get_or_past {X = ℕ} [] slot 0 (omega arith)
+    ]
+  where
+    eight : (s : ℕ) → get_or {A = ℕ} none_of s 0 ≡ 0
+    eight s = elim (cases_lt s 8) as (λ _. get_or {A = ℕ} none_of s 0 ≡ 0) [
+      | inl low ↦ get_or-replicate {A = ℕ} 8 s 0 0 low
+      | inr high ↦ get_or_past {X = ℕ} none_of s 0 (omega (arith, high))
     ]
 
 -- 4. THE WORLD.
@@ -84,12 +93,12 @@ pub first_fair : (problem : Board) (s : SettingsView) → IsKept problem → IsP
 first_fair problem s kept is some = record {
   some = (let n = many_workers problem 1 s.workers in omega (arith, n, some));
   raised = length-replicate s.workers false ∙ sym (many_workers problem 1 s.workers);
-  held = λ key slot. (
-      let none : List EntryView = [] in
-      let e = no_row s.rows (place_of key (length (replicate s.rows none))) none in
-      let h : held_in (replicate s.rows none) (replicate s.rows (replicate 8 0)) key slot ≡ 0 =
-      ap (λ (row : List EntryView). held_at (slice_get row slot) key (get_or (pins_of (replicate s.rows (replicate 8 0)) key) slot 0)) e in
-      h ∙ sym (none_at_first (λ (w : WorkerView). own_slots w.state.frames key slot) problem 1 s.workers (λ number. refl)));
+  held = λ word. (
+      let h : held_by (replicate s.rows (replicate 8 0)) word ≡ 0 = no_count s.rows (word / 8) (word % 8) in
+      h ∙ sym (none_at_first (λ (w : WorkerView). own_slots (word_of (length (replicate s.rows (replicate 8 0)))) w.state.frames word) problem 1 s.workers (λ number. refl)));
+  entered = λ key slot some. (
+      let none = none_at_first (λ (w : WorkerView). own_slots (only key slot) w.state.frames 1) problem 1 s.workers (λ number. refl) in
+      absurd (omega (arith, some, none)));
   size = (let none = sum_by-replicate sum s.rows (replicate 8 0) in
       let all = none_at_first (λ (w : WorkerView). own_size w.state.frames) problem 1 s.workers (λ number. refl) in
       omega (arith, none, all));

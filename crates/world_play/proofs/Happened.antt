@@ -3,24 +3,29 @@ use Rattle.std.proofs.Common.{◌≡◌, inl, inr, ℕ, ◌+◌, cond, List, [],
 use Rattle.std.specs.Prelude.{Option, Some, None, slice_get, slice_index_or, IfSome, IfNone, if◌then◌else◌}
 use Rattle.std.proofs.lemmas.List.Sums.{sum_by-append}
 use Rattle.std.proofs.lemmas.Option.{slice_get_within, slice_get_read, same_Some}
+use Rattle.table_shard.specs.Spot.{word_of}
 use Rattle.visit_log.specs.declared.words.WorkEnd.{WorkEnd}
+use Rattle.visit_log.specs.declared.words.Request.{Request}
+use Rattle.visit_log.specs.declared.words.Request.TheVariants.{Enter, Leave}
 use Rattle.visit_log.specs.Visit.{Exchange}
 use Rattle.visit_log.specs.Frame.{Task}
 use Rattle.visit_log.specs.Machine.{State, asks, starve, end_of}
 use Rattle.visit_log.specs.Run.{WorkerView, Leads, now_at}
 use Rattle.visit_log.specs.Sound.{IsTask}
-use Rattle.visit_log.specs.Laws.{IsLeftAlone, HasCause}
-use Rattle.worker_core.specs.Port.{KeepsOthers}
+use Rattle.visit_log.specs.Counts.{Words, own_slots, enters, leaves}
+use Rattle.visit_log.specs.Laws.{IsLeftAlone, HasCause, WorkersAreSound, SlotsMove, StarvingMovesNothing}
+use Rattle.worker_core.specs.Port.{KeepsOthers, Goes}
 use Rattle.worker_core.specs.Machine.{is_poll}
 use Rattle.worker_core.proofs.Offered.{goes_asks}
-use Rattle.lone_port.specs.Lone.{LonePortView, book_of, opened}
+use Rattle.lone_port.specs.Lone.{LonePortView, IsLone, book_of, opened}
 use Rattle.lone_port.specs.World.{World, Steps, StepsAt, IsAtWork, IsIdle, Happens, Plays}
 use Rattle.lone_port.specs.declared.event.Event.{Event}
 use Rattle.lone_port.specs.declared.event.Event.TheVariants.{Step, Raise, Starve}
-use Rattle.world_play.specs.Fair.{IsFair, IsToldOf}
+use Rattle.world_play.specs.Fair.{IsFair, IsToldOf, only}
 use Rattle.world_play.specs.Logs.{GoOnBy, is_refused, refused_looks}
 use Rattle.world_play.proofs.Desks.{desk_same, keeps}
-use Rattle.world_play.proofs.Stepped.{fair_on, member_on}
+use Rattle.world_play.proofs.Stepped.{sum_set, fair_on, member_on}
+use Rattle.world_play.proofs.Holding.{entered_on}
 use Rattle.world_play.proofs.Gone.{goes_on_by, gone_none, gone_one, gone_quietly, gone_then}
 
 -- What an event comes to, and how many looks were refused memory in it.
@@ -40,16 +45,45 @@ pub record IsRequest (world after : World) (number place : ℕ) (worker later : 
   pub leads : (log : List Exchange) → Leads worker.task log worker.state → Leads worker.task (log ++ x ∷ []) later.state
   pub keep : KeepsOthers worker later (book_of (opened world.port false)) (book_of after.port)
 
+-- A look that is refused memory enters and leaves nothing.
+pub nothing_entered : (words : Words) (q : Request) (word : ℕ) → enters words (q, None) word ≡ 0
+nothing_entered words (Enter key numbers) word = refl
+nothing_entered words (Leave kept key update) word = refl
+nothing_entered words q word = refl
+
+pub nothing_left : (words : Words) (q : Request) (word : ℕ) → leaves words (q, None) word ≡ 0
+nothing_left words (Enter key numbers) word = refl
+nothing_left words (Leave kept key update) word = refl
+nothing_left words q word = refl
+
 pub length_if : (b : Bool) (xs : List Bool) (i : ℕ) → length (if b then set xs i false else xs) ≡ length xs
 length_if true xs i = length-set xs i false
 length_if false xs i = refl
 
-pub step_fair : (world after : World) (number place : ℕ) (worker later : WorkerView) (x : Exchange) → IsRequest world after number place worker later x → IsFair after
-step_fair world after number place worker later x r =
+-- What a worker that goes on has entered changes by what its request enters and leaves.
+pub slots_on : WorkersAreSound → SlotsMove → StarvingMovesNothing → (worker later : WorkerView) (x : Exchange) → IsTask worker.task → (log : List Exchange)
+    → Leads worker.task log worker.state → Goes worker.task worker.state x later.state
+    → (words : Words) (word : ℕ) → own_slots words later.state.frames word + leaves words x word ≡ own_slots words worker.state.frames word + enters words x word
+slots_on sound moves starving worker later (q, Some answer) task log leads goes words word =
+    let is = sound worker.task leads.happenings worker.state task leads.runs in
+    let asked : q ≡ asks worker.state = goes.0 in
+    subst (λ (z : Request). own_slots words later.state.frames word + leaves words (z, Some answer) word ≡ own_slots words worker.state.frames word + enters words (z, Some answer) word)
+    (sym asked) (moves words worker.task worker.state later.state answer word is goes.1 goes.2)
+slots_on sound moves starving worker later (q, None) task log leads goes words word =
+    let alone = (starving worker.state).slots words word in
+    let none = ap (λ (z : State). own_slots words z.frames word) goes.2 in
+    omega (arith, alone, none, nothing_entered words q word, nothing_left words q word)
+
+pub step_fair : WorkersAreSound → SlotsMove → StarvingMovesNothing → (world after : World) (number place : ℕ) (worker later : WorkerView) (x : Exchange) → IsLone world.port
+    → IsRequest world after number place worker later x → IsFair after
+step_fair sound moves starving world after number place worker later x lone r =
+    let m = r.fair.members place worker r.at_work.there in
     fair_on world after place worker later r.fair r.at_work.there r.workers
     (ap length r.raised ∙ length_if (is_poll (asks worker.state)) world.raised place)
     r.keep
     (keeps (opened (opened world.port false) (slice_index_or world.raised place false)) _ x.0 x.1 after.port r.steps.turns)
+    (entered_on world place worker later (slice_index_or world.raised place false) _ x after.port r.fair lone r.at_work.there r.steps.turns
+    (slots_on sound moves starving worker later x m.problem m.log m.leads r.steps.goes))
     (member_on (opened world.port false) after.port (slice_index_or world.raised place false) place worker later x (r.fair.members place worker r.at_work.there) r.steps r.leads)
 
 pub step_comes : (world after : World) (number place : ℕ) (worker later : WorkerView) (x : Exchange) (refused : ℕ) → IsRequest world after number place worker later x
@@ -80,6 +114,7 @@ raise_fair world after place fair e =
       some = fair.some;
       raised = length-set world.raised place true ∙ fair.raised;
       held = fair.held;
+      entered = fair.entered;
       size = fair.size;
       drawn = fair.drawn;
       claimed = fair.claimed;
@@ -116,12 +151,18 @@ starve_fair world after place worker later fair there is leads alone e =
     subst IsFair (sym e)
     (fair_on world (record world { workers = set world.workers place later }) place worker later fair there refl refl
     (record {
-      held = λ key slot. (let a = alone.slots key slot in omega (arith, a));
+      words = refl;
+      held = λ word. (let a = alone.slots (word_of (length world.port.pins)) word in omega (arith, a));
       size = (let a = alone.size in omega (arith, a));
       units = (let a = alone.visits in omega (arith, a));
       rooms = (let a = alone.claims in omega (arith, a));
     })
     (desk_same world.port.desk)
+    (λ key slot some.
+    let own = λ (w : WorkerView). own_slots (only key slot) w.state.frames 1 in
+    let sums = sum_set own world.workers place worker later there in
+    let a = alone.slots (only key slot) 1 in
+    fair.entered key slot (omega (arith, some, sums, a)))
     (let task : later.task ≡ worker.task = ap (λ (w : WorkerView). w.task) is in
     record {
       task = task ∙ m.task;

@@ -6,6 +6,7 @@ use Rattle.board_core.specs.Board.{Board}
 use Rattle.board_core.specs.declared.keys.Key.{Key}
 use Rattle.table_shard.specs.Row.{HoldsAt, IsRow}
 use Rattle.table_shard.specs.Shard.{row_of}
+use Rattle.table_shard.specs.Spot.{word_of}
 use Rattle.visit_log.specs.declared.words.Request.{Request}
 use Rattle.visit_log.specs.declared.words.Request.TheVariants.{Poll, Draw as Draws, Claim as Claims, Look, Enter, Leave, Post, End}
 use Rattle.visit_log.specs.declared.words.Reply.{Reply}
@@ -14,7 +15,7 @@ use Rattle.visit_log.specs.Frame.{Task, task_for}
 use Rattle.visit_log.specs.Machine.{State, asks, path_of}
 use Rattle.visit_log.specs.Run.{Happening, Told, Dark, Starved, Happens as Befalls, Runs, event, WorkerView, Leads, now_at}
 use Rattle.visit_log.specs.Sound.{IsSound, IsSoundRequest}
-use Rattle.visit_log.specs.Counts.{own_slots, own_size, enters, leaves, enters_some, leaves_some}
+use Rattle.visit_log.specs.Counts.{Words, own_slots, own_size, enters, leaves, enters_some, leaves_some}
 use Rattle.visit_log.specs.Laws.{WorkersAreSound, AsksSound, SlotsMove, SizesMove, LeavesOwn, StarvingMovesNothing, UnitsMove}
 use Rattle.worker_core.specs.Port.{KeepsOthers, Goes, units_by, rooms_by}
 use Rattle.worker_core.proofs.Offered.{goes_asks, events_snoc}
@@ -23,12 +24,13 @@ use Rattle.lone_port.specs.Keeps.{IsKeptPort, MayAsk, IsCountedBy, TurnsAreCount
 use Rattle.lone_port.specs.World.{World, Steps, StepsAt, IsAtWork, Happens, Plays}
 use Rattle.lone_port.specs.declared.event.Event.{Event}
 use Rattle.lone_port.specs.declared.event.Event.TheVariants.{Step, Raise, Starve}
-use Rattle.world_play.specs.Fair.{IsFair, all_slots}
+use Rattle.world_play.specs.Fair.{IsFair, all_entered}
 use Rattle.world_play.specs.Promises.{IsKeptWorld, EventsKeepWorlds, PlaysKeepEntered}
 use Rattle.world_play.proofs.Desks.{keeps}
 use Rattle.world_play.proofs.Suited.{one_within}
 use Rattle.world_play.proofs.Stepped.{fair_on, member_on}
-use Rattle.world_play.proofs.Happened.{length_if, raise_fair, starved, LeadsStarved, starve_fair}
+use Rattle.world_play.proofs.Holding.{below_slot, entered_on}
+use Rattle.world_play.proofs.Happened.{nothing_entered, nothing_left, length_if, raise_fair, starved, LeadsStarved, starve_fair}
 use Rattle.world_play.proofs.Promised.{holds}
 use Rattle.world_play.proofs.Entered.{opened_lone, steps_keep}
 
@@ -73,42 +75,40 @@ leads_starving worker idle log s leads now =
 
 -- What a worker has changes by what its event enters, leaves and gives.
 record IsMoved (s t : State) (x : Exchange) : Type 0 where
-  pub slots : (key : Key) (slot : ℕ) → own_slots t.frames key slot + leaves x key slot ≡ own_slots s.frames key slot + enters x key slot
+  pub slots : (words : Words) (word : ℕ) → own_slots words t.frames word + leaves words x word ≡ own_slots words s.frames word + enters words x word
   pub size : own_size t.frames + leaves_some x ≡ own_size s.frames + enters_some x
   pub visits : t.visits ≡ s.visits + units_by x
   pub claims : t.claims ≡ s.claims + rooms_by x
-  pub own : (key : Key) (slot : ℕ) → leaves x key slot ≤ own_slots s.frames key slot
+  pub own : (words : Words) (word : ℕ) → leaves words x word ≤ own_slots words s.frames word
 
 -- A look that is refused memory enters and leaves nothing.
 record IsNothing (x : Exchange) : Type 0 where
-  pub no_entry : (key : Key) (slot : ℕ) → enters x key slot ≡ 0
-  pub no_leave : (key : Key) (slot : ℕ) → leaves x key slot ≡ 0
   pub none_entered : enters_some x ≡ 0
   pub none_left : leaves_some x ≡ 0
 
 dark_nothing : (q : Request) → IsNothing (q, None)
-dark_nothing (Enter key numbers) = record { no_entry = λ k s. refl; no_leave = λ k s. refl; none_entered = refl; none_left = refl }
-dark_nothing (Leave kept key update) = record { no_entry = λ k s. refl; no_leave = λ k s. refl; none_entered = refl; none_left = refl }
-dark_nothing q = record { no_entry = λ k s. refl; no_leave = λ k s. refl; none_entered = refl; none_left = refl }
+dark_nothing (Enter key numbers) = record { none_entered = refl; none_left = refl }
+dark_nothing (Leave kept key update) = record { none_entered = refl; none_left = refl }
+dark_nothing q = record { none_entered = refl; none_left = refl }
 
 moved : Laws → (task : Task) (s t : State) (answer : Option Reply) → IsSound task s → Goes task s (asks s, answer) t → IsMoved s t (asks s, answer)
 moved laws task s t (Some answer) sound goes = record {
-  slots = λ key slot. laws.slots task s t answer key slot sound goes.1 goes.2;
+  slots = λ words word. laws.slots words task s t answer word sound goes.1 goes.2;
   size = laws.sizes task s t answer sound goes.1 goes.2;
   visits = (laws.units task s t answer goes.1 goes.2).0;
   claims = (laws.units task s t answer goes.1 goes.2).1;
-  own = λ key slot. laws.own s answer key slot;
+  own = λ words word. laws.own words s answer word;
 }
 moved laws task s t None sound goes =
     let none = dark_nothing (asks s) in
     let alone = laws.starving s in
     subst (λ (z : State). IsMoved s z (asks s, None)) (sym goes.2)
     (record {
-      slots = λ key slot. (let e = none.no_entry key slot in let l = none.no_leave key slot in let a = alone.slots key slot in omega (arith, e, l, a));
+      slots = λ words word. (let e = nothing_entered words (asks s) word in let l = nothing_left words (asks s) word in let a = alone.slots words word in omega (arith, e, l, a));
       size = (let e = none.none_entered in let l = none.none_left in let a = alone.size in omega (arith, e, l, a));
       visits = (let a = alone.visits in omega (arith, a));
       claims = (let a = alone.claims in omega (arith, a));
-      own = λ key slot. (let l = none.no_leave key slot in omega (arith, l));
+      own = λ words word. (let l = nothing_left words (asks s) word in omega (arith, l));
     })
 
 -- What is asked is sound whatever the worker's number.
@@ -143,22 +143,24 @@ stepped laws world place worker later stops answer after is there steps =
     let asked = laws.asks_sound worker.task worker.state m.problem sound in
     let may : MayAsk (opened world.port stops) x = record {
       sound = any_number world.port.desk.position (place + 1) (asks worker.state) (subst (λ (t : Task). IsSoundRequest t (asks worker.state)) m.task asked);
-      held = λ key slot. (
-          let one = own.own key slot in
-          let all = one_within (λ (w : WorkerView). own_slots w.state.frames key slot) world.workers place worker there in
-          let held = is.fair.held key slot in
+      held = λ word. (
+          let words : Words = word_of (length world.port.pins) in
+          let one = own.own words word in
+          let all = one_within (λ (w : WorkerView). own_slots words w.state.frames word) world.workers place worker there in
+          let held = is.fair.held word in
           omega (arith, one, all, held));
     } in
     let c = laws.counted (opened world.port stops) (path_of worker.task worker.state.frames) x after (opened_kept world.port stops is.port) may steps.turns in
     record {
       own = own;
-      all = record { kept = c.kept; held = c.held; size = c.size; units = c.units; rooms = c.rooms };
+      all = record { kept = c.kept; as_many = c.as_many; held = c.held; size = c.size; units = c.units; rooms = c.rooms };
     }
 
 keeps_others : (world : World) (worker later : WorkerView) (x : Exchange) (after : LonePortView) → IsStepped world worker later x after
     → KeepsOthers worker later (book_of (opened world.port false)) (book_of after)
 keeps_others world worker later x after s = record {
-  held = λ key slot. (let own = s.own.slots key slot in let all = s.all.held key slot in omega (arith, own, all));
+  words = ap word_of s.all.as_many;
+  held = λ word. (let own = s.own.slots (word_of (length world.port.pins)) word in let all = s.all.held word in omega (arith, own, all));
   size = (let own = s.own.size in let all = s.all.size in omega (arith, own, all));
   units = (let own = s.own.visits in let all = s.all.units in omega (arith, own, all));
   rooms = (let own = s.own.claims in let all = s.all.rooms in omega (arith, own, all));
@@ -176,6 +178,9 @@ step_keeps laws world after number place worker x is at h =
       fair = fair_on world after place worker h.later is.fair at.there h.workers (ap length h.raised ∙ length_if _ world.raised place)
           (keeps_others world worker h.later (asks worker.state, x.1) after.port moves)
           (keeps (opened world.port stops) _ x.0 x.1 after.port h.steps.turns)
+          (entered_on world place worker h.later stops _ x after.port is.fair is.port.lone at.there h.steps.turns
+          (λ words word. subst (λ (q : Request). own_slots words h.later.state.frames word + leaves words (q, x.1) word ≡ own_slots words worker.state.frames word + enters words (q, x.1) word)
+          (sym e) (moves.own.slots words word)))
           (member_on world.port after.port stops place worker h.later x (is.fair.members place worker at.there) h.steps
           (leads_on worker.task worker.state h.later.state x h.steps.goes));
       port = moves.all.kept;
@@ -208,15 +213,15 @@ plays_keep laws world (e ∷ es) log after is h = plays_keep laws h.2 es h.1 aft
 -- 5. WHAT IS ENTERED IS HELD.
 
 -- Where the table's rows stay, what is entered is held still.
-still : (world after : World) (key : Key) (slot : ℕ) → IsKeptWorld world → after.port ≡ world.port → 0 < all_slots world.workers key slot
+still : (world after : World) (key : Key) (slot : ℕ) → IsKeptWorld world → after.port ≡ world.port → 0 < all_entered world.workers key slot
     → HoldsAt (row_of after.port.rows key) slot key
 still world after key slot is e some = subst (λ (p : LonePortView). HoldsAt (row_of p.rows key) slot key) (sym e) (holds world is.fair key slot some)
 
 event_holds : (world : World) (event : Event) (log : List (ℕ × Exchange)) (after : World) → IsKeptWorld world → Happens world event log after
-    → (key : Key) (slot : ℕ) → 0 < all_slots world.workers key slot → HoldsAt (row_of after.port.rows key) slot key
+    → (key : Key) (slot : ℕ) → 0 < all_entered world.workers key slot → HoldsAt (row_of after.port.rows key) slot key
 event_holds world (Step number) log after is (inl (place, worker, x, at, h, e)) key slot some =
-    let held = is.fair.held key slot in
-    steps_keep (slice_index_or world.raised place false) world.port worker x after.port h.later is.port.lone h.steps key slot (omega (arith, held, some))
+    let below = below_slot world is.fair key slot some in
+    steps_keep (slice_index_or world.raised place false) world.port worker x after.port h.later is.port.lone h.steps key slot below.0 below.1
 event_holds world (Step number) log after is (inr idle) key slot some = still world after key slot is (ap (λ (w : World). w.port) idle.2) some
 event_holds world (Raise number) log after is (inl (place, worker, at, raises, e)) key slot some =
     still world after key slot is (ap (λ (w : World). w.port) raises) some

@@ -10,3 +10,4 @@ pub mod Entered
 pub mod Crews
 pub mod Refused
 pub mod Keeping
+pub mod Holding

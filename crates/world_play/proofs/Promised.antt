@@ -1,10 +1,10 @@
 -- What follows of a fair world.
 use Rattle.std.proofs.Common.{◌≡◌, inl, inr, ℕ, suc, ◌+◌, ◌≤◌, ◌<◌, List, [], ◌∷◌, length, get_or, arith, refl, sym, ap, ◌∙◌, subst, sum_by}
-use Rattle.std.specs.Prelude.{Option, Some, None, slice_get, slice_index}
+use Rattle.std.specs.Prelude.{Option, Some, None, slice_get}
 use Rattle.std.proofs.lemmas.List.Sums.{sum_by-cons}
 use Rattle.std.proofs.lemmas.Bool.{cases_lt}
 use Rattle.std.proofs.lemmas.Option.{slice_get_within, slice_get_read, same_Some}
-use Rattle.table_shard.specs.Shard.{row_of}
+use Rattle.table_shard.specs.Spot.{word_of}
 use Rattle.visit_log.specs.declared.parts.Stage.{Stage}
 use Rattle.visit_log.specs.declared.parts.Stage.TheVariants.{Polling, Drawing, Entering, Looking, Claiming, Leaving, Posting, Winding}
 use Rattle.visit_log.specs.declared.words.WorkEnd.{WorkEnd}
@@ -15,18 +15,14 @@ use Rattle.visit_log.specs.Machine.{end_of, end_at}
 use Rattle.visit_log.specs.Run.{WorkerView}
 use Rattle.visit_log.specs.Counts.{own_slots, own_size}
 use Rattle.visit_log.specs.Laws.{WorkersAreSound, WorkersAreCounted, LogsAreWhole, EndsHaveCauses}
-use Rattle.lone_port.specs.Lone.{pins_of}
 use Rattle.lone_port.specs.World.{World}
-use Rattle.lone_port.proofs.Offered.{held_there}
 use Rattle.world_play.specs.Fair.{IsFair, IsToldOf}
 use Rattle.world_play.specs.Promises.{HoldsWhatIsEntered, AreSoundWorkers, AreToldOf, HasEnded, AllHaveEnded, IsOver, IsLeft}
 
 -- 1. WHAT IS ENTERED IS HELD.
 
 pub holds : (world : World) → IsFair world → HoldsWhatIsEntered world
-holds world fair key slot some =
-    let count = fair.held key slot in
-    (held_there (slice_get (row_of world.port.rows key) slot) key (slice_index (pins_of world.port.pins key) slot) (omega (arith, some, count))).0
+holds world fair key slot some = fair.entered key slot some
 
 -- 2. THE WORKERS.
 
@@ -85,7 +81,7 @@ all_ended f none (w ∷ ws) all =
 
 pub left : (world : World) → IsFair world → AllHaveEnded world.workers → IsLeft world
 left world fair all = record {
-  slots = λ key slot. fair.held key slot ∙ all_ended (λ (fs : List FrameView). own_slots fs key slot) refl world.workers all;
+  slots = λ word. fair.held word ∙ all_ended (λ (fs : List FrameView). own_slots (word_of (length world.port.pins)) fs word) refl world.workers all;
   size = fair.size ∙ all_ended own_size refl world.workers all;
 }
 

@@ -1,9 +1,13 @@
 -- A fair world stays fair when one of its workers goes on.
-use Rattle.std.proofs.Common.{◌≡◌, ◌≢◌, inl, inr, ℕ, zero, suc, ◌+◌, List, [], ◌∷◌, ◌++◌, length, set, get_or, arith, refl, sym, ap, ◌∙◌, subst, Bool, false, sum_by, length-set}
+use Rattle.std.proofs.Common.{◌≡◌, ◌≢◌, inl, inr, ℕ, zero, suc, ◌+◌, ◌<◌, List, [], ◌∷◌, ◌++◌, length, set, get_or, arith, refl, sym, ap, ◌∙◌, subst, Bool, false, sum_by, length-set}
 use Rattle.std.specs.Prelude.{Some, slice_get}
 use Rattle.std.proofs.lemmas.Bool.{cases_eq}
 use Rattle.std.proofs.lemmas.List.Sums.{sum_by-set}
 use Rattle.std.proofs.lemmas.Option.{slice_get_within, get_or_from_slice_get, same_Some}
+use Rattle.board_core.specs.declared.keys.Key.{Key}
+use Rattle.table_shard.specs.Row.{HoldsAt}
+use Rattle.table_shard.specs.Shard.{row_of}
+use Rattle.table_shard.specs.Spot.{word_of}
 use Rattle.unit_desk.specs.Desk.{DeskView}
 use Rattle.visit_log.specs.Visit.{Exchange}
 use Rattle.visit_log.specs.Frame.{Task, task_for}
@@ -11,12 +15,12 @@ use Rattle.visit_log.specs.Machine.{path_of}
 use Rattle.visit_log.specs.Run.{WorkerView, Leads}
 use Rattle.visit_log.specs.Sound.{IsTask}
 use Rattle.visit_log.specs.declared.words.WorkEnd.{WorkEnd}
-use Rattle.visit_log.specs.Counts.{own_slots, own_size}
+use Rattle.visit_log.specs.Counts.{Words, own_slots, own_size}
 use Rattle.visit_log.specs.Laws.{HasCause}
 use Rattle.worker_core.specs.Port.{KeepsOthers}
 use Rattle.lone_port.specs.Lone.{LonePortView, book_of, opened}
 use Rattle.lone_port.specs.World.{World, Steps}
-use Rattle.world_play.specs.Fair.{IsFair, IsMember, IsToldOf}
+use Rattle.world_play.specs.Fair.{IsFair, IsMember, IsToldOf, all_slots, all_entered}
 use Rattle.world_play.proofs.Desks.{KeepsDesk, keeps, told_still, told_on}
 
 -- 1. ONE OF A LIST IN ANOTHER'S PLACE.
@@ -68,19 +72,24 @@ member_still before after place w k m = record {
 pub fair_on : (world after : World) (place : ℕ) (worker later : WorkerView) → IsFair world → slice_get world.workers place ≡ Some worker
     → after.workers ≡ set world.workers place later → length after.raised ≡ length world.raised
     → KeepsOthers worker later (book_of (opened world.port false)) (book_of after.port) → KeepsDesk world.port.desk after.port.desk
+    → ((key : Key) (slot : ℕ) → 0 < all_entered (set world.workers place later) key slot → HoldsAt (row_of after.port.rows key) slot key)
     → IsMember after.port.desk place later → IsFair after
-fair_on world after place worker later fair there is raised keep desk member =
+fair_on world after place worker later fair there is raised keep desk entered member =
     let long : length (set world.workers place later) ≡ length world.workers = length-set world.workers place later in
     let size : length after.workers ≡ length world.workers = ap length is ∙ long in
     record {
       some = (let s = fair.some in omega (arith, s, size));
       raised = raised ∙ (fair.raised ∙ sym size);
-      held = λ key slot. (
-          let q = sum_set (λ (w : WorkerView). own_slots w.state.frames key slot) world.workers place worker later there in
-          let m = keep.held key slot in
-          let b = fair.held key slot in
-          let a = ap (λ (ws : List WorkerView). sum_by (λ (w : WorkerView). own_slots w.state.frames key slot) ws) is in
-          omega (arith, q, m, b, a));
+      held = λ word. (
+          let words : Words = word_of (length world.port.pins) in
+          let q = sum_set (λ (w : WorkerView). own_slots words w.state.frames word) world.workers place worker later there in
+          let m = keep.held word in
+          let b = fair.held word in
+          let a = ap (λ (ws : List WorkerView). all_slots words ws word) is in
+          let n : all_slots (word_of (length after.port.pins)) after.workers word ≡ all_slots words after.workers word =
+          ap (λ (z : Words). all_slots z after.workers word) keep.words in
+          omega (arith, q, m, b, a, n));
+      entered = λ key slot some. entered key slot (subst (λ (ws : List WorkerView). 0 < all_entered ws key slot) is some);
       size = (
           let q = sum_set (λ (w : WorkerView). own_size w.state.frames) world.workers place worker later there in
           let m = keep.size in

@@ -5,6 +5,7 @@ use Rattle.std.proofs.lemmas.List.Sums.{sum_by-cons}
 use Rattle.std.proofs.lemmas.Option.{same_Some}
 use Rattle.notes.specs.declared.words.Kept.{Kept}
 use Rattle.notes.specs.declared.words.Kept.TheVariants.{Slot, Unkept}
+use Rattle.table_shard.specs.Spot.{word_of}
 use Rattle.unit_desk.specs.Desk.{IsDesk}
 use Rattle.visit_log.specs.declared.parts.Stage.{Stage}
 use Rattle.visit_log.specs.declared.parts.Stage.TheVariants.{Polling, Drawing, Entering, Looking, Claiming, Leaving, Posting, Winding}
@@ -105,9 +106,9 @@ suited sound counted world place worker fair desk e =
     record {
       problem = ap (λ (t : Task). t.problem) m.task;
       going = inl refl;
-      held = λ key slot. (
-          let all = fair.held key slot in
-          let one = one_within (λ (w : WorkerView). own_slots w.state.frames key slot) world.workers place worker e in
+      held = λ word. (
+          let all = fair.held word in
+          let one = one_within (λ (w : WorkerView). own_slots (word_of (length world.port.pins)) w.state.frames word) world.workers place worker e in
           omega (arith, all, one));
       some = (
           let all = fair.size in

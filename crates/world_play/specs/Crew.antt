@@ -26,7 +26,7 @@ pub record IsInCrew (position : Board) (worker : WorkerView) : Type 0 where
 -- The port holds what the workers have entered, all together, and gave the units that they were given, at most a billion (of room nothing is said); and all
 -- are in the search of its problem.
 pub record IsCrew (book : Book) (workers : List WorkerView) : Type 0 where
-  pub held : (key : Key) (slot : ℕ) → book.held key slot ≡ all_slots workers key slot
+  pub held : (word : ℕ) → book.held word ≡ all_slots book.words workers word
   pub size : book.size ≡ all_sizes workers
   pub units : book.units ≡ all_visits workers
   pub most : book.units ≤ MOST_EXPANSIONS

@@ -1,10 +1,13 @@
 -- What a world keeps whatever happens in it: what the table and the desk count is what its workers have, all together.
-use Rattle.std.specs.Prelude.{◌≡◌, ◌<◌, ◌+◌, ℕ, zero, suc, false, List, [], ◌∷◌, Option, Some, None, length, slice_get, sum, sum_by, if◌then◌else◌}
+use Rattle.std.specs.Prelude.{◌≡◌, ◌<◌, ◌+◌, ℕ, zero, suc, false, List, [], ◌∷◌, Option, Some, None, length, slice_get, sum, sum_by, if◌then◌else◌, ◌&&◌, ◌==◌}
 use Rattle.std.specs.Ordering.{is_eq}
 use Rattle.board_core.specs.declared.keys.Key.{Key}
 use Rattle.board_core.specs.KeyOrder.{key_cmp}
 use Rattle.notes.specs.declared.words.Kept.{Kept}
 use Rattle.notes.specs.declared.words.Kept.TheVariants.{Slot}
+use Rattle.table_shard.specs.Row.{HoldsAt}
+use Rattle.table_shard.specs.Shard.{row_of}
+use Rattle.table_shard.specs.Spot.{word_of}
 use Rattle.unit_desk.specs.Desk.{DeskView, HasPosted}
 use Rattle.visit_log.specs.declared.words.WorkEnd.{WorkEnd}
 use Rattle.visit_log.specs.declared.words.WorkEnd.TheVariants.{Posted, Spent, NoRoom, TooHigh, NoMemory, Stopped}
@@ -12,16 +15,24 @@ use Rattle.visit_log.specs.Visit.{Exchange}
 use Rattle.visit_log.specs.Frame.{FrameView, task_for}
 use Rattle.visit_log.specs.Run.{WorkerView, Leads}
 use Rattle.visit_log.specs.Sound.{IsTask}
-use Rattle.visit_log.specs.Counts.{own_slots, own_size}
+use Rattle.visit_log.specs.Counts.{Words, own_slots, own_size}
 use Rattle.visit_log.specs.Laws.{HasCause}
-use Rattle.lone_port.specs.Lone.{held_in}
+use Rattle.lone_port.specs.Lone.{held_by}
 use Rattle.lone_port.specs.World.{World}
 
 -- 1. WHAT THE WORKERS HAVE, ALL TOGETHER.
 
--- How many visits of theirs have entered this slot of the key.
-abbrev pub all_slots : List WorkerView → Key → ℕ → ℕ
-all_slots workers key slot = sum_by (λ worker. own_slots worker.state.frames key slot) workers
+-- How many visits of theirs have entered a slot of this word.
+abbrev pub all_slots : Words → List WorkerView → ℕ → ℕ
+all_slots words workers word = sum_by (λ worker. own_slots words worker.state.frames word) workers
+
+-- The naming of slots by which this slot of this key alone has word 1, and all others word 0.
+abbrev pub only : Key → ℕ → Words
+only key slot of number = if is_eq (key_cmp key of) && (slot == number) then 1 else 0
+
+-- How many visits of theirs have entered this slot for this key.
+abbrev pub all_entered : List WorkerView → Key → ℕ → ℕ
+all_entered workers key slot = all_slots (only key slot) workers 1
 
 -- How many visits of theirs have entered some slot.
 abbrev pub all_sizes : List WorkerView → ℕ
@@ -70,12 +81,13 @@ pub record IsMember (desk : DeskView) (place : ℕ) (worker : WorkerView) : Type
   pub leads : Leads worker.task log worker.state
   pub told : (end : WorkEnd) → HasCause worker.task end log → IsToldOf desk end
 
--- There is a worker, and of each it is known whether a stop was signalled; the count of each slot of a key is that of the visits that have entered
--- it, over all workers, and so is the number of all; what is drawn and claimed is what the workers were given; and each is a worker of this search.
+-- There is a worker, and of each it is known whether a stop was signalled; the count of each word is that of the visits that have entered
+-- a slot of it, over all workers, and so is the number of all; each slot that a visit has entered for a key holds an entry of that key; what is drawn and claimed is what the workers were given; and each is a worker of this search.
 pub record IsFair (world : World) : Type 0 where
   pub some : 0 < length world.workers
   pub raised : length world.raised ≡ length world.workers
-  pub held : (key : Key) (slot : ℕ) → held_in world.port.rows world.port.pins key slot ≡ all_slots world.workers key slot
+  pub held : (word : ℕ) → held_by world.port.pins word ≡ all_slots (word_of (length world.port.pins)) world.workers word
+  pub entered : (key : Key) (slot : ℕ) → 0 < all_entered world.workers key slot → HoldsAt (row_of world.port.rows key) slot key
   pub size : sum_by sum world.port.pins ≡ all_sizes world.workers
   pub drawn : world.port.desk.drawn ≡ all_visits world.workers
   pub claimed : world.port.desk.claimed ≡ all_claims world.workers

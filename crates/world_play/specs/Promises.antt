@@ -1,5 +1,5 @@
 -- What follows of a fair world, for whoever reads one.
-use Rattle.std.specs.Prelude.{◌≡◌, ◌<◌, ◌⊎◌, ℕ, Bool, List, Some, slice_get, sum, sum_by}
+use Rattle.std.specs.Prelude.{◌≡◌, ◌<◌, ◌⊎◌, ℕ, Bool, List, Some, slice_get, slice_index, sum, sum_by}
 use Rattle.board_core.specs.declared.keys.Key.{Key}
 use Rattle.table_shard.specs.Row.{HoldsAt}
 use Rattle.table_shard.specs.Shard.{row_of}
@@ -11,15 +11,15 @@ use Rattle.visit_log.specs.Machine.{end_of}
 use Rattle.visit_log.specs.Run.{WorkerView}
 use Rattle.visit_log.specs.Sound.{IsSound}
 use Rattle.visit_log.specs.Laws.{IsCounted}
-use Rattle.lone_port.specs.Lone.{LonePortView, IsLone, held_in}
+use Rattle.lone_port.specs.Lone.{LonePortView, IsLone, held_by, pins_of}
 use Rattle.lone_port.specs.Keeps.{IsKeptPort}
 use Rattle.lone_port.specs.World.{World, Steps, Happens, Plays}
 use Rattle.lone_port.specs.declared.event.Event.{Event}
-use Rattle.world_play.specs.Fair.{IsFair, all_slots, IsToldOf}
+use Rattle.world_play.specs.Fair.{IsFair, all_entered, IsToldOf}
 
 -- Each slot that a visit has entered for a key holds an entry of that key.
 abbrev pub HoldsWhatIsEntered : World → Type 0
-HoldsWhatIsEntered world = (key : Key) (slot : ℕ) → 0 < all_slots world.workers key slot → HoldsAt (row_of world.port.rows key) slot key
+HoldsWhatIsEntered world = (key : Key) (slot : ℕ) → 0 < all_entered world.workers key slot → HoldsAt (row_of world.port.rows key) slot key
 
 -- What each worker knows is sound: so each note that it has of a position holds on its path to there, and one that it posts on every path.
 abbrev pub AreSoundWorkers : List WorkerView → Type 0
@@ -54,15 +54,15 @@ IsOver world =
 
 -- No slot is entered any more.
 pub record IsLeft (world : World) : Type 0 where
-  pub slots : (key : Key) (slot : ℕ) → held_in world.port.rows world.port.pins key slot ≡ 0
+  pub slots : (word : ℕ) → held_by world.port.pins word ≡ 0
   pub size : sum_by sum world.port.pins ≡ 0
 
--- A law: no step gives up an entry that a visit has entered. Where a visit is below a slot of the key before the step, the slot holds the key's entry
--- behind it.
+-- A law: no step gives up an entry that a visit has entered. Where a slot holds the key's entry before the step, and a visit is below it, the slot
+-- holds the key's entry behind it.
 abbrev pub StepsKeepEntered : Type 0
 StepsKeepEntered = (stops : Bool) (port : LonePortView) (worker : WorkerView) (exchange : Exchange) (after : LonePortView) (later : WorkerView) → IsLone port
     → Steps stops port worker exchange after later
-    → (key : Key) (slot : ℕ) → 0 < held_in port.rows port.pins key slot → HoldsAt (row_of after.rows key) slot key
+    → (key : Key) (slot : ℕ) → HoldsAt (row_of port.rows key) slot key → 0 < slice_index (pins_of port.pins key) slot → HoldsAt (row_of after.rows key) slot key
 
 -- A world as a `World` keeps it: what its table and its desk count is what its workers have, all together; and these are as they are kept.
 pub record IsKeptWorld (world : World) : Type 0 where
@@ -79,4 +79,4 @@ EventsKeepWorlds = (world : World) (event : Event) (log : List (ℕ × Exchange)
 abbrev pub PlaysKeepEntered : Type 0
 PlaysKeepEntered = (world : World) (events : List Event) (log : List (ℕ × Exchange)) (between : World) (event : Event) (more : List (ℕ × Exchange)) (after : World)
     → IsKeptWorld world → Plays world events log between → Happens between event more after
-    → (key : Key) (slot : ℕ) → 0 < all_slots between.workers key slot → HoldsAt (row_of after.port.rows key) slot key
+    → (key : Key) (slot : ℕ) → 0 < all_entered between.workers key slot → HoldsAt (row_of after.port.rows key) slot key

@@ -44,15 +44,15 @@ returns-clause-happens c = λ s is.
     told_happens c.args.self.now.task s c.args.self.now.state u c.args.answer is c.requires.fits to
 
 pub returns-clause-slots : goal.returns-clause-slots
-returns-clause-slots c = λ key slot.
+returns-clause-slots c = λ words word.
     let i = c.self.invariant in
     let task : Task = c.self.inside.core.task in
     let m : State = c.self.inside.core.state in
     let u : State = c.advance.new.self.state in
     let fits : Fits task m c.args.answer = subst (λ (z : WorkerView). Fits z.task z.state c.args.answer) (sym c.self.view_is) c.requires.fits in
     let sound : IsSound task m = reached_sound task i.reached.0 i.reached.1.state m c.self.inside.waiting c.sound_laws.ensures.reached i.task i.reached.1.leads i.reached.1.now in
-    subst (λ (z : WorkerView). own_slots u.frames key slot + leaves (asks z.state, Some c.args.answer) key slot ≡ own_slots z.state.frames key slot + enters (asks z.state, Some c.args.answer) key slot) c.self.view_is
-    (c.count_laws.ensures.slots task m u c.args.answer key slot sound fits c.advance.ensures.leads)
+    subst (λ (z : WorkerView). own_slots words u.frames word + leaves words (asks z.state, Some c.args.answer) word ≡ own_slots words z.state.frames word + enters words (asks z.state, Some c.args.answer) word) c.self.view_is
+    (c.count_laws.ensures.slots words task m u c.args.answer word sound fits c.advance.ensures.leads)
 
 pub returns-clause-sizes : goal.returns-clause-sizes
 returns-clause-sizes c =

@@ -66,7 +66,8 @@ invariant_of-self c =
     let r = requested w after c.open.new.self c.args.number c.in-Some.place found.0 c.index.result.now c.index_mut.result.now c.step.new.worker
     c.take_stop-stops.result c.is_polling-polls.result c.step.result c.self.invariant at c.index.ensures c.index_mut.ensures.value c.is_polling-polls.ensures
     c.take_stop-stops.ensures.stops c.open.ensures refl c.take_stop-stops.ensures.told e.steps e.ended e.others in
-    step_fair w after c.args.number c.in-Some.place c.index_mut.result.now c.step.new.worker r.0 r.1
+    step_fair c.sound_laws.ensures.reached c.count_laws.ensures.slots c.count_laws.ensures.starving w after c.args.number c.in-Some.place c.index_mut.result.now c.step.new.worker r.0
+    c.laws.ensures.lone r.1
 
 pub returns-clause-played : goal.returns-clause-played
 returns-clause-played c =
