@@ -336,10 +336,6 @@ reached_alike cells aims p q to end kind promoted side are = (
   λ r. are.1 (r.0, reaches_alike cells q p to end (sym kind) (sym promoted) (sym side) r.1),
 )
 
-pub or_false : (p : Bool) → (p || false) ≡ p
-or_false true = refl
-or_false false = refl
-
 -- a piece that is promoted by a legal move wasn't, and can be
 pub promotable : LegalBoardMoves → (b : Board) (from to : ℕ) (piece : Piece) → piece_at b.cells from ≡ Some piece
     → ((why : Illegal) → ¬ RefusesBoard b from to true why) → (piece.promoted ≡ false) × (can_promote piece.kind ≡ true)

@@ -13,6 +13,7 @@ use Rattle.notes.specs.declared.words.Seen.{Seen}
 use Rattle.notes.specs.declared.words.Seen.TheVariants.{New, Open, Solved}
 use Rattle.notes.specs.declared.words.Update.{Update}
 use Rattle.notes.specs.declared.words.Update.TheVariants.{Numbers as SetNumbers, Note as AddNote, Nothing as ChangeNothing}
+use Rattle.table_shard.proofs.Offered.{updated-key, holds_push, holds_set, lacks_at, given_up_idle}
 use Rattle.table_shard.specs.Entry.{EntryView, IsFirstWithin, Shows, updated}
 use Rattle.table_shard.specs.Row.{HoldsAt, Lacks, Looks, IsIdle, IsFirst, IsGivenUp, fresh, Takes, Enters, left}
 
@@ -25,11 +26,6 @@ AreApart row = (one other : ℕ) (key : Key) → HoldsAt row one key → HoldsAt
 abbrev pub AreApartIn : List (List EntryView) → Type 0
 AreApartIn rows = (place : ℕ) → AreApart (get_or rows place [])
 
-lacks_none : (row : List EntryView) (key : Key) (slot : ℕ) → Lacks row key → HoldsAt row slot key → ⊥
-lacks_none [] key slot lacks h = absurd h
-lacks_none (x ∷ xs) key zero lacks h = All-head (λ (e : EntryView). e.key ≢ key) x xs lacks h
-lacks_none (x ∷ xs) key (suc slot) lacks h = lacks_none xs key slot (All-tail (λ (e : EntryView). e.key ≢ key) x xs lacks) h
-
 -- A row stays so where one slot takes an entry of a key that the row lacks.
 apart_with : (row after : List EntryView) (slot : ℕ) (key : Key) → AreApart row → Lacks row key
     → ((s : ℕ) (k : Key) → HoldsAt after s k → HoldsAt row s k ⊎ ((s ≡ slot) × (key ≡ k))) → AreApart after
@@ -37,29 +33,16 @@ apart_with row after slot key apart lacks cases one other k h g = by_cases (case
   where
     by_cases : HoldsAt row one k ⊎ ((one ≡ slot) × (key ≡ k)) → HoldsAt row other k ⊎ ((other ≡ slot) × (key ≡ k)) → one ≡ other
     by_cases (inl a) (inl b) = apart one other k a b
-    by_cases (inl a) (inr b) = absurd (lacks_none row key one lacks (subst (HoldsAt row one) (sym b.1) a))
-    by_cases (inr a) (inl b) = absurd (lacks_none row key other lacks (subst (HoldsAt row other) (sym a.1) b))
+    by_cases (inl a) (inr b) = absurd (lacks_at row key one lacks (subst (HoldsAt row one) (sym b.1) a))
+    by_cases (inr a) (inl b) = absurd (lacks_at row key other lacks (subst (HoldsAt row other) (sym a.1) b))
     by_cases (inr a) (inr b) = a.0 ∙ sym b.0
-
-pushed_cases : (row : List EntryView) (e : EntryView) (s : ℕ) (k : Key) → HoldsAt (row ++ e ∷ []) s k → HoldsAt row s k ⊎ ((s ≡ length row) × (e.key ≡ k))
-pushed_cases [] e zero k h = inr (refl, h)
-pushed_cases [] e (suc s) k h = absurd h
-pushed_cases (x ∷ xs) e zero k h = inl h
-pushed_cases (x ∷ xs) e (suc s) k h = elim (pushed_cases xs e s k h) [ inl old ↦ inl old | inr new ↦ inr (ap suc new.0, new.1) ]
-
-set_cases : (row : List EntryView) (slot : ℕ) (e : EntryView) (s : ℕ) (k : Key) → HoldsAt (set row slot e) s k → HoldsAt row s k ⊎ ((s ≡ slot) × (e.key ≡ k))
-set_cases [] slot e s k h = absurd h
-set_cases (x ∷ xs) zero e zero k h = inr (refl, h)
-set_cases (x ∷ xs) zero e (suc s) k h = inl h
-set_cases (x ∷ xs) (suc slot) e zero k h = inl h
-set_cases (x ∷ xs) (suc slot) e (suc s) k h = elim (set_cases xs slot e s k h) [ inl old ↦ inl old | inr new ↦ inr (ap suc new.0, new.1) ]
 
 takes_apart : (row : List EntryView) (pins : List ℕ) (e : EntryView) (slot : ℕ) (after : List EntryView) → AreApart row → Lacks row e.key
     → Takes row pins e slot after → AreApart after
 takes_apart row pins e slot after apart lacks (inl (room, at, is)) =
-    subst AreApart (sym is) (apart_with row (row ++ e ∷ []) (length row) e.key apart lacks (pushed_cases row e))
+    subst AreApart (sym is) (apart_with row (row ++ e ∷ []) (length row) e.key apart lacks (holds_push row e))
 takes_apart row pins e slot after apart lacks (inr (full, given, is)) =
-    subst AreApart (sym is) (apart_with row (set row slot e) slot e.key apart lacks (set_cases row slot e))
+    subst AreApart (sym is) (apart_with row (set row slot e) slot e.key apart lacks (holds_set row slot e))
 
 -- Entering a key leaves it so.
 pub enters_apart : (row : List EntryView) (pins : List ℕ) (key : Key) (numbers : Numbers) (kept : Kept) (after : List EntryView) → AreApart row
@@ -67,11 +50,6 @@ pub enters_apart : (row : List EntryView) (pins : List ℕ) (key : Key) (numbers
 enters_apart row pins key numbers (Slot slot) after apart (inl h) = subst AreApart (sym h.1) apart
 enters_apart row pins key numbers (Slot slot) after apart (inr h) = takes_apart row pins (fresh key numbers) slot after apart h.0 h.1
 enters_apart row pins key numbers Unkept after apart h = subst AreApart (sym h.3) apart
-
-updated-key : (e : EntryView) (update : Update) → (updated e update).key ≡ e.key
-updated-key e (SetNumbers numbers) = refl
-updated-key e (AddNote note) = refl
-updated-key e ChangeNothing = refl
 
 held_before : (row : List EntryView) (slot : ℕ) (update : Update) (s : ℕ) (k : Key) → HoldsAt (left row slot update) s k → HoldsAt row s k
 held_before [] slot update s k h = h
@@ -146,10 +124,10 @@ new_looks : (row : List EntryView) (pins : List ℕ) (key : Key) (path : List Ke
 new_looks row pins key path New lacks h = refl
 new_looks row pins key path (Open numbers below) lacks (slot, h) =
     let e = entry_in row slot (λ (e : EntryView). (e.key ≡ key) × ShowsAt pins path slot (Open numbers below) e) h in
-    absurd (lacks_none row key slot lacks (holds_key row slot key e.0 e.1 e.2.0))
+    absurd (lacks_at row key slot lacks (holds_key row slot key e.0 e.1 e.2.0))
 new_looks row pins key path (Solved note) lacks (slot, h) =
     let e = entry_in row slot (λ (e : EntryView). (e.key ≡ key) × ShowsAt pins path slot (Solved note) e) h in
-    absurd (lacks_none row key slot lacks (holds_key row slot key e.0 e.1 e.2.0))
+    absurd (lacks_at row key slot lacks (holds_key row slot key e.0 e.1 e.2.0))
 
 -- What a row shows of a key on a path is one thing.
 pub looks_once : (row : List EntryView) (pins : List ℕ) (key : Key) (path : List Key) (seen shown : Seen) → AreApart row → Looks row pins key path seen
@@ -184,10 +162,6 @@ given_once row pins s t (inl h) (inr k) = absurd (k.0 s h.has)
 given_once row pins s t (inr h) (inl k) = absurd (h.0 t k.has)
 given_once row pins s t (inr h) (inr k) = found_once _ s t h.1 k.1
 
-given_idle : (row : List EntryView) (pins : List ℕ) (s : ℕ) → IsGivenUp row pins s → IsIdle row pins s
-given_idle row pins s (inl h) = h.has.idle
-given_idle row pins s (inr h) = h.1.has
-
 takes_once : (row : List EntryView) (pins : List ℕ) (e : EntryView) (s t : ℕ) (one two : List EntryView) → Takes row pins e s one → Takes row pins e t two
     → (s ≡ t) × (one ≡ two)
 takes_once row pins e s t one two (inl h) (inl k) = (h.1 ∙ sym k.1, h.2 ∙ sym k.2)
@@ -199,10 +173,10 @@ takes_once row pins e s t one two (inr h) (inr k) =
 
 slot_or_none : {A : Type 0} (row : List EntryView) (pins : List ℕ) (key : Key) (numbers : Numbers) (s : ℕ) (one two : List EntryView) → Enters row pins key numbers (Slot s) one
     → Enters row pins key numbers Unkept two → A
-slot_or_none row pins key numbers s one two (inl h) k = absurd (lacks_none row key s k.0 h.0)
+slot_or_none row pins key numbers s one two (inl h) k = absurd (lacks_at row key s k.0 h.0)
 slot_or_none row pins key numbers s one two (inr (lacks, inl h)) k = (let less = h.0 in let full = k.1 in absurd (omega (arith, less, full)))
 slot_or_none row pins key numbers s one two (inr (lacks, inr h)) k =
-    let idle = given_idle row pins s h.1 in
+    let idle = given_up_idle row pins s h.1 in
     let there = idle.there in
     let free = idle.unpinned in
     let full = h.0 in
@@ -213,8 +187,8 @@ slot_or_none row pins key numbers s one two (inr (lacks, inr h)) k =
 pub enters_once : (row : List EntryView) (pins : List ℕ) (key : Key) (numbers : Numbers) (kept other : Kept) (one two : List EntryView) → AreApart row
     → Enters row pins key numbers kept one → Enters row pins key numbers other two → (kept ≡ other) × (one ≡ two)
 enters_once row pins key numbers (Slot s) (Slot t) one two apart (inl h) (inl k) = (ap Slot (apart s t key h.0 k.0), h.1 ∙ sym k.1)
-enters_once row pins key numbers (Slot s) (Slot t) one two apart (inl h) (inr k) = absurd (lacks_none row key s k.0 h.0)
-enters_once row pins key numbers (Slot s) (Slot t) one two apart (inr h) (inl k) = absurd (lacks_none row key t h.0 k.0)
+enters_once row pins key numbers (Slot s) (Slot t) one two apart (inl h) (inr k) = absurd (lacks_at row key s k.0 h.0)
+enters_once row pins key numbers (Slot s) (Slot t) one two apart (inr h) (inl k) = absurd (lacks_at row key t h.0 k.0)
 enters_once row pins key numbers (Slot s) (Slot t) one two apart (inr h) (inr k) =
     let same = takes_once row pins (fresh key numbers) s t one two h.1 k.1 in (ap Slot same.0, same.1)
 enters_once row pins key numbers (Slot s) Unkept one two apart h k = slot_or_none row pins key numbers s one two h k

@@ -33,7 +33,8 @@ use Rattle.worker_core.specs.Port.{Goes}
 use Rattle.worker_core.proofs.Offered.{winds_on as still_winds}
 use Rattle.search_pool.proofs.Choosing.{goes_on_once}
 use Rattle.search_pool.proofs.Listing.{children_once}
-use Rattle.search_pool.proofs.Making.{made_once, low_made}
+use Rattle.search_pool.proofs.Making.{made_once}
+use Rattle.visit_log.proofs.Offered.{made_low}
 use Rattle.search_pool.proofs.Starting.{start_once}
 
 -- The worker winds up for want of memory.
@@ -103,11 +104,11 @@ makes_once laws task s [] t u h k not nor = absurd h
 makes_once laws task s (f ∷ fs) t u (inl (m, one, h)) (inl (n, two, k)) not nor =
     h ∙ (ap (λ (x : Derivation). at_stage (one_claim s) (Leaving (Solved x)) s.frames) (made_once laws.tags task f m n one two) ∙ sym k)
 makes_once laws task s (f ∷ fs) t u (inl (m, one, h)) (inr (end, two, k)) not nor =
-    let low = low_made task f m one in
+    let low = made_low task f m one in
     let high = (refused_high task s f u end two k nor).1 in
     absurd (omega (arith, low, high))
 makes_once laws task s (f ∷ fs) t u (inr (end, one, h)) (inl (n, two, k)) not nor =
-    let low = low_made task f n two in
+    let low = made_low task f n two in
     let high = (refused_high task s f t end one h not).1 in
     absurd (omega (arith, low, high))
 makes_once laws task s (f ∷ fs) t u (inr (end, one, h)) (inr (other, two, k)) not nor =

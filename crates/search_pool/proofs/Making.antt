@@ -68,9 +68,3 @@ pub made_once : TagsApart → (task : Task) (f : FrameView) (m n : Derivation) �
 made_once apart task f m n h k =
     note_once apart m n (h.rule ∙ sym k.rule) (h.same_attacker ∙ sym k.same_attacker) (h.about ∙ sym k.about) (h.under ∙ sym k.under) h.valid k.valid
 
-low_valid : (n : Derivation) → IsValid n → highest (under_of n) + 1 ≤ 4096
-low_valid (derived s d) v = (let low = v.1.low in let height = v.1.height in omega (arith, low, height))
-
--- Where it is made, it wouldn't have been too high.
-pub low_made : (task : Task) (f : FrameView) (n : Derivation) → IsMade task f n → highest (notes_under (node_in task f) f.children) + 1 ≤ 4096
-low_made task f n h = subst (λ (xs : List Derivation). highest xs + 1 ≤ 4096) h.under (low_valid n h.valid)

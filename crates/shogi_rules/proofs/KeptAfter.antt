@@ -1,5 +1,5 @@
 -- The position after a legal move is kept.
-use Rattle.std.proofs.Common.{◌≡◌, ◌≢◌, ◌<◌, ◌≤◌, ◌+◌, ◌||◌, ◌-◌, ◌⊎◌, ℕ, zero, suc, List, [], ◌∷◌, Option, Some, None, Bool, true, false, length, slice_set, arith, ap, sym, refl, ◌∙◌, subst, inl, inr, IsTrue}
+use Rattle.std.proofs.Common.{◌≡◌, ◌≢◌, ◌<◌, ◌≤◌, ◌+◌, ◌-◌, ◌⊎◌, ℕ, zero, suc, List, [], ◌∷◌, Option, Some, None, Bool, true, false, length, slice_set, arith, ap, sym, refl, ◌∙◌, subst, inl, inr, IsTrue}
 use Rattle.std.specs.Prelude.{IsSomeAnd}
 use Rattle.std.proofs.lemmas.Bool.{cases_Bool, and_parts, or_right, not-true}
 use Rattle.std.proofs.lemmas.List.{length-set}
@@ -17,6 +17,7 @@ use Rattle.board_core.specs.Board.{Board, piece_at, is_pawn_of, count_of, with_c
 use Rattle.board_core.specs.Kept.{IsKept}
 use Rattle.value_laws.proofs.Pieces.{same_kind_is, same_kind_refl}
 use Rattle.value_laws.proofs.Kept.{take_kept, put_kept, changes_cell, count_of-more, count_of-less, no_king_held}
+use Rattle.value_laws.proofs.Truth.{or_false}
 use Rattle.shogi_rules.specs.Rules.{landed_piece, hand_with_capture, promotion_fits, after_board, after_drop, after, IsLegal}
 use Rattle.shogi_rules.specs.Laws.{CanGo, CanDrop}
 use Rattle.shogi_rules.proofs.Admitted.{can_go, can_drop}
@@ -91,16 +92,12 @@ more_kept b side more k left = elim (king_or_not more) [
 
 -- 2. A MOVE ON THE BOARD.
 
-or_none : (p : Bool) → (p || false) ≡ p
-or_none true = refl
-or_none false = refl
-
 -- a piece that may stay as it is, or is promoted, can move again
 alive_there : (man : Piece) (from to : ℕ) (promote : Bool) → IsTrue (promotion_fits man from to promote) → is_dead to (Some (landed_piece promote man)) ≡ false
 alive_there man from to true may =
     let can = (and_parts _ _ (and_parts _ _ may).0).1 in
     rw (or_right man.promoted (can_promote man.kind) can) refl
-alive_there man from to false may = rw (or_none man.promoted) (not-true _ may)
+alive_there man from to false may = rw (or_false man.promoted) (not-true _ may)
 
 moved_kept : (b : Board) (from to : ℕ) (promote : Bool) (man : Piece) → piece_at b.cells from ≡ Some man → IsKept b → from < 81 → to < 81
     → CanGo b from to promote → IsKept (after_board b from to promote)

@@ -1,5 +1,5 @@
 -- What of rows is offered to the crates above; they cite no other lemma of this one.
-pub use Rattle.table_shard.proofs.Rows.{updated-key, holds_more, holds_end, holds_within, enters_stays, holds_put, left_stays, length-left}
+pub use Rattle.table_shard.proofs.Rows.{updated-key, holds_push, holds_set, lacks_at, given_up_idle, holds_more, holds_end, holds_within, enters_stays, holds_put, left_stays, length-left}
 pub use Rattle.table_shard.proofs.Places.{place_within, entered_at}
 -- may cross threads
 pub use Rattle.table_shard.proofs.Sent.{shard_send}

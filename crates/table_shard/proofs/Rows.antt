@@ -28,14 +28,14 @@ holds_there [] slot d h = absurd (omega (arith, h))
 holds_there (x ∷ xs) zero d h = refl
 holds_there (x ∷ xs) (suc slot) d h = holds_there xs slot d (omega (arith, h))
 
-holds_push : (row : List EntryView) (e : EntryView) (slot : ℕ) (key : Key) → HoldsAt (row ++ e ∷ []) slot key
+pub holds_push : (row : List EntryView) (e : EntryView) (slot : ℕ) (key : Key) → HoldsAt (row ++ e ∷ []) slot key
     → HoldsAt row slot key ⊎ ((slot ≡ length row) × (e.key ≡ key))
 holds_push [] e zero key h = inr (refl, h)
 holds_push [] e (suc slot) key h = absurd h
 holds_push (x ∷ xs) e zero key h = inl h
 holds_push (x ∷ xs) e (suc slot) key h = elim (holds_push xs e slot key h) [ inl a ↦ inl a | inr b ↦ inr (ap suc b.0, b.1) ]
 
-holds_set : (row : List EntryView) (i : ℕ) (e : EntryView) (slot : ℕ) (key : Key) → HoldsAt (set row i e) slot key
+pub holds_set : (row : List EntryView) (i : ℕ) (e : EntryView) (slot : ℕ) (key : Key) → HoldsAt (set row i e) slot key
     → HoldsAt row slot key ⊎ ((slot ≡ i) × (e.key ≡ key))
 holds_set [] i e slot key h = absurd h
 holds_set (x ∷ xs) zero e zero key h = inr (refl, h)
@@ -149,7 +149,7 @@ left_stays (x ∷ xs) zero update (suc slot) key h = h
 left_stays (x ∷ xs) (suc i) update zero key h = h
 left_stays (x ∷ xs) (suc i) update (suc slot) key h = left_stays xs i update slot key h
 
-given_up_idle : (row : List EntryView) (pins : List ℕ) (slot : ℕ) → IsGivenUp row pins slot → IsIdle row pins slot
+pub given_up_idle : (row : List EntryView) (pins : List ℕ) (slot : ℕ) → IsGivenUp row pins slot → IsIdle row pins slot
 given_up_idle row pins slot (inl first) = first.has.idle
 given_up_idle row pins slot (inr rest) = rest.1.has
 

@@ -1,5 +1,5 @@
 -- Truth values.
-use Rattle.std.proofs.Common.{◌≡◌, ◌≢◌, ◌&&◌, ◌==◌, ℕ, Bool, true, false, not, refl, sym, ap, ◌∙◌, inl, inr, eq-eqb, ne_eqb}
+use Rattle.std.proofs.Common.{◌≡◌, ◌≢◌, ◌&&◌, ◌||◌, ◌==◌, ℕ, Bool, true, false, not, refl, sym, ap, ◌∙◌, inl, inr, eq-eqb, ne_eqb}
 use Rattle.std.proofs.lemmas.Bool.{cases_eq, true≢false, and_parts, not_from_true, both_ways}
 
 -- tests that pass for each other are one
@@ -21,3 +21,7 @@ others_left left rest t s e is =
 pub gone_before : (left rest : Bool) (t s : ℕ) → rest ≡ (left && not (t == s)) → rest ≡ false → t ≢ s → left ≡ false
 gone_before true rest t s e is other = absurd (true≢false (sym (e ∙ ap not (ne_eqb t s other)) ∙ is))
 gone_before false rest t s e is other = refl
+
+pub or_false : (p : Bool) → (p || false) ≡ p
+or_false true = refl
+or_false false = refl

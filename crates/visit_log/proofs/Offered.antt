@@ -2,4 +2,4 @@
 pub use Rattle.visit_log.proofs.Units.{length-entered, size_length}
 pub use Rattle.visit_log.proofs.SoundChildren.{none_decides}
 pub use Rattle.visit_log.proofs.Paths.{bare_path}
-pub use Rattle.visit_log.proofs.Stands.{winds_starved}
+pub use Rattle.visit_log.proofs.Stands.{winds_starved, made_low}

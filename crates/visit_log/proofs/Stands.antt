@@ -359,7 +359,7 @@ told_of task (Winding end) (f ∷ fs) visits claims LeftIt t log h fits leads =
 told_of task stage fs visits claims answer t log h fits leads = absurd fits
 
 -- A note that is made isn't too high.
-made_low : (task : Task) (f : FrameView) (note : Derivation) → IsMade task f note → highest (notes_under (node_in task f) f.children) + 1 ≤ 4096
+pub made_low : (task : Task) (f : FrameView) (note : Derivation) → IsMade task f note → highest (notes_under (node_in task f) f.children) + 1 ≤ 4096
 made_low task f (derived step notes) made =
     let valid = made.valid.1 in
     let same = ap highest made.under in

@@ -1,6 +1,7 @@
 use Rattle.std.proofs.Common.{true, false, sym, refl}
 use Rattle.shogi_rules.specs.Rules.{landed_piece}
-use Rattle.check_moves.proofs.Meaning.{stands_quiet, board_checks_are, reached_alike, promotable, or_false}
+use Rattle.value_laws.proofs.Truth.{or_false}
+use Rattle.check_moves.proofs.Meaning.{stands_quiet, board_checks_are, reached_alike, promotable}
 use Rattle.check_moves.proofs.aim.Aim.piece_checks.Goals as goal
 
 pub returns-clause-plain : goal.returns-clause-plain

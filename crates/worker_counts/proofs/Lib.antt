@@ -1,0 +1,3 @@
+-- Lemmas of the counts.
+mod Views
+pub mod Moves

@@ -1,0 +1,14 @@
+use Rattle.std.proofs.Common.{◌<◌, ◌∙◌, ap, sym}
+use Rattle.worker_counts.specs.Counts.{SeatView}
+use Rattle.worker_counts.proofs.Moves.{splits}
+use Rattle.worker_counts.proofs.counts.WorkerCounts.make_seat.Goals as goal
+
+pub split_seat-requires : goal.split_seat-requires
+split_seat-requires c =
+    let shared = c.self.inside.table.shared in
+    let seat = c.seat.inside.seat in
+    let many : 1 < seat.me.0.parts = rw (ap (λ (v : SeatView). v.view) c.seat.view_is) c.requires.parts in (
+      ap (λ (v : SeatView). v.counts) c.seat.view_is ∙ (c.requires.seat ∙ sym c.self.view_is),
+      c.self.invariant.2,
+      splits shared.key seat.id seat.me.0 many,
+    )
