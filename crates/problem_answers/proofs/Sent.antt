@@ -5,7 +5,6 @@ use denote.Hole.{as_row}
 use Rattle.std.proofs.Crossing.{crosses}
 use Rattle.notes.proofs.note.Note.TheLaws.TheKnot as knot
 use Rattle.app_texts.proofs.report.LineFault.TheSendSync as of_linefault
-use Rattle.notes.proofs.Offered.{note_send}
 use Rattle.search_pool.proofs.Offered.{crew_send, table_send}
 use Rattle.board_core.proofs.Kind.TheSendSync as of_kind
 use Rattle.board_core.proofs.Side.TheSendSync as of_side

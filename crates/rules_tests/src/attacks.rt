@@ -2,7 +2,7 @@
 use crate::letters::{named, piece, set, standing};
 use crate::same::same;
 use Side::{Black, White};
-use attack_lines::{Sight, attackers, attackers_without, reached, shields, stops};
+use attack_lines::{Sight, attackers, attackers_without, blocks, reached, shields};
 use bit_boards::Mask;
 use board_core::{Hand, Side};
 
@@ -57,9 +57,9 @@ fn all_attackers_are_stopped_at_once(rt: HostRuntime) {
     ];
     let king = named(&rt, "5e");
     for (from, want) in rows.iter() {
-        same(&rt, from, stops(set(&rt, from), king), set(&rt, want));
+        same(&rt, from, blocks(set(&rt, from), king), set(&rt, want));
     }
-    same(&rt, "none", stops(Mask::empty(), king), Mask::full());
+    same(&rt, "none", blocks(Mask::empty(), king), Mask::full());
 }
 
 #[test]

@@ -1,5 +1,5 @@
 -- How a search with one worker begins and ends.
-use Rattle.std.proofs.Common.{◌≡◌, ◌⊎◌, inl, inr, ℕ, List, [], ◌∷◌, refl, sym, ap, ◌∙◌, subst, arith, Bool, true, false}
+use Rattle.std.proofs.Common.{◌≡◌, ◌⊎◌, inl, inr, List, [], ◌∷◌, refl, sym, ap, ◌∙◌, subst, arith, Bool, true, false}
 use Rattle.std.specs.Prelude.{Some, None, Result, Ok, Err, All, IsSome, IfOk}
 use Rattle.std.proofs.lemmas.List.Elements.{All-nil}
 use Rattle.board_core.specs.Board.{Board}
@@ -17,15 +17,14 @@ use Rattle.visit_log.specs.Frame.{Task, task_for}
 use Rattle.visit_log.specs.Machine.{end_of}
 use Rattle.visit_log.specs.Run.{WorkerView, Leads, IsReached, now_at}
 use Rattle.visit_log.specs.Laws.{EndsHaveCauses}
-use Rattle.worker_core.specs.Port.{Suits}
-use Rattle.lone_port.specs.Lone.{LonePortView, alone_at_first, worker_at_first, book_of}
+use Rattle.lone_port.specs.Lone.{LonePortView, alone_at_first, worker_at_first}
 use Rattle.search_gate.specs.Stop.{Signal, one_more}
 use Rattle.lone_port.specs.declared.event.Event.{Event}
 use Rattle.lone_port.specs.Alone.{IsOwn, IsOwnStep, RunsAlone, HasCause}
 use Rattle.search_pool.specs.declared.end.SearchEnd.{SearchEnd}
 use Rattle.search_pool.specs.declared.end.SearchEnd.TheVariants.{Solved, Unknown}
 use Rattle.search_pool.specs.End.{IsAlone, IsAloneUntil, HeedsStop}
-use Rattle.search_pool.specs.Inside.{WasSaid, says_stop, IsQuiet, IsUnderWay, IsCauseOf}
+use Rattle.search_pool.specs.Inside.{WasSaid, says_stop, IsQuiet, IsUnderWay, IsWatched, HadAll, IsCauseOf}
 use Rattle.search_pool.proofs.Winding.{ends_so}
 
 -- 1. THE BEGINNING.
@@ -33,9 +32,9 @@ use Rattle.search_pool.proofs.Winding.{ends_so}
 nothing_said : (says : Exchange → Bool) → WasSaid says [] → ⊥
 nothing_said says w = let low = w.1.1 in omega (arith, low)
 
-at_first : (problem : Board) (s : SettingsView) (signal : Signal) → Suits (worker_at_first problem 1) (book_of (alone_at_first problem s.expansions s.room s.rows))
+at_first : (problem : Board) (s : SettingsView) (signal : Signal)
     → IsUnderWay problem s signal signal (alone_at_first problem s.expansions s.room s.rows) (worker_at_first problem 1)
-at_first problem s signal suits = record {
+at_first problem s signal = record {
   schedule = [];
   log = [];
   own = All-nil IsOwn;
@@ -43,7 +42,6 @@ at_first problem s signal suits = record {
   leads = record { happenings = []; runs = refl; logged = refl };
   task = refl;
   idle = refl;
-  suits = suits;
   desk = record {
     spent = λ w. absurd (nothing_said _ w);
     full = λ w. absurd (nothing_said _ w);
@@ -52,8 +50,6 @@ at_first problem s signal suits = record {
   winding = record { stopped = λ w. absurd (nothing_said _ w); posted = λ w. absurd (nothing_said _ w); is_said = λ some. absurd (cc) };
   expansions = refl;
   room = refl;
-  units = refl;
-  rooms = refl;
   quiet = inl (All-nil IsOwnStep, nothing_said says_stop, refl);
   polls = refl;
   armed = refl;
@@ -63,11 +59,16 @@ at_first problem s signal suits = record {
 
 -- A search with one worker is under way before anything happens.
 pub begun : (problem : Board) (s : SettingsView) (signal : Signal) (port : LonePortView) (worker : WorkerView) → port ≡ alone_at_first problem s.expansions s.room s.rows
-    → worker ≡ worker_at_first problem 1 → ((number : ℕ) → Suits (worker_at_first problem number) (book_of port)) → IsUnderWay problem s signal signal port worker
-begun problem s signal port worker ep ew suits =
-    subst (λ (p : LonePortView). IsUnderWay problem s signal signal p worker) (sym ep)
-    (subst (IsUnderWay problem s signal signal (alone_at_first problem s.expansions s.room s.rows)) (sym ew)
-    (at_first problem s signal (subst (λ (p : LonePortView). Suits (worker_at_first problem 1) (book_of p)) ep (suits 1))))
+    → worker ≡ worker_at_first problem 1 → IsWatched problem s signal signal port worker
+begun problem s signal port worker ep ew =
+    subst (λ (p : LonePortView). IsWatched problem s signal signal p worker) (sym ep)
+    (subst (IsWatched problem s signal signal (alone_at_first problem s.expansions s.room s.rows)) (sym ew) (true, false, at_first problem s signal))
+
+-- And had all that was given: nothing.
+pub had_nothing : (problem : Board) (s : SettingsView) (port : LonePortView) (worker : WorkerView) → port ≡ alone_at_first problem s.expansions s.room s.rows
+    → worker ≡ worker_at_first problem 1 → HadAll port worker
+had_nothing problem s port worker ep ew =
+    subst (λ (p : LonePortView). HadAll p worker) (sym ep) (subst (HadAll (alone_at_first problem s.expansions s.room s.rows)) (sym ew) (refl, refl))
 
 -- 2. THE END.
 
@@ -93,21 +94,25 @@ quietly : (before after : Signal) (schedule : List Event) (log : List Exchange) 
 quietly before after schedule log (inl q) = inl q.0
 quietly before after schedule log (inr q) = inr q.1
 
+-- As the world has the table and the desk.
+abbrev shown : LonePortView → Bool → Bool → LonePortView
+shown port its_going its_stops = record port { going = its_going; stops = its_stops }
+
 -- With a note that is posted.
 pub ends_solved : (problem : Board) (s : SettingsView) (before after : Signal) (port : LonePortView) (worker : WorkerView) (end : WorkEnd) (note : Derivation)
-    → IsUnderWay problem s before after port worker → end_of worker.state ≡ Some end → Some note ≡ port.desk.posted → IsAloneUntil problem s before after (Solved note)
+    → IsWatched problem s before after port worker → end_of worker.state ≡ Some end → Some note ≡ port.desk.posted → IsAloneUntil problem s before after (Solved note)
 ends_solved problem s before after port worker end note way ended posted = (
-  way.schedule,
-  quietly before after way.schedule way.log way.quiet,
+  way.2.schedule,
+  quietly before after way.2.schedule way.2.log way.2.quiet,
   record {
-    log = way.log;
-    port = port;
+    log = way.2.log;
+    port = shown port way.0 way.1;
     worker = worker;
-    runs = runs problem s before after port worker way;
+    runs = runs problem s before after (shown port way.0 way.1) worker way.2;
     ended = subst IsSome (sym ended) refl;
     outcome = sym posted;
   },
-  way.polls,
+  way.2.polls,
 )
 
 posted_not_stopped : {A : Type 0} (worker : WorkerView) → worker.state.stage ≡ Winding Posted → worker.state.stage ≡ Winding Stopped → A
@@ -115,12 +120,12 @@ posted_not_stopped worker one two = (let e : Winding Posted ≡ Winding Stopped 
 
 -- Then the stop signalled nothing.
 pub heeds_solved : (problem : Board) (s : SettingsView) (before after : Signal) (port : LonePortView) (worker : WorkerView) (note : Derivation)
-    → IsUnderWay problem s before after port worker → Some note ≡ port.desk.posted → HeedsStop before after (Solved note)
-heeds_solved problem s before after port worker note way posted = by_quiet way.quiet
+    → IsWatched problem s before after port worker → Some note ≡ port.desk.posted → HeedsStop before after (Solved note)
+heeds_solved problem s before after port worker note way posted = by_quiet way.2.quiet
   where
-    by_quiet : IsQuiet before after way.schedule way.log → after.raised ≡ before.raised
+    by_quiet : IsQuiet before after way.2.schedule way.2.log → after.raised ≡ before.raised
     by_quiet (inl q) = q.2
-    by_quiet (inr q) = posted_not_stopped worker (way.winding.posted (way.winding.is_said (subst IsSome posted refl))) (way.winding.stopped q.0)
+    by_quiet (inr q) = posted_not_stopped worker (way.2.winding.posted (way.2.winding.is_said (subst IsSome posted refl))) (way.2.winding.stopped q.0)
 
 visit_log : (problem : Board) (worker : WorkerView) (log : List Exchange) (end : WorkEnd) → worker.task ≡ task_for problem 1 → worker.waiting ≡ false
     → Leads (task_for problem 1) log worker.state → end_of worker.state ≡ Some end
@@ -128,40 +133,40 @@ visit_log : (problem : Board) (worker : WorkerView) (log : List Exchange) (end :
 visit_log problem worker log end task idle leads ended whole = whole log end (reached problem worker log task idle leads) ended
 
 cause_by : (problem : Board) (s : SettingsView) (before after : Signal) (port : LonePortView) (worker : WorkerView) (end : WorkEnd) (cause : Cause)
-    → IsUnderWay problem s before after port worker → end_of worker.state ≡ Some end → EndsHaveCauses
+    → IsUnderWay problem s before after port worker → HadAll port worker → end_of worker.state ≡ Some end → EndsHaveCauses
     → ((l : List Exchange) (e : WorkEnd) → IsReached worker l → end_of worker.state ≡ Some e → IsVisitLog worker.task l e) → IsCauseOf s end cause
     → HasCause s worker cause
-cause_by problem s before after port worker end (Expansions number) way ended law whole is =
+cause_by problem s before after port worker end (Expansions number) way had ended law whole is =
     let spent : end_of worker.state ≡ Some Spent = ended ∙ ap Some is.1 in
     let told = law worker.task way.log Spent (visit_log problem worker way.log Spent way.task way.idle way.leads spent whole) in
     let all = way.desk.spent (drew AllDrawn, told, refl) in
-    (is.0, spent, sym way.units ∙ (all ∙ (way.expansions ∙ sym is.0)))
-cause_by problem s before after port worker end (Room number) way ended law whole is =
+    (is.0, spent, sym had.0 ∙ (all ∙ (way.expansions ∙ sym is.0)))
+cause_by problem s before after port worker end (Room number) way had ended law whole is =
     let full : end_of worker.state ≡ Some NoRoom = ended ∙ ap Some is.1 in
     let told = law worker.task way.log NoRoom (visit_log problem worker way.log NoRoom way.task way.idle way.leads full whole) in
     let all = way.desk.full (claimed Full, told, refl) in
-    (is.0, full, sym way.rooms ∙ (all ∙ (way.room ∙ sym is.0)))
-cause_by problem s before after port worker end (Height number) way ended law whole is = (is.0, ended ∙ ap Some is.1)
-cause_by problem s before after port worker end (StoppedFirst number) way ended law whole is = (is.0, ended ∙ ap Some is.1)
-cause_by problem s before after port worker end (Entries number) way ended law whole is = absurd is
+    (is.0, full, sym had.1 ∙ (all ∙ (way.room ∙ sym is.0)))
+cause_by problem s before after port worker end (Height number) way had ended law whole is = (is.0, ended ∙ ap Some is.1)
+cause_by problem s before after port worker end (StoppedFirst number) way had ended law whole is = (is.0, ended ∙ ap Some is.1)
+cause_by problem s before after port worker end (Entries number) way had ended law whole is = absurd is
 
 -- Without one, for a cause.
 pub ends_unknown : (problem : Board) (s : SettingsView) (before after : Signal) (port : LonePortView) (worker : WorkerView) (end : WorkEnd) (cause : Cause) (crew : List WorkerView)
-    → IsUnderWay problem s before after port worker → end_of worker.state ≡ Some end → EndsHaveCauses
+    → IsWatched problem s before after port worker → HadAll port worker → end_of worker.state ≡ Some end → EndsHaveCauses
     → ((l : List Exchange) (e : WorkEnd) → IsReached worker l → end_of worker.state ≡ Some e → IsVisitLog worker.task l e) → IsCauseOf s end cause
     → port.desk.posted ≡ None → crew ≡ worker ∷ [] → IsAloneUntil problem s before after (Unknown cause crew)
-ends_unknown problem s before after port worker end cause crew way ended law whole is none one = (
-  way.schedule,
-  quietly before after way.schedule way.log way.quiet,
+ends_unknown problem s before after port worker end cause crew way had ended law whole is none one = (
+  way.2.schedule,
+  quietly before after way.2.schedule way.2.log way.2.quiet,
   record {
-    log = way.log;
-    port = port;
+    log = way.2.log;
+    port = shown port way.0 way.1;
     worker = worker;
-    runs = runs problem s before after port worker way;
+    runs = runs problem s before after (shown port way.0 way.1) worker way.2;
     ended = subst IsSome (sym ended) refl;
-    outcome = (none, one, cause_by problem s before after port worker end cause way ended law whole is);
+    outcome = (none, one, cause_by problem s before after (shown port way.0 way.1) worker end cause way.2 had ended law whole is);
   },
-  way.polls,
+  way.2.polls,
 )
 
 not_stopped : (problem : Board) (s : SettingsView) (before after : Signal) (port : LonePortView) (worker : WorkerView) (end : WorkEnd) → IsUnderWay problem s before after port worker
@@ -174,22 +179,22 @@ not_stopped problem s before after port worker end way ended other = by_quiet wa
 
 -- That it was stopped is told exactly where a stop signalled.
 pub heeds_unknown : (problem : Board) (s : SettingsView) (before after : Signal) (port : LonePortView) (worker : WorkerView) (end : WorkEnd) (cause : Cause) (crew : List WorkerView)
-    → IsUnderWay problem s before after port worker → end_of worker.state ≡ Some end → EndsHaveCauses
+    → IsWatched problem s before after port worker → end_of worker.state ≡ Some end → EndsHaveCauses
     → ((l : List Exchange) (e : WorkEnd) → IsReached worker l → end_of worker.state ≡ Some e → IsVisitLog worker.task l e) → IsCauseOf s end cause
     → HeedsStop before after (Unknown cause crew)
 heeds_unknown problem s before after port worker end (Expansions number) crew way ended law whole is =
-    not_stopped problem s before after port worker end way ended (λ e. let k : Spent ≡ Stopped = sym is.1 ∙ e in absurd (cc))
+    not_stopped problem s before after (shown port way.0 way.1) worker end way.2 ended (λ e. let k : Spent ≡ Stopped = sym is.1 ∙ e in absurd (cc))
 heeds_unknown problem s before after port worker end (Room number) crew way ended law whole is =
-    not_stopped problem s before after port worker end way ended (λ e. let k : NoRoom ≡ Stopped = sym is.1 ∙ e in absurd (cc))
+    not_stopped problem s before after (shown port way.0 way.1) worker end way.2 ended (λ e. let k : NoRoom ≡ Stopped = sym is.1 ∙ e in absurd (cc))
 heeds_unknown problem s before after port worker end (Height number) crew way ended law whole is =
-    not_stopped problem s before after port worker end way ended (λ e. let k : TooHigh ≡ Stopped = sym is.1 ∙ e in absurd (cc))
+    not_stopped problem s before after (shown port way.0 way.1) worker end way.2 ended (λ e. let k : TooHigh ≡ Stopped = sym is.1 ∙ e in absurd (cc))
 heeds_unknown problem s before after port worker end (Entries number) crew way ended law whole is = absurd is
 heeds_unknown problem s before after port worker end (StoppedFirst number) crew way ended law whole is =
     let stopped : end_of worker.state ≡ Some Stopped = ended ∙ ap Some is.1 in
-    let told = law worker.task way.log Stopped (visit_log problem worker way.log Stopped way.task way.idle way.leads stopped whole) in
-    by_quiet way.quiet (polled true, told, refl)
+    let told = law worker.task way.2.log Stopped (visit_log problem worker way.2.log Stopped way.2.task way.2.idle way.2.leads stopped whole) in
+    by_quiet way.2.quiet (polled true, told, refl)
   where
-    by_quiet : IsQuiet before after way.schedule way.log → WasSaid says_stop way.log → (after.raised ≡ one_more before.raised) × (after.last ≡ after.polls)
+    by_quiet : IsQuiet before after way.2.schedule way.2.log → WasSaid says_stop way.2.log → (after.raised ≡ one_more before.raised) × (after.last ≡ after.polls)
     by_quiet (inl q) w = absurd (q.1 w)
     by_quiet (inr q) w = (q.1, q.2)
 

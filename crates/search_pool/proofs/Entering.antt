@@ -1,9 +1,8 @@
 -- What a row shows of a key, and where it enters one: there is one answer, since no two entries of a row are of one key.
-use Rattle.std.proofs.Common.{◌≡◌, ◌≢◌, ◌⊎◌, ◌++◌, ℕ, zero, suc, List, [], ◌∷◌, length, get_or, set, replicate, inl, inr, sym, subst, ap, ap₂, ◌∙◌, refl, arith}
+use Rattle.std.proofs.Common.{◌≡◌, ◌⊎◌, ◌++◌, ℕ, zero, suc, List, [], ◌∷◌, length, get_or, set, replicate, inl, inr, sym, subst, ap, ap₂, ◌∙◌, refl, arith}
 use Rattle.std.specs.Prelude.{Option, Some, None, IsSomeAnd, slice_get}
 use Rattle.std.proofs.lemmas.Bool.{cases_lt}
 use Rattle.std.proofs.lemmas.Option.{same_Some}
-use Rattle.std.proofs.lemmas.List.Elements.{All-head, All-tail}
 use Rattle.board_core.specs.declared.keys.Key.{Key}
 use Rattle.pn_numbers.specs.declared.numbers.Numbers.{Numbers}
 use Rattle.notes.specs.Derivation.{Derivation}
@@ -12,10 +11,9 @@ use Rattle.notes.specs.declared.words.Kept.TheVariants.{Slot, Unkept}
 use Rattle.notes.specs.declared.words.Seen.{Seen}
 use Rattle.notes.specs.declared.words.Seen.TheVariants.{New, Open, Solved}
 use Rattle.notes.specs.declared.words.Update.{Update}
-use Rattle.notes.specs.declared.words.Update.TheVariants.{Numbers as SetNumbers, Note as AddNote, Nothing as ChangeNothing}
 use Rattle.table_shard.proofs.Offered.{updated-key, holds_push, holds_set, lacks_at, given_up_idle}
-use Rattle.table_shard.specs.Entry.{EntryView, IsFirstWithin, Shows, updated}
-use Rattle.table_shard.specs.Row.{HoldsAt, Lacks, Looks, IsIdle, IsFirst, IsGivenUp, fresh, Takes, Enters, left}
+use Rattle.table_shard.specs.Entry.{EntryView, IsFirstWithin, Shows}
+use Rattle.table_shard.specs.Row.{HoldsAt, Lacks, Looks, IsFirst, IsGivenUp, fresh, Takes, Enters, left}
 
 -- 1. NO TWO ENTRIES OF A ROW ARE OF ONE KEY.
 

@@ -11,6 +11,7 @@ pub mod Desk
 pub mod Quiet
 pub mod Winding
 pub mod Way
+pub mod Watching
 pub mod Ends
 pub mod Sent
 pub mod Offered

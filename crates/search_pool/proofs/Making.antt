@@ -1,5 +1,5 @@
 -- The note that is made of others, by a rule and about a position: there is one.
-use Rattle.std.proofs.Common.{◌≡◌, ◌+◌, ◌≤◌, List, [], ◌∷◌, refl, sym, subst, ap, ap₂, ◌∙◌, arith}
+use Rattle.std.proofs.Common.{◌≡◌, List, [], ◌∷◌, refl, sym, subst, ap, ap₂, ◌∙◌}
 use Rattle.board_core.specs.declared.keys.Key.{Key}
 use Rattle.board_core.specs.Board.{Board}
 use Rattle.shogi_rules.specs.Rules.{after}
@@ -7,11 +7,10 @@ use Rattle.path_tags.specs.Tag.{IsRising}
 use Rattle.path_tags.specs.Laws.{TagsApart}
 use Rattle.notes.specs.declared.rule.Rule.{Rule}
 use Rattle.notes.specs.declared.rule.Rule.TheVariants.{MateEnd, MateAll, MateBy, EscapeEnd, EscapeBy, EscapeRepeat, EscapeAll}
-use Rattle.notes.specs.Derivation.{Step, Derivation, Derivations, derived, none_under, one_under, derivations, listed, under_of, rule_of, attacker_of, position_of, tag_of, highest}
+use Rattle.notes.specs.Derivation.{Step, Derivation, Derivations, derived, none_under, one_under, derivations, listed, under_of, rule_of, attacker_of, position_of, tag_of}
 use Rattle.notes.specs.Valid.{IsStep, IsValid, IsKeyAlone, JoinsTags, meets}
 use Rattle.visit_log.specs.Frame.{Task, FrameView}
-use Rattle.visit_log.specs.Children.{notes_under}
-use Rattle.visit_log.specs.Round.{node_in, IsMade}
+use Rattle.visit_log.specs.Round.{IsMade}
 
 -- 1. TAGS.
 
@@ -67,4 +66,3 @@ note_once apart (derived s d) (derived t e) rule attacker position under h k =
 pub made_once : TagsApart → (task : Task) (f : FrameView) (m n : Derivation) → IsMade task f m → IsMade task f n → m ≡ n
 made_once apart task f m n h k =
     note_once apart m n (h.rule ∙ sym k.rule) (h.same_attacker ∙ sym k.same_attacker) (h.about ∙ sym k.about) (h.under ∙ sym k.under) h.valid k.valid
-

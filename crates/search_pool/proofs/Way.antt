@@ -1,5 +1,5 @@
 -- A search with one worker goes on by one request.
-use Rattle.std.proofs.Common.{◌≡◌, inl, inr, ℕ, List, [], ◌∷◌, ◌++◌, arith, refl, sym, ap, ◌∙◌, subst, append_assoc, Bool, true, false}
+use Rattle.std.proofs.Common.{◌≡◌, inl, inr, ℕ, List, [], ◌∷◌, ◌++◌, refl, sym, ap, ◌∙◌, subst, append_assoc, Bool, true, false}
 use Rattle.std.specs.Prelude.{None, All, if◌then◌else◌}
 use Rattle.std.proofs.lemmas.List.{map_push}
 use Rattle.std.proofs.lemmas.List.Elements.{All-push, All-append, All-cons, All-nil}
@@ -11,9 +11,8 @@ use Rattle.visit_log.specs.Machine.{asks, end_of, path_of}
 use Rattle.visit_log.specs.Run.{WorkerView, Leads}
 use Rattle.visit_log.specs.declared.words.WorkEnd.TheVariants.{Stopped}
 use Rattle.worker_core.specs.Machine.{is_poll}
-use Rattle.worker_core.specs.Port.{Suits, KeepsOthers}
 use Rattle.worker_core.proofs.Offered.{goes_asks}
-use Rattle.lone_port.specs.Lone.{LonePortView, book_of, opened}
+use Rattle.lone_port.specs.Lone.{LonePortView, opened}
 use Rattle.search_gate.specs.Stop.{Signal, one_more, polled}
 use Rattle.lone_port.specs.declared.event.Event.{Event}
 use Rattle.lone_port.specs.declared.event.Event.TheVariants.{Step, Raise}
@@ -98,8 +97,6 @@ pub record IsRequest (before mid after : Signal) (stops : Bool) (port : LonePort
   pub signal : after ≡ (if is_poll (asks worker.state) then polled mid stops else mid)
   pub steps : Steps stops port worker x next later
   pub leads : (log : List Exchange) → Leads worker.task log worker.state → Leads worker.task (log ++ x ∷ []) later.state
-  pub suits : Suits later (book_of next)
-  pub keeps : KeepsOthers worker later (book_of port) (book_of next)
 
 abbrev new_events : Bool → List Event
 new_events true = Raise 1 ∷ Step 1 ∷ []
@@ -188,12 +185,9 @@ on_way problem s before mid after stops port worker x next later way r =
           (r.leads way.log (subst (λ (t : Task). Leads t way.log worker.state) (sym way.task) way.leads));
       task = r.steps.task ∙ way.task;
       idle = r.steps.idle;
-      suits = r.suits;
       desk = told_on way.log x port next stops (path_of worker.task worker.state.frames) way.desk r.steps.turns;
       expansions = limits.0 ∙ way.expansions;
       room = limits.1 ∙ way.room;
-      units = (let k = r.keeps.units in let u = way.units in omega (arith, k, u));
-      rooms = (let k = r.keeps.rooms in let u = way.rooms in omega (arith, k, u));
       winding = winding_on way.log x port next stops worker later way.winding r.steps.goes r.steps.turns;
       quiet = quiet_on before mid after stops port worker x next later way.schedule way.log r way.winding asked way.quiet;
       polls = ap (λ (z : Signal). z.polls) r.signal ∙ (polls_on mid stops b

@@ -1,6 +1,7 @@
 -- What the private functions of this crate say of one another; no public clause cites these.
-use Rattle.std.specs.Prelude.{◌≡◌, ◌⊎◌, Bool, true, false, List, Some, All, Contains, IsSome}
+use Rattle.std.specs.Prelude.{◌≡◌, ◌⊎◌, Option, Bool, true, false, List, Some, All, Contains, IsSome}
 use Rattle.board_core.specs.Board.{Board}
+use Rattle.board_core.specs.declared.keys.Key.{Key}
 use Rattle.notes.specs.declared.words.Draw.TheVariants.{Done, Spent as AllDrawn}
 use Rattle.notes.specs.declared.words.RoomAnswer.TheVariants.{NoRoom as Full}
 use Rattle.notes.specs.declared.note.TheConstants.{HEIGHT_LIMIT}
@@ -9,19 +10,27 @@ use Rattle.search_limits.specs.declared.cause.Cause.TheVariants.{Expansions, Roo
 use Rattle.visit_log.specs.declared.words.WorkEnd.{WorkEnd}
 use Rattle.visit_log.specs.declared.words.WorkEnd.TheVariants.{Posted, Spent, NoRoom, TooHigh, Stopped}
 use Rattle.visit_log.specs.declared.parts.Stage.TheVariants.{Winding}
-use Rattle.search_gate.specs.Stop.{Signal, one_more}
+use Rattle.search_gate.specs.Stop.{Signal, one_more, polled}
 use Rattle.search_limits.specs.Sizes.{SettingsView}
 use Rattle.unit_desk.specs.Desk.{DeskView}
+use Rattle.visit_log.specs.declared.words.Request.{Request}
+use Rattle.visit_log.specs.declared.words.Request.TheVariants.{Poll}
+use Rattle.visit_log.specs.declared.words.Reply.{Reply}
 use Rattle.visit_log.specs.declared.words.Reply.TheVariants.{Poll as Polled, Draw as Drew, Claim as Claimed, Post as PostedIt}
 use Rattle.visit_log.specs.Frame.{task_for}
 use Rattle.visit_log.specs.Visit.{Exchange}
 use Rattle.visit_log.specs.Run.{WorkerView, Leads}
-use Rattle.worker_core.specs.Port.{Suits}
-use Rattle.lone_port.specs.Lone.{LonePortView, book_of}
+use Rattle.lone_port.specs.Lone.{LonePortView, Turns}
 use Rattle.lone_port.specs.World.{Plays, world_at_first}
 use Rattle.lone_port.specs.declared.event.Event.{Event}
 use Rattle.lone_port.specs.Alone.{IsOwn, IsOwnStep, for_one, told_to_one, world_of}
 use Rattle.search_pool.specs.End.{polls_after}
+
+-- From one state to the next, of a table and a desk that are watched: a poll asks the stop, answers what that says and changes nothing else; each other
+-- request is answered by the table and the desk, and the stop isn't asked.
+abbrev pub Watches : LonePortView → Signal → List Key → Request → Option Reply → LonePortView → Signal → Type 0
+Watches before signal path Poll (Some (Polled answer)) after later = (after ≡ before) × (later ≡ polled signal answer)
+Watches before signal path request answer after later = Turns before path request answer after × (later ≡ signal)
 
 -- Whether the answer says that all units were drawn; that all room was claimed; that a note is posted, now or before; that the worker is to stop.
 abbrev pub says_spent : Exchange → Bool
@@ -67,9 +76,8 @@ IsQuiet before after schedule log =
     ⊎ (WasSaid says_stop log × (after.raised ≡ one_more before.raised) × (after.last ≡ after.polls))
 
 -- A search with one worker goes on so: the world of one worker comes by a schedule to where table, desk and worker stand; no stop waits to be
--- told; the worker stands by the log, and winds up where it was told to; table and desk suit it; what was said of the desk holds, whose units and room are the
--- settings'; the worker had all units and all room that the desk gave; the stop was polled as often as it polls, and not armed; and unless the stop signalled,
--- no stop was signalled to the worker.
+-- told; the worker stands by the log, and winds up where it was told to; what was said of the desk holds, whose units and room are the
+-- settings'; the stop was polled as often as it polls, and not armed; and unless the stop signalled, no stop was signalled to the worker.
 pub record IsUnderWay (problem : Board) (s : SettingsView) (before after : Signal) (port : LonePortView) (worker : WorkerView) : Type 0 where
   pub schedule : List Event
   pub log : List Exchange
@@ -78,18 +86,24 @@ pub record IsUnderWay (problem : Board) (s : SettingsView) (before after : Signa
   pub leads : Leads (task_for problem 1) log worker.state
   pub task : worker.task ≡ task_for problem 1
   pub idle : worker.waiting ≡ false
-  pub suits : Suits worker (book_of port)
   pub desk : IsToldDesk log port.desk
   pub winding : IsWindingUp log port worker
   pub expansions : port.desk.expansions ≡ s.expansions
   pub room : port.desk.room ≡ s.room
-  pub units : port.desk.drawn ≡ worker.state.visits
-  pub rooms : port.desk.claimed ≡ worker.state.claims
   pub quiet : IsQuiet before after schedule log
   pub polls : after.polls ≡ polls_after log before.polls
   pub armed : after.armed ≡ before.armed
   pub arms : after.arms ≡ before.arms
   pub early : after.early ≡ before.early
+
+-- So with a table and a desk that are watched: those of the world are opened anew for each turn, and these never.
+abbrev pub IsWatched : Board → SettingsView → Signal → Signal → LonePortView → WorkerView → Type 0
+IsWatched problem s before after port worker =
+    (its_going : Bool) × (its_stops : Bool) × IsUnderWay problem s before after (record port { going = its_going; stops = its_stops }) worker
+
+-- The worker had all units and all room that the desk gave.
+abbrev pub HadAll : LonePortView → WorkerView → Type 0
+HadAll port worker = (port.desk.drawn ≡ worker.state.visits) × (port.desk.claimed ≡ worker.state.claims)
 
 -- The cause names the worker's end, and the setting.
 abbrev pub IsCauseOf : SettingsView → WorkEnd → Cause → Type 0

@@ -1,37 +1,46 @@
 // A search with one worker.
-ghost use Rattle.std.specs.Prelude.{◌≡◌, ℕ, IsTrue, IfOk, IfSome, IfNone, ◌⊎◌, Some, None, true, false, MatchOption, if◌then◌else◌};
+ghost use Rattle.std.specs.Prelude.{◌≡◌, ℕ, IfOk, IfSome, IfNone, ◌⊎◌, Some};
 ghost use Rattle.search_limits.specs.Settings.{settings_in};
-ghost use Rattle.visit_log.specs.Machine.{asks, end_of};
+ghost use Rattle.visit_log.specs.Machine.{end_of};
 ghost use Rattle.visit_log.specs.declared.words.WorkEnd.TheVariants.{Posted, NoMemory};
-ghost use Rattle.worker_core.specs.Machine.{is_poll};
-ghost use Rattle.search_gate.specs.Stop.{polled};
 ghost use Rattle.search_pool.specs.End.{IsAlone, IsAloneUntil, IsSolution, HeedsStop};
-ghost use Rattle.search_pool.specs.Inside.{IsUnderWay, IsCauseOf};
+ghost use Rattle.search_pool.specs.Inside.{IsWatched, HadAll, IsCauseOf};
 ghost use Rattle.worker_core.specs.Port.{Suits};
 ghost use Rattle.lone_port.specs.Lone.{alone_at_first, worker_at_first, book_of};
 
+use crate::watched::Watched;
 use crate::{Crew, SearchEnd};
-use lone_port::{LonePort, step};
+use lone_port::LonePort;
 use notes::HEIGHT_LIMIT;
 use search_gate::{Gate, OpenGate, QuietStop, Stop};
 use search_limits::{Cause, Settings};
 use shogi_rules::Problem;
 use std::alloc::{AllocError, Global};
 use visit_log::{WorkEnd, visit_laws};
-use worker_core::Worker;
+use worker_core::{Worker, work};
 
-// Whether the worker is told to stop at its next request: the stop is polled where that is a poll, and nowhere else.
-fn is_stopped<T: Stop>(worker: &Worker, stop: &mut T) -> bool
-    ensures at_polls { result ≡ true → is_poll (asks worker.now.state) ≡ true }
-    ensures signal { T.signal stop.new ≡ (if is_poll (asks worker.now.state) then polled (T.signal stop.old) result else T.signal stop.old) }
+// Has the worker work over a table and a desk that are watched, until it has ended, and says how. They stay the same ones.
+fn work_watched<G: Gate, T: Stop>(
+    alloc: Global,
+    problem: &Problem,
+    settings: &Settings,
+    watched: &mut Watched<'_, G, T>,
+    worker: &mut Worker,
+) -> WorkEnd
+    requires made { watched.old.port.now ≡ alone_at_first problem.now.position settings.now.expansions settings.now.room settings.now.rows }
+    requires worker { worker.old ≡ worker_at_first problem.now.position 1 }
+    requires suits { Suits worker.old (book_of watched.old.port.now) }
+    ensures port { watched.new.port.ghost_name ≡ watched.old.port.ghost_name }
+    ensures stop { watched.new.stop.ghost_name ≡ watched.old.stop.ghost_name }
+    ensures way { IsWatched problem.now.position (settings_in settings.now) (T.signal watched.old.stop.now) (T.signal watched.new.stop.now) watched.new.port.now worker.new }
+    ensures had { HadAll watched.new.port.now worker.new }
+    ensures desk { watched.new.port.now.desk.position ≡ problem.now.position }
+    ensures ended { end_of worker.new.state ≡ Some result }
 {
-    if worker.is_polling() {
-        return stop.poll();
-    }
-    false
+    work(alloc, worker, watched)
 }
 
-// Has the worker work over the table and the desk until it has ended, and says how. It polls the stop before it draws a unit and passes the gate behind that.
+// Has the worker work over the table and the desk until it has ended, and says how: each poll asks the stop, and the gate is passed behind each unit.
 fn work_alone<G: Gate, T: Stop>(
     alloc: Global,
     problem: &Problem,
@@ -41,20 +50,16 @@ fn work_alone<G: Gate, T: Stop>(
     gate: &G,
     stop: &mut T,
 ) -> WorkEnd
-    requires { IsUnderWay problem.now.position (settings_in settings.now) (T.signal stop.old) (T.signal stop.old) port.old worker.old }
-    ensures way { IsUnderWay problem.now.position (settings_in settings.now) (T.signal stop.old) (T.signal stop.new) port.new worker.new }
+    requires made { port.old ≡ alone_at_first problem.now.position settings.now.expansions settings.now.room settings.now.rows }
+    requires worker { worker.old ≡ worker_at_first problem.now.position 1 }
+    requires suits { Suits worker.old (book_of port.old) }
+    ensures way { IsWatched problem.now.position (settings_in settings.now) (T.signal stop.old) (T.signal stop.new) port.new worker.new }
+    ensures had { HadAll port.new worker.new }
+    ensures desk { port.new.desk.position ≡ problem.now.position }
     ensures ended { end_of worker.new.state ≡ Some result }
 {
-    'turns: loop {
-        let stops = is_stopped(worker, stop);
-        let drawn = port.drawn();
-        if let Some(end) = step(alloc, port, worker, stops) {
-            return end;
-        }
-        if port.drawn() > drawn {
-            gate.pass(1, port.drawn());
-        }
-    }
+    let mut watched = Watched { port, gate, stop };
+    work_watched(alloc, problem, settings, &mut watched, worker)
 }
 
 // Why a search gave up whose worker ended so; none where that was for want of memory, or since a note is posted.

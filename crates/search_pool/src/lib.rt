@@ -10,6 +10,7 @@ mod end;
 mod laws;
 mod table;
 mod tally;
+mod watched;
 
 pub use alone::{search_alone, search_alone_gated, search_alone_until};
 pub use end::{Crew, SearchEnd};

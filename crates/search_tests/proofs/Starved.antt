@@ -2,10 +2,9 @@
 use Rattle.std.proofs.Common.{◌≡◌, false, ◌∙◌, List, [], ◌∷◌, inr, arith, ap, refl}
 use Rattle.visit_log.specs.declared.words.WorkEnd.{WorkEnd}
 use Rattle.visit_log.specs.declared.words.WorkEnd.TheVariants.{NoMemory}
-use Rattle.visit_log.specs.declared.parts.Stage.{Stage}
-use Rattle.visit_log.specs.declared.parts.Stage.TheVariants.{Polling, Drawing, Entering, Looking, Claiming, Leaving, Posting, Winding}
+use Rattle.visit_log.specs.declared.parts.Stage.TheVariants.{Winding}
 use Rattle.visit_log.specs.Frame.{FrameView}
-use Rattle.visit_log.specs.Machine.{State, starve, starve_at, starve_winding}
+use Rattle.visit_log.specs.Machine.{State, starve, starve_winding}
 use Rattle.visit_log.specs.Run.{WorkerView}
 use Rattle.visit_log.specs.Laws.{IsLeftAlone}
 use Rattle.visit_log.proofs.Offered.{winds_starved}

@@ -1,12 +1,7 @@
 use Rattle.std.proofs.Common.{Some, sym, ap, ◌∙◌}
 use Rattle.search_limits.specs.Settings.{settings_in}
-use Rattle.search_pool.proofs.Ends.{begun, ends_solved, heeds_solved, ends_unknown, heeds_unknown}
+use Rattle.search_pool.proofs.Ends.{ends_solved, heeds_solved, ends_unknown, heeds_unknown}
 use Rattle.search_pool.proofs.alone.search_over.Goals as goal
-
-pub work_alone-end-requires-after_bounds : goal.work_alone-end-requires-after_bounds
-work_alone-end-requires-after_bounds g c = λ lifetimes bounds.
-    begun c.args.problem.now.position (settings_in c.args.settings.now) (g.T.Stop.signal c.args.stop.now) c.args.port.now c.make-worker.result
-    c.requires.made c.make-worker.ensures c.requires.suits
 
 pub returns-in-Some-clause-alone : goal.returns-in-Some-clause-alone
 returns-in-Some-clause-alone g c =
@@ -23,7 +18,8 @@ returns-in-Some-clause-heeds g c =
 pub returns-clause-alone : goal.returns-clause-alone
 returns-clause-alone g c =
     ends_unknown c.args.problem.now.position (settings_in c.args.settings.now) (g.T.Stop.signal c.args.stop.now) (g.T.Stop.signal c.work_alone-end.new.stop)
-    c.work_alone-end.new.port c.work_alone-end.new.worker c.work_alone-end.result c.in-Some-cause_of.cause c.new.result c.work_alone-end.ensures.way c.work_alone-end.ensures.ended
+    c.work_alone-end.new.port c.work_alone-end.new.worker c.work_alone-end.result c.in-Some-cause_of.cause c.new.result c.work_alone-end.ensures.way
+    c.work_alone-end.ensures.had c.work_alone-end.ensures.ended
     c.visit_laws.ensures.causes c.laws-2.ensures.whole c.in-Some-cause_of.ensures.cause
     (sym c.in_default.ensures) (c.new.ensures ∙ c.in_ok-vec.ensures.items)
 

@@ -1,0 +1,5 @@
+use Rattle.std.proofs.Common.{refl}
+use Rattle.search_pool.proofs.watched.WatchedPort.poll.Goals as goal
+
+pub returns-clause-turn : goal.returns-clause-turn
+returns-clause-turn g c = λ path. (refl, refl, (refl, c.poll.ensures))
