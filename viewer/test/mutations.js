@@ -11,7 +11,7 @@ const { TOP, FORGED, SAMPLES, loadCore, bytesOf, textOf, bytesOfText, firstLine,
 
 const core = loadCore();
 const HOW_MANY = Number(process.argv[2] || 2000);
-// The digest of the page's 2,000 answers. No program was built when it was noted: it shows a change, and not who is right.
+// The digest of the page's 2,000 answers, which were the built program's too: it shows a change where there is no program.
 const DIGEST = "967c754d8bebbf367af1c0f454d64e718feb8ebe796c727de841c1b69a9c885b";
 
 // ---------- The generator ----------

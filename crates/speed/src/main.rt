@@ -5,7 +5,8 @@
 //! evasions to these, and asks for the numbers with which the search begins behind each of these moves; `search`,
 //! which solves these problems, at most ROUNDS milliseconds each; `world`, which solves them by ROUNDS workers in
 //! turn; `tables`, which looks and enters in a table of 16,384 rows that is full, and in one of 1,048,576, which
-//! takes a gigabyte; the word of a part, as [`parts::ROWS`] lists them; or `all`, every part. A part does its work
+//! takes a gigabyte; `words`, which steps ROUNDS times on words that threads share, and `units`, which draws ROUNDS units
+//! of a desk that they share, each on one thread and on two and four at once; the word of a part, as [`parts::ROWS`] lists them; or `all`, every part. A part does its work
 //! ROUNDS times, 1 where no number is given, and a line says how many calls that were and a check sum of what they
 //! answered, the same on every machine. Of a problem that is searched it says the verdict, the visits, and the height
 //! of what shows it. With `times` it also says how long each call took, in nanoseconds, and how many a second there
@@ -18,6 +19,7 @@ mod pace;
 mod parts;
 mod problems;
 mod searches;
+mod shared;
 mod tables;
 mod trees;
 mod words;
@@ -45,6 +47,13 @@ fn main(rt: HostRuntime) -> io::Result<()> {
         "tables" => {
             tables::tables(&rt, &asked, 16_384)?;
             tables::tables(&rt, &asked, 1_048_576)
+        }
+        "words" => shared::words(&rt, &rt, &asked),
+        "units" => {
+            let Some(boards) = Boards::set_up(rt.alloc())? else {
+                return Err(refused());
+            };
+            shared::units(&rt, &rt, &asked, &boards.opening)
         }
         _ => measure(&rt, &asked),
     }

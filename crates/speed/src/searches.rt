@@ -55,7 +55,8 @@ fn tell(
     print_done(rt, asked, verdict, begun, Done { calls: units, sum })
 }
 
-fn settings(workers: u32, units: u64) -> io::Result<Settings> {
+/// Those of a search by so many workers with so many units, and all room. Errors: a number is out of range.
+pub fn settings(workers: u32, units: u64) -> io::Result<Settings> {
     match Settings::new(workers, units, 1_400_000, 65_536, 1) {
         Ok(settings) => Ok(settings),
         Err(_) => Err(io::Error::from(io::ErrorKind::InvalidInput)),
