@@ -40,22 +40,22 @@ pub record Laws : Type 0 where
 -- ---- what an entry's text is
 
 -- A text that is a line, and not the line `end`.
-record IsEntryLine (text : List ℕ) : Type 0 where
-  inside : List ℕ
-  is_line : text ≡ line inside
-  lacks : Lacks 10 inside
-  no_end : inside ≢ codes "end"
+pub record IsEntryLine (text : List ℕ) : Type 0 where
+  pub inside : List ℕ
+  pub is_line : text ≡ line inside
+  pub lacks : Lacks 10 inside
+  pub no_end : inside ≢ codes "end"
 
 -- Entries that fit are lines other than `end`, and no two have one text.
-record AreTold {Entry : Type 0} (form : Form Entry) : Type 0 where
-  lines : (entry : Entry) → MayBeListed form entry → IsEntryLine (form.text_of entry)
-  apart : (one two : Entry) → MayBeListed form one → MayBeListed form two → form.text_of one ≡ form.text_of two → one ≡ two
+pub record AreTold {Entry : Type 0} (form : Form Entry) : Type 0 where
+  pub lines : (entry : Entry) → MayBeListed form entry → IsEntryLine (form.text_of entry)
+  pub apart : (one two : Entry) → MayBeListed form one → MayBeListed form two → form.text_of one ≡ form.text_of two → one ≡ two
 
 end_lacks : (d : ℕ) → has d (codes "end") ≡ false → Lacks d (codes "end")
 end_lacks d e = lacks_by d (codes "end") e
 
 -- A space stands in a text of three parts, and none in `end`.
-spaced_no_end : (xs ys : List ℕ) → xs ++ 32 ∷ ys ≡ codes "end" → ⊥
+pub spaced_no_end : (xs ys : List ℕ) → xs ++ 32 ∷ ys ≡ codes "end" → ⊥
 spaced_no_end xs ys e = not_lacks 32 xs ys (subst (Lacks 32) (sym e) (end_lacks 32 refl))
 
 sfen_spaced : (b : Board) → sfen_of b ≡ codes "end" → ⊥
@@ -69,7 +69,7 @@ rank_same a b h = λ i. record {
   within = is_prop→PathP (λ j. h j ≤ MOST_RANK) (λ j. le_prop) a.within b.within i;
 }
 
-rank_apart : (a b : Rank) → decimal a.number ≡ decimal b.number → a ≡ b
+pub rank_apart : (a b : Rank) → decimal a.number ≡ decimal b.number → a ≡ b
 rank_apart a b e = rank_same a b (decimal_injective a.number b.number (rank_small a) (rank_small b) e)
 
 mate_same : (one two : MateEntry) → one.rank ≡ two.rank → one.by ≡ two.by → one.at ≡ two.at → one ≡ two
@@ -107,12 +107,12 @@ module _ (laws : Laws) where
 
 -- ---- entries one behind the other
 
-line_cut : (xs ys s r : List ℕ) → Lacks 10 xs → Lacks 10 ys → line xs ++ s ≡ line ys ++ r → (xs ≡ ys) × (s ≡ r)
+pub line_cut : (xs ys s r : List ℕ) → Lacks 10 xs → Lacks 10 ys → line xs ++ s ≡ line ys ++ r → (xs ≡ ys) × (s ≡ r)
 line_cut xs ys s r p q e = cut_same 10 xs s ys r p q (sym (append_assoc xs (10 ∷ []) s) ∙ (e ∙ append_assoc ys (10 ∷ []) r))
 
 module _ {Entry : Type 0} (form : Form Entry) (told : AreTold form) where
   -- An entry at the front of a text is the only one.
-  one_entry : (a b : Entry) (s r : List ℕ) → MayBeListed form a → MayBeListed form b → form.text_of a ++ s ≡ form.text_of b ++ r → (a ≡ b) × (s ≡ r)
+  pub one_entry : (a b : Entry) (s r : List ℕ) → MayBeListed form a → MayBeListed form b → form.text_of a ++ s ≡ form.text_of b ++ r → (a ≡ b) × (s ≡ r)
   one_entry a b s r f g e =
       let mine = told.lines a f in
       let other = told.lines b g in
@@ -121,36 +121,36 @@ module _ {Entry : Type 0} (form : Form Entry) (told : AreTold form) where
       (told.apart a b f g (mine.is_line ∙ (ap line parts.0 ∙ sym other.is_line)), parts.1)
 
   -- No entry stands where the line `end` does.
-  no_entry_at_end : (a : Entry) (behind rest : List ℕ) → MayBeListed form a → end_line ++ behind ≡ form.text_of a ++ rest → ⊥
+  pub no_entry_at_end : (a : Entry) (behind rest : List ℕ) → MayBeListed form a → end_line ++ behind ≡ form.text_of a ++ rest → ⊥
   no_entry_at_end a behind rest f e =
       let mine = told.lines a f in
       let parts = line_cut (codes "end") mine.inside behind rest (end_lacks 10 refl) mine.lacks (e ∙ ap (λ (t : List ℕ). t ++ rest) mine.is_line) in
       mine.no_end (sym parts.0)
 
-  rising_next : (front : List Entry) (next : Entry) (rest : List Entry) → IsRising (map form.at (front ++ next ∷ rest)) → IsRising (map form.at (front ++ next ∷ []))
+  pub rising_next : (front : List Entry) (next : Entry) (rest : List Entry) → IsRising (map form.at (front ++ next ∷ rest)) → IsRising (map form.at (front ++ next ∷ []))
   rising_next [] next rest h = tt
   rising_next (a ∷ []) next rest h = (h.0, tt)
   rising_next (a ∷ b ∷ front) next rest h = (h.0, rising_next (b ∷ front) next rest h.1)
 
   -- No further entry that rises stands in the text.
-  abbrev Stops : List Entry → List ℕ → Type 0
+  abbrev pub Stops : List Entry → List ℕ → Type 0
   Stops entries text = (next : Entry) (rest : List ℕ) → MayBeListed form next → text ≡ form.text_of next ++ rest → IsRising (map form.at (entries ++ next ∷ [])) → ⊥
 
   end_stops : (entries : List Entry) (text behind : List ℕ) → text ≡ end_line ++ behind → Stops entries text
   end_stops entries text behind p next rest f e rising = no_entry_at_end next behind rest f (sym p ∙ e)
 
-  lacks_stops : (entries : List Entry) (text : List ℕ) → Lacks 10 text → Stops entries text
+  pub lacks_stops : (entries : List Entry) (text : List ℕ) → Lacks 10 text → Stops entries text
   lacks_stops entries text lack next rest f e rising =
       let mine = told.lines next f in
       not_lacks 10 mine.inside rest (subst (Lacks 10) (e ∙ (ap (λ (t : List ℕ). t ++ rest) mine.is_line ∙ append_assoc mine.inside (10 ∷ []) rest)) lack)
 
-  bad_stops : (entries : List Entry) (bad more : List ℕ) → Lacks 10 bad → ((entry : Entry) → MayBeListed form entry → form.text_of entry ≡ line bad → ⊥) → Stops entries (line bad ++ more)
+  pub bad_stops : (entries : List Entry) (bad more : List ℕ) → Lacks 10 bad → ((entry : Entry) → MayBeListed form entry → form.text_of entry ≡ line bad → ⊥) → Stops entries (line bad ++ more)
   bad_stops entries bad more lack none next rest f e rising =
       let mine = told.lines next f in
       let parts = line_cut bad mine.inside more rest lack mine.lacks (e ∙ ap (λ (t : List ℕ). t ++ rest) mine.is_line) in
       none next f (mine.is_line ∙ ap line (sym parts.0))
 
-  fall_stops : (entries : List Entry) (entry : Entry) (more : List ℕ) → MayBeListed form entry → (IsRising (map form.at (entries ++ entry ∷ [])) → ⊥) → Stops entries (form.text_of entry ++ more)
+  pub fall_stops : (entries : List Entry) (entry : Entry) (more : List ℕ) → MayBeListed form entry → (IsRising (map form.at (entries ++ entry ∷ [])) → ⊥) → Stops entries (form.text_of entry ++ more)
   fall_stops entries entry more fits falls next rest f e rising =
       let one = one_entry entry next more rest fits f e in
       falls (subst (λ (x : Entry). IsRising (map form.at (entries ++ x ∷ []))) (sym one.0) rising)

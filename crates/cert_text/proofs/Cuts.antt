@@ -75,7 +75,7 @@ lacks_by d (x ∷ xs) e =
     let no : x == d ≡ false = parts.0 in
     ((λ (h : x ≡ d). elim (eqb_tells x d) [ inl t ↦ absurd (let yes : x == d ≡ true = t.0 in let bad : true ≡ false = sym yes ∙ no in cc) | inr f ↦ f.1 h ]), lacks_by d xs parts.1)
 
-digits_lack : (d : ℕ) (ds : List ℕ) → d < 48 → AllDigits 10 ds → Lacks d ds
+pub digits_lack : (d : ℕ) (ds : List ℕ) → d < 48 → AllDigits 10 ds → Lacks d ds
 digits_lack d [] lt all = tt
 digits_lack d (x ∷ xs) lt all = let h = digit_from_value x all.0 in ((λ (e : x ≡ d). omega (arith, h.0)), digits_lack d xs lt all.1)
 

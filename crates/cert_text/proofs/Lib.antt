@@ -5,3 +5,4 @@ pub mod Bodies
 pub mod Again
 pub mod Readable
 pub mod Apart
+pub mod Offered

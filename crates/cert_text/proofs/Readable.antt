@@ -8,7 +8,7 @@ use Rattle.cert_text.specs.Certificate.{CertificateView, Form, MayBeListed, IsLi
 use Rattle.cert_text.specs.Reading.{IsReadCount, IsReadableOf}
 
 -- Listed entries whose positions are kept fit.
-all_fit : {A : Type 0} (form : Form A) (whole xs : List A) → ((x : A) → Contains xs x → Contains whole x) → ((x : A) → Contains whole x → form.Lists x)
+pub all_fit : {A : Type 0} (form : Form A) (whole xs : List A) → ((x : A) → Contains xs x → Contains whole x) → ((x : A) → Contains whole x → form.Lists x)
     → AllByRecursion (λ x. IsKept (form.at x)) xs → AllByRecursion (MayBeListed form) xs
 all_fit form whole [] inside listed kept = tt
 all_fit form whole (x ∷ xs) inside listed kept = (

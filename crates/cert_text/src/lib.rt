@@ -25,5 +25,6 @@ pub use fault::{CertEnd, CertFault};
 pub use head::Claim;
 pub use laws::cert_laws;
 pub use limits::MOST_ENTRIES;
+pub use parts::{behind, cut, is_before, position_of_text, rank_of_text};
 pub use read::read_cert;
 pub use write::{append_cert, append_escape_cert, append_mate_cert, append_number, write_cert};

@@ -20,8 +20,8 @@ use shogi_rules::{Problem, accept_problem};
 use std::alloc::AllocError;
 use std::cmp::Ordering;
 
-// What stands before the first such byte, and behind it.
-pub(crate) fn cut(text: &[u8], byte: u8) -> Option<(&[u8], &[u8])>
+/// What stands before the first such byte, and behind it; none where the text has no such byte. Takes no memory.
+pub fn cut(text: &[u8], byte: u8) -> Option<(&[u8], &[u8])>
     ensures front { IfSome result (λ parts. Lacks byte parts.0.now) }
     ensures parts { IfSome result (λ parts. text.now ≡ parts.0.now ++ byte ∷ parts.1.now) }
     ensures none { IfNone result (Lacks byte text.now) }
@@ -34,16 +34,16 @@ pub(crate) fn cut(text: &[u8], byte: u8) -> Option<(&[u8], &[u8])>
     None
 }
 
-// What stands behind this front.
-pub(crate) fn behind<'a>(text: &'a [u8], front: &[u8]) -> Option<&'a [u8]>
+/// What stands behind this front; none where the text doesn't begin with it. Takes no memory.
+pub fn behind<'a>(text: &'a [u8], front: &[u8]) -> Option<&'a [u8]>
     ensures found { IfSome result (λ rest. text.now ≡ front.now ++ rest.now) }
     ensures none { IfNone result ((rest : List ℕ) → text.now ≡ front.now ++ rest → ⊥) }
 {
     text.strip_prefix(front)
 }
 
-// Whether the one text comes before the other by its bytes.
-pub(crate) fn is_before(text: &[u8], with: &[u8]) -> bool
+/// Whether the one text comes before the other by its bytes. Takes no memory.
+pub fn is_before(text: &[u8], with: &[u8]) -> bool
     ensures { IsTrue result ↔ (slice_cmp nat_cmp text.now with.now ≡ Less) }
 {
     text.cmp(with) == Ordering::Less
@@ -79,8 +79,9 @@ pub(crate) fn number_of_text(text: &[u8], limit: u32) -> Option<u32>
     Some(number)
 }
 
-// The rank whose text it is.
-pub(crate) fn rank_of_text(text: &[u8]) -> Option<Rank>
+/// The rank whose text it is, 1 to [`MOST_RANK`] in decimal digits without a leading zero; none for any other text. Takes no
+/// memory.
+pub fn rank_of_text(text: &[u8]) -> Option<Rank>
     ensures text { IfSome result (λ rank. text.now ≡ decimal rank.number) }
     ensures none { IfNone result ((rank : Rank) → text.now ≡ decimal rank.number → ⊥) }
 {
@@ -124,8 +125,9 @@ fn is_same(side: Side, with: Side) -> bool
     side == with
 }
 
-// The position of a problem with this side to move whose text it is, spelled as it is written.
-pub(crate) fn position_of_text(
+/// The position of a problem with this side to move whose text it is, spelled as [`sfen_text::write_sfen`] writes it; none for any
+/// other text. `spelled` is room to write a position in: what stood there is lost. Errors: want of memory alone.
+pub fn position_of_text(
     text: &[u8],
     side: Side,
     spelled: &mut Vec<u8>,

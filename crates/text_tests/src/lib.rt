@@ -1,4 +1,4 @@
-//! The public calls on texts (moves, positions, certificates, collections) and on problems by number, by examples.
+//! The public calls on texts (moves, positions, certificates, bounds, collections) and on problems by number, by examples.
 //!
 //! The tests of this layer stand here and not in its libraries, so that no library is proved twice. Without tests this
 //! crate is empty.
@@ -6,6 +6,8 @@
 
 #[cfg(test)]
 mod advice;
+#[cfg(test)]
+mod bounds;
 #[cfg(test)]
 mod certificates;
 #[cfg(test)]
