@@ -1,5 +1,5 @@
 // What the threads of a search share: counts of workers, and the units of a desk.
-ghost use Rattle.std.specs.Prelude.{◌≡◌, ◌<◌, ◌+◌, length, OnSome};
+ghost use Rattle.std.specs.Prelude.{◌≡◌, ◌<◌, ◌+◌, length};
 
 use crate::pace::{Done, print_done};
 use crate::searches::settings;
@@ -43,20 +43,6 @@ fn visits(counts: &WorkerCounts, mut seat: CountSeat, word: usize, rounds: u64) 
     }
 }
 
-// The next unit that a seat draws, if it gets one.
-fn drawn_by(desk: &WordDesk, seat: &mut DeskSeat) -> Option<u64>
-    requires desk { seat.old.desk ≡ desk.now }
-    requires goes_on { seat.old.draw_ends ≡ 0 }
-    ensures desk { seat.new.desk ≡ desk.now }
-    ensures goes_on { OnSome result (seat.new.draw_ends ≡ 0) }
-{
-    match desk.draw(seat) {
-        Draw::Go(unit) => Some(unit),
-        Draw::Done => None,
-        Draw::Spent => None,
-    }
-}
-
 // Draws until there is no unit left: how many units that were, and their sum.
 fn draws(desk: &WordDesk, mut seat: DeskSeat) -> Done
     requires desk { seat.desk ≡ desk.now }
@@ -64,7 +50,7 @@ fn draws(desk: &WordDesk, mut seat: DeskSeat) -> Done
 {
     let mut done = Done::nothing();
     for _ in 0..u64::MAX {
-        let Some(unit) = drawn_by(desk, &mut seat) else {
+        let Draw::Go(unit) = desk.draw(&mut seat) else {
             return done;
         };
         done.add(unit);

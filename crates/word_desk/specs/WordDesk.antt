@@ -67,14 +67,15 @@ pub record IsSeat (seat : DeskSeatView) : Type 0 where
   pub claims : length seat.claims ≤ seat.desk.room
   pub note : IfSome seat.note (IsAnswerTo seat.desk.position)
 
--- What a draw answers, and the seat after it. Done: a note is posted, which the seat has met now. Spent: it hasn't met one, and all units were
--- drawn. Go: it hasn't met one, and this unit is drawn. Nothing else changes.
+-- What a draw answers, and the seat after it. Done: it has met a posted note now. Spent: it hasn't met one, and got no unit. Go: it hasn't met
+-- one, and this unit is drawn. Nothing else changes. What Done and Spent say of all seats shows at the close (`Ends`).
 abbrev pub Draws : DeskSeatView → Draw → DeskSeatView → Type 0
 Draws seat Done after = after ≡ record seat { draw_ends = seat.draw_ends + 1; met = true }
 Draws seat Spent after = (seat.met ≡ false) × (after ≡ record seat { draw_ends = seat.draw_ends + 1 })
 Draws seat (Go unit) after = (seat.met ≡ false) × IsFromTo 1 seat.desk.expansions unit × (after ≡ record seat { units = unit ∷ seat.units })
 
--- What a claim answers, and the seat after it. NoRoom: all room was claimed. Room: that of this number is claimed. Nothing else changes.
+-- What a claim answers, and the seat after it. NoRoom: it got none. Room: that of this number is claimed. Nothing else changes. What NoRoom says
+-- of all seats shows at the close (`Ends`).
 abbrev pub Claims : DeskSeatView → RoomAnswer → DeskSeatView → Type 0
 Claims seat NoRoom after = after ≡ record seat { claim_ends = seat.claim_ends + 1 }
 Claims seat (Room number) after = IsFromTo 1 seat.desk.room number × (after ≡ record seat { claims = number ∷ seat.claims })

@@ -95,7 +95,8 @@ impl WordDesk {
     }
 
     /// The next unit of work: Done where a note is posted; else Spent where all units were drawn; else the number of the unit, from 1,
-    /// which no other draw gets. A seat that got none draws no more.
+    /// which no other draw gets. A seat that got none draws no more. That a note was posted, or all units drawn, [`close`](WordDesk::close)
+    /// tells; a draw tells its own seat alone.
     pub fn draw(&self, seat: &mut DeskSeat) -> Draw
         requires seat { seat.old.desk ≡ self.now }
         requires goes_on { seat.old.draw_ends ≡ 0 }
@@ -116,7 +117,7 @@ impl WordDesk {
     }
 
     /// Room for another note: NoRoom where all room was claimed; else the number of the note, from 1, which no other claim gets. A seat
-    /// that got none claims no more.
+    /// that got none claims no more. That all room was claimed, [`close`](WordDesk::close) tells.
     pub fn claim(&self, seat: &mut DeskSeat) -> RoomAnswer
         requires seat { seat.old.desk ≡ self.now }
         requires goes_on { seat.old.claim_ends ≡ 0 }

@@ -12,14 +12,14 @@ pub const POSTED: u64 = 1 << 40;
 pub struct View {
     /// How many of all parts the seat has.
     pub parts: u64,
-    /// The numbers that it drew where no note was posted, the last one first.
+    /// The numbers that it drew where no note was posted.
     pub drawn: LinkedList<u64>,
-    /// The numbers that it drew where a note was posted, the last one first.
+    /// The numbers that it drew where a note was posted.
     pub missed: LinkedList<u64>,
-    /// The numbers that it claimed, the last one first.
+    /// The numbers that it claimed.
     pub claimed: LinkedList<u64>,
-    /// Whether it has met a posted note, by a draw or a post of its own.
+    /// Whether it, or a seat that was joined to it, has met a posted note by a draw or a post.
     pub met: bool,
-    /// Whether it has posted the first note.
+    /// Whether it, or a seat that was joined to it, has posted the first note.
     pub won: bool,
 }

@@ -62,10 +62,10 @@ loads size slots id me i lt s k homes at word =
     )
 
 pub adds : (size slots id : ℕ) (me : Me ℕ View) (i : ℕ) → i < size → 0 < me.0.parts → length me.0.added < MOST_ADDED
-    → Allows (λ s. IsKept size s.words s.views) slots id me i (λ n. (n + 1) % 2 ^ 64) (λ n later. (later ≡ (after_add me.0 i, me.1)) × (times i me.0.added ≤ n))
+    → Allows (λ s. IsKept size s.words s.views) slots id me i (λ n. (n + 1) % 2 ^ 64) (λ n later. (later ≡ (after_add me.0 i n, me.1)) × (times i me.0.added ≤ n))
 adds size slots id me i lt some_part room s k homes at word =
-    let w : View = after_add me.0 i in
     let n : ℕ = slice_index s.words i in
+    let w : View = after_add me.0 i n in
     let all = sum_by-at (added_of i) s.views id me.0 at in
     let c = k.counts i lt in
     let b = sum_fits i s.views k.fit in
@@ -88,10 +88,10 @@ less n some_left fits =
     omega (arith, e, some_left)
 
 pub subtracts : (size slots id : ℕ) (me : Me ℕ View) (i : ℕ) → i < size → 0 < times i me.0.added
-    → Allows (λ s. IsKept size s.words s.views) slots id me i (λ n. (n + (2 ^ 64 - 1)) % 2 ^ 64) (λ n later. (later ≡ (after_subtract me.0 i, me.1)) × (times i me.0.added ≤ n))
+    → Allows (λ s. IsKept size s.words s.views) slots id me i (λ n. (n + (2 ^ 64 - 1)) % 2 ^ 64) (λ n later. (later ≡ (after_subtract me.0 i n, me.1)) × (times i me.0.added ≤ n))
 subtracts size slots id me i lt there s k homes at word =
-    let w : View = after_subtract me.0 i in
     let n : ℕ = slice_index s.words i in
+    let w : View = after_subtract me.0 i n in
     let c = k.counts i lt in
     let all = sum_by-at (added_of i) s.views id me.0 at in
     let fit = All-at IsFit s.views id me.0 k.fit at in

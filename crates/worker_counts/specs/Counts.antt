@@ -22,23 +22,23 @@ without_one word (each ∷ others) = if each == word then others else (each ∷ 
 
 -- The view of the first seat: it has every part, has added nothing, and has loaded nothing.
 abbrev pub whole : View
-whole = record { parts = MOST_SEATS; added = []; loads = []; loaded = 0 }
+whole = record { parts = MOST_SEATS; added = []; loads = []; loaded = 0; found = 0 }
 
 -- The view of a new seat: it has one part, has added nothing, and has loaded nothing.
 abbrev pub newcomer : View
-newcomer = record { parts = 1; added = []; loads = []; loaded = 0 }
+newcomer = record { parts = 1; added = []; loads = []; loaded = 0; found = 0 }
 
 -- After a load: the word and its count stand before the earlier loads, of which the last ones are kept.
 abbrev pub after_load : View → ℕ → ℕ → View
 after_load view word count = record view { loads = take KEPT_LOADS ((word, count) ∷ view.loads); loaded = view.loaded + 1 }
 
--- After an add: the word stands among the added ones once more.
-abbrev pub after_add : View → ℕ → View
-after_add view word = record view { added = word ∷ view.added }
+-- After an add to a word that was so much: it stands among the added ones once more.
+abbrev pub after_add : View → ℕ → ℕ → View
+after_add view word count = record view { added = word ∷ view.added; found = count }
 
--- After a subtract: the word stands among the added ones once less.
-abbrev pub after_subtract : View → ℕ → View
-after_subtract view word = record view { added = without_one word view.added }
+-- After a subtract from a word that was so much: it stands among the added ones once less.
+abbrev pub after_subtract : View → ℕ → ℕ → View
+after_subtract view word count = record view { added = without_one word view.added; found = count }
 
 -- After a seat is made of one of its parts.
 abbrev pub with_part_less : View → View
@@ -50,7 +50,7 @@ after_join view other = record view { parts = view.parts + other.parts; added = 
 
 -- What is left of a seat that was joined to another: it has no part, and has added nothing.
 abbrev pub spent : View
-spent = record { parts = 0; added = []; loads = []; loaded = 0 }
+spent = record { parts = 0; added = []; loads = []; loaded = 0; found = 0 }
 
 -- WHAT IS KEPT.
 

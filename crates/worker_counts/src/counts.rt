@@ -66,7 +66,7 @@ impl WorkerCounts {
         requires seat { seat.old.counts ≡ self.now }
         requires word { word < self.now.words }
         requires room { length seat.old.view.added < MOST_ADDED }
-        ensures view { seat.new ≡ record seat.old { view = after_add seat.old.view word } }
+        ensures view { seat.new ≡ record seat.old { view = after_add seat.old.view word result } }
         ensures own { times word seat.old.view.added ≤ result }
     {
         self.table
@@ -79,7 +79,7 @@ impl WorkerCounts {
         requires seat { seat.old.counts ≡ self.now }
         requires word { word < self.now.words }
         requires added { 0 < times word seat.old.view.added }
-        ensures view { seat.new ≡ record seat.old { view = after_subtract seat.old.view word } }
+        ensures view { seat.new ≡ record seat.old { view = after_subtract seat.old.view word result } }
         ensures own { times word seat.old.view.added ≤ result }
     {
         self.table

@@ -25,14 +25,14 @@ impl Play<u8, View> for LoadStep {
 pub(crate) struct AddStep;
 
 impl Play<u8, View> for AddStep {
-    ghost then = { λ step me count later. (later ≡ (after_add me.0 step.word, me.1)) × (times step.word me.0.added ≤ count) };
+    ghost then = { λ step me count later. (later ≡ (after_add me.0 step.word count, me.1)) × (times step.word me.0.added ≤ count) };
 }
 
 /// A subtract: the word stands among what the seat has added once less.
 pub(crate) struct SubtractStep;
 
 impl Play<u8, View> for SubtractStep {
-    ghost then = { λ step me count later. (later ≡ (after_subtract me.0 step.word, me.1)) × (times step.word me.0.added ≤ count) };
+    ghost then = { λ step me count later. (later ≡ (after_subtract me.0 step.word count, me.1)) × (times step.word me.0.added ≤ count) };
 }
 
 /// Seats are made and joined by parts.

@@ -15,10 +15,12 @@ pub const KEPT_LOADS: usize = 8;
 pub struct View {
     /// How many of all parts the seat has.
     pub parts: u64,
-    /// The words that the seat has added to and not subtracted from since, the last one first, each as often as that.
+    /// The words that the seat has added to and not subtracted from since, each as often as that.
     pub added: LinkedList<u64>,
     /// The seat's last loads, the last one first: the word, and what its count was.
     pub loads: LinkedList<(u64, u64)>,
     /// How many loads the seat has made.
     pub loaded: u64,
+    /// What the word was before the seat's last add or subtract; 0 before the first.
+    pub found: u64,
 }
