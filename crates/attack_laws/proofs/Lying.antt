@@ -1,7 +1,7 @@
 -- How squares lie between squares, and that a piece which slides over a square slides from it.
 use Rattle.std.proofs.Common.{◌≡◌, ◌≢◌, ◌<◌, ◌≤◌, ◌+◌, ◌/◌, ◌%◌, ◌||◌, ◌==◌, ◌⊎◌, inl, inr, ℕ, Bool, true, false, nat_le, IsTrue, arith, refl, sym, ap, ◌∙◌}
 use Rattle.std.proofs.lemmas.Bool.{eqb-true, leb-true, ltb-true, eq-eqb, le-leb, lt-ltb, and_parts, and_from, false≢true, or_cases, or_left, or_right}
-use Rattle.value_laws.proofs.Squares.{near_parts, heights_apart, level, level_back}
+use Rattle.board_laws.proofs.Squares.{near_parts, heights_apart, level, level_back}
 use Rattle.bit_boards.specs.declared.piece.Kind.{Kind}
 use Rattle.bit_boards.specs.declared.piece.Kind.TheVariants.{Pawn, Lance, Knight, Silver, Gold, Bishop, Rook, King}
 use Rattle.bit_boards.specs.declared.piece.Side.{Side}

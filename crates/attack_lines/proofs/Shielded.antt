@@ -1,9 +1,9 @@
 -- What alone keeps a piece off: the one occupied square between; and that such a piece slides.
 use Rattle.std.proofs.Common.{◌≡◌, ℕ, ◌<◌, ◌==◌, ◌&&◌, ◌↔◌, List, Option, Some, None, Bool, true, false, not, is_some, IsTrue, IsSomeAnd, inl, inr, refl, sym, ap, subst, ◌∙◌, eq-eqb, ne_eqb}
 use Rattle.std.proofs.lemmas.Bool.{cases_Bool, cases_eq, and_from, or_cases, both_ways, not_from_true, not_from_false, false≢true}
-use Rattle.value_laws.proofs.Sides.{same_side_itself}
-use Rattle.value_laws.proofs.Squares.{line_back}
-use Rattle.value_laws.proofs.Cells.{empty_of}
+use Rattle.board_laws.proofs.Sides.{same_side_itself}
+use Rattle.board_laws.proofs.Squares.{line_back}
+use Rattle.board_laws.proofs.Cells.{empty_of}
 use Rattle.bit_boards.specs.declared.piece.Kind.{Kind}
 use Rattle.bit_boards.specs.declared.piece.Kind.TheVariants.{Pawn, Lance, Knight, Silver, Gold, Bishop, Rook, King}
 use Rattle.bit_boards.specs.declared.piece.Side.{Side}

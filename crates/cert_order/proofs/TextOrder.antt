@@ -17,7 +17,7 @@ use Rattle.std.proofs.lemmas.Map.Lookups.{exact_bytes}
 use Rattle.std.proofs.lemmas.Map.Entries.{place_from_lookup, btree_map_get_place}
 use Rattle.std.proofs.lemmas.Map.Keys.{Less-from_sorted, sorted_tail}
 use Rattle.std.proofs.lemmas.Option.{same_Some}
-use Rattle.value_laws.proofs.Keys.{equal_of}
+use Rattle.board_laws.proofs.Keys.{equal_of}
 use Rattle.list_laws.proofs.Mapped.{written, unwritten}
 use Rattle.board_core.specs.Board.{Board}
 use Rattle.board_core.specs.Kept.{IsKept}

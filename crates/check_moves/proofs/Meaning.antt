@@ -3,8 +3,8 @@ use Rattle.std.proofs.Common.{◌≡◌, ◌≢◌, ◌<◌, ◌/◌, ◌&&◌, 
 use Rattle.std.specs.Prelude.{IsSomeAnd}
 use Rattle.std.proofs.lemmas.Bool.{cases_eq, and_parts, or_cases, or_left, or_right, not-true}
 use Rattle.std.proofs.lemmas.Option.{same_Some}
-use Rattle.value_laws.proofs.Cells.{piece_at-set_same, piece_at-set_other, no_king_here}
-use Rattle.value_laws.proofs.Sides.{other_twice, sides_differ}
+use Rattle.board_laws.proofs.Cells.{piece_at-set_same, piece_at-set_other, no_king_here}
+use Rattle.board_laws.proofs.Sides.{other_twice, sides_differ}
 use Rattle.bit_boards.specs.declared.piece.Kind.{Kind}
 use Rattle.bit_boards.specs.declared.piece.Side.{Side}
 use Rattle.bit_boards.specs.declared.piece.Piece.{Piece}

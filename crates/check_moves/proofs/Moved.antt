@@ -1,6 +1,6 @@
 -- Which moves a check can be: one of an own piece, or the drop of another piece than the king.
 use Rattle.std.proofs.Common.{◌≡◌, List, [], Bool, true, subst, sym}
-use Rattle.value_laws.proofs.Cells.{own_is, no_king_in}
+use Rattle.board_laws.proofs.Cells.{own_is, no_king_in}
 use Rattle.bit_boards.specs.declared.square.Square.{Square}
 use Rattle.bit_boards.specs.declared.piece.Kind.TheVariants.{King}
 use Rattle.board_core.specs.declared.moves.Move.{Move}

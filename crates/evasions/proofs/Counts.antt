@@ -4,7 +4,7 @@ use Rattle.std.specs.List.{filter, list_any, range_with_len}
 use Rattle.std.proofs.lemmas.Bool.{cases_lt, eqb-true, or_cases, or_left, or_right}
 use Rattle.std.proofs.lemmas.List.Sums.{length-filter, sum_by-cons}
 use Rattle.std.proofs.lemmas.List.Folds.{Any-from_list_any, list_any-from_Any}
-use Rattle.value_laws.proofs.Truth.{same_truth}
+use Rattle.board_laws.proofs.Truth.{same_truth}
 use Rattle.bit_boards.specs.declared.square.Square.{Square}
 use Rattle.bit_boards.specs.declared.piece.Kind.{Kind}
 use Rattle.bit_boards.specs.declared.piece.Kind.TheVariants.{Pawn, Lance, Knight, Silver, Gold, Bishop, Rook, King}

@@ -1,7 +1,7 @@
 -- When a move is an evasion, by the sets of squares that are made of legal moves.
 use Rattle.std.proofs.Common.{◌≡◌, ◌↔◌, ℕ, Bool, true, refl, ◌∙◌, nat_lt}
 use Rattle.std.proofs.lemmas.Bool.{lt-ltb}
-use Rattle.value_laws.proofs.Cells.{own_is, no_king_in}
+use Rattle.board_laws.proofs.Cells.{own_is, no_king_in}
 use Rattle.bit_boards.specs.declared.square.Square.{Square}
 use Rattle.bit_boards.specs.declared.piece.Kind.{Kind}
 use Rattle.bit_boards.specs.declared.piece.Kind.TheVariants.{King}

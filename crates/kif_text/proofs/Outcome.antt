@@ -25,8 +25,8 @@ use Rattle.kif_text.specs.Header.{rows_of, HasFaultSaid, HasLineFault, Shows}
 use Rattle.kif_text.specs.Reading.{header_of, Spells, HasFirstLineFault, HasFirstFault, IsReadingOutcome}
 use Rattle.kif_text.specs.Steps.{IsReadFrom}
 use Rattle.kif_text.proofs.First.{one_first, none_or_first}
-use Rattle.value_laws.proofs.Kept.{no_fault}
-use Rattle.value_laws.proofs.Cells.{piece_at_is}
+use Rattle.board_laws.proofs.Kept.{no_fault}
+use Rattle.board_laws.proofs.Cells.{piece_at_is}
 
 -- ---- the cells of nine rows
 

@@ -4,7 +4,7 @@ use borrow.Author.Tests.{ne_eqb}
 use Rattle.std.specs.Prelude.{slice_index, slice_set, is_some}
 use Rattle.std.proofs.lemmas.Bool.Decides.{eqb_tells}
 use Rattle.std.proofs.lemmas.List.{get_or-drop, drop-drop, get_or-set_other}
-use Rattle.value_laws.proofs.Cells.{piece_at-set_same, piece_at_is}
+use Rattle.board_laws.proofs.Cells.{piece_at-set_same, piece_at_is}
 use Rattle.bit_boards.specs.declared.piece.Piece.{Piece}
 use Rattle.board_core.specs.Board.{piece_at, content_of}
 use Rattle.kif_text.specs.Characters.{is, cell_of}

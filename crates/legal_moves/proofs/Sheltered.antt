@@ -3,9 +3,9 @@ use Rattle.std.proofs.Common.{◌≡◌, ◌≢◌, ◌<◌, ◌/◌, ◌%◌, �
 use Rattle.std.specs.Prelude.{IsSomeAnd}
 use Rattle.std.proofs.lemmas.Bool.{cases_eq, and_parts, or_cases}
 use Rattle.std.proofs.lemmas.Option.{same_Some}
-use Rattle.value_laws.proofs.Cells.{piece_at-set_same, piece_at-set_other, no_king_here}
-use Rattle.value_laws.proofs.Sides.{same_side_itself, same_side_is, sides_differ}
-use Rattle.value_laws.proofs.Squares.{nowhere}
+use Rattle.board_laws.proofs.Cells.{piece_at-set_same, piece_at-set_other, no_king_here}
+use Rattle.board_laws.proofs.Sides.{same_side_itself, same_side_is, sides_differ}
+use Rattle.board_laws.proofs.Squares.{nowhere}
 use Rattle.bit_boards.specs.declared.piece.Kind.{Kind}
 use Rattle.bit_boards.specs.declared.piece.Kind.TheVariants.{Pawn, Lance, Knight, Silver, Gold, Bishop, Rook, King}
 use Rattle.bit_boards.specs.declared.piece.Side.{Side}

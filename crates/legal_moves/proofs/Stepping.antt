@@ -3,8 +3,8 @@ use Rattle.std.proofs.Common.{◌≡◌, ◌≢◌, ◌<◌, ◌&&◌, ◌==◌,
 use Rattle.std.specs.Prelude.{IsSomeAnd}
 use Rattle.std.proofs.lemmas.Bool.{lt-ltb, both_ways}
 use Rattle.std.proofs.lemmas.Bool.{cases_eq}
-use Rattle.value_laws.proofs.Sides.{same_side_itself, same_side_is}
-use Rattle.value_laws.proofs.Truth.{others_left, gone_before}
+use Rattle.board_laws.proofs.Sides.{same_side_itself, same_side_is}
+use Rattle.board_laws.proofs.Truth.{others_left, gone_before}
 use Rattle.bit_boards.specs.declared.piece.Kind.TheVariants.{King}
 use Rattle.bit_boards.specs.declared.piece.Side.{Side}
 use Rattle.bit_boards.specs.declared.piece.Piece.{Piece}

@@ -4,7 +4,7 @@ use Rattle.std.proofs.lemmas.Bool.{cases_eq, cases_lt, false≢true, true≢fals
 use Rattle.bit_boards.specs.Kind.{place_of}
 use Rattle.board_core.specs.Laws.{SquaresApart}
 use Rattle.std.proofs.lemmas.List.Elements.{Contains-push, Contains-push_cases, Contains-append_left}
-use Rattle.value_laws.proofs.Truth.{others_left, gone_before}
+use Rattle.board_laws.proofs.Truth.{others_left, gone_before}
 use Rattle.board_core.specs.declared.moves.Move.{Move}
 use Rattle.board_core.specs.declared.moves.Move.TheVariants as moves
 use Rattle.board_core.specs.Order.{order_of, RisesFrom}

@@ -4,7 +4,7 @@ use Rattle.std.specs.Prelude.{Some, slice_get}
 use Rattle.std.proofs.lemmas.List.{take_more}
 use Rattle.std.proofs.lemmas.Option.{slice_get_within, get_or_from_slice_get}
 use Rattle.std.proofs.lemmas.List.Elements.{Contains-append_left, Contains-push, Contains-push_cases}
-use Rattle.value_laws.proofs.Keys.{same_key}
+use Rattle.board_laws.proofs.Keys.{same_key}
 use Rattle.board_core.specs.declared.keys.Key.{Key}
 use Rattle.board_core.specs.Board.{Board}
 use Rattle.board_core.specs.Key.{key_of}

@@ -9,7 +9,7 @@ use Rattle.std.proofs.lemmas.List.Elements.{Contains-append_left, Contains-push,
 use Rattle.board_core.specs.declared.keys.Key.{Key}
 use Rattle.path_tags.specs.Tag.{IsRising, joined, without, joined_without, IsWithin}
 use Rattle.board_core.specs.KeyOrder.{key_cmp}
-use Rattle.value_laws.proofs.Keys.{key_total, key_exact, same_from_test, test_from_same, greater_back}
+use Rattle.board_laws.proofs.Keys.{key_total, key_exact, same_from_test, test_from_same, greater_back}
 use Rattle.path_tags.proofs.Rising.{AreBehind, behind_of, rest_rises, behind_further, behind_insert, rises_insert, insert_first, insert_behind, insert_same, inserted_old, inserted_new, inserted_cases, without_rises, without_kept, without_cases}
 use Rattle.path_tags.proofs.Members.{contains_head, contains_tail, contains_none, contains_cases}
 

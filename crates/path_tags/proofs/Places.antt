@@ -7,7 +7,7 @@ use Rattle.std.specs.BTreeMap.{BTreeMap, get, is_at, Updates}
 use Rattle.board_core.specs.declared.keys.Key.{Key}
 use Rattle.board_core.specs.KeyOrder.{key_cmp}
 use Rattle.path_tags.specs.Path.{first_place, IsIndex}
-use Rattle.value_laws.proofs.Keys.{key_total, same_from_test, test_from_same}
+use Rattle.board_laws.proofs.Keys.{key_total, same_from_test, test_from_same}
 use Rattle.path_tags.proofs.Members.{contains_head, contains_tail, contains_none, contains_cases}
 
 -- a key that stands on the path keeps its first place behind a push; a new one stands first where it was pushed

@@ -13,7 +13,7 @@ use Rattle.std.proofs.lemmas.List.Kept.{IsStrictlySortedBy-filter}
 use Rattle.board_core.specs.declared.keys.Key.{Key}
 use Rattle.path_tags.specs.Tag.{IsRising, without}
 use Rattle.board_core.specs.KeyOrder.{key_cmp}
-use Rattle.value_laws.proofs.Keys.{key_total, key_exact, same_from_test, test_from_same, not_below_itself, greater_back, less_back}
+use Rattle.board_laws.proofs.Keys.{key_total, key_exact, same_from_test, test_from_same, not_below_itself, greater_back, less_back}
 use Rattle.path_tags.proofs.Members.{contains_head, contains_tail, contains_none, contains_cases, all_contained}
 
 -- each key of the list comes behind the key

@@ -27,7 +27,7 @@ use Rattle.board_core.specs.declared.keys.Key.{Key}
 use Rattle.board_core.specs.Board.{Board}
 use Rattle.board_core.specs.Kept.{IsKept}
 use Rattle.board_core.specs.Key.{key_word, hands_word, key_of}
-use Rattle.value_laws.proofs.Keys.{cells_exact, position_exact, hand_small, modest_black, modest_white, key_total}
+use Rattle.board_laws.proofs.Keys.{cells_exact, position_exact, hand_small, modest_black, modest_white, key_total}
 use Rattle.list_laws.proofs.Standing.{contained, at_place, from_map, contains_map}
 use Rattle.position_places.specs.declared.places.Places.{Places}
 use Rattle.position_places.specs.Places.{ArePlacesOf}

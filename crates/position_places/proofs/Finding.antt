@@ -10,7 +10,7 @@ use Rattle.std.proofs.lemmas.List.Elements.{Contains-push_cases}
 use Rattle.std.proofs.lemmas.Option.{get_or_from_slice_get, slice_get_within}
 use Rattle.std.proofs.lemmas.List.{length_push}
 use Rattle.std.proofs.lemmas.Bool.{cases_Bool}
-use Rattle.value_laws.proofs.Keys.{equal_of}
+use Rattle.board_laws.proofs.Keys.{equal_of}
 use Rattle.list_laws.proofs.Standing.{get_kept, get_last, apart_more, contained}
 use Rattle.list_laws.proofs.Mapped.{written, unwritten}
 use Rattle.board_core.specs.declared.keys.Key.{Key}

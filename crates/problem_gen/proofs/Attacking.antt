@@ -2,7 +2,7 @@
 use Rattle.std.proofs.Common.{◌≡◌, ◌≢◌, ◌<◌, ◌⊎◌, inl, inr, ◌↔◌, ◌∙◌, ℕ, List, Option, Some, None, true, false, ap, sym, refl, subst}
 use Rattle.std.specs.Prelude.{IsSomeAnd}
 use Rattle.std.proofs.lemmas.Bool.{cases_eq}
-use Rattle.value_laws.proofs.Pieces.{not_the_king}
+use Rattle.board_laws.proofs.Pieces.{not_the_king}
 use Rattle.bit_boards.specs.declared.piece.Piece.{Piece}
 use Rattle.bit_boards.specs.declared.piece.Kind.TheVariants.{King}
 use Rattle.bit_boards.specs.declared.piece.Side.{Side}

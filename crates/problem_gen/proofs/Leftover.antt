@@ -1,6 +1,6 @@
 -- A set has one more of each kind that is drawn.
 use Rattle.std.proofs.Common.{◌≡◌, ◌<◌, ◌+◌, ◌⊎◌, inl, inr, arith, refl}
-use Rattle.value_laws.proofs.Cells.{one_if_most}
+use Rattle.board_laws.proofs.Cells.{one_if_most}
 use Rattle.bit_boards.specs.declared.piece.Kind.{Kind}
 use Rattle.bit_boards.specs.declared.piece.Kind.TheVariants.{Pawn, Lance, Knight, Silver, Gold, Bishop, Rook, King}
 use Rattle.bit_boards.specs.Kind.{same_kind, total_of}

@@ -8,7 +8,7 @@ use Rattle.std.proofs.lemmas.List.FromFn.{get_or-map-range_with_len}
 use Rattle.std.proofs.lemmas.Bool.{and_parts, lt-ltb, cases_Bool}
 use Rattle.std.proofs.lemmas.Bool.Decides.{eqb_tells, nat_tests}
 use Rattle.std.proofs.lemmas.List.{append-nil, get_or_append_left, get_or-append_right, ext_get_or, length-append, length-replicate, flat_map_more}
-use Rattle.value_laws.proofs.Cells.{piece_at_is}
+use Rattle.board_laws.proofs.Cells.{piece_at_is}
 use Rattle.bit_boards.specs.declared.piece.Piece.{Piece}
 use Rattle.sfen_text.specs.declared.fault.TextFault.{TextFault}
 use Rattle.sfen_text.specs.declared.fault.TextFault.TheVariants as faults

@@ -19,8 +19,8 @@ use Rattle.std.proofs.lemmas.Bool.Decides.{nat_tests}
 use Rattle.std.proofs.lemmas.List.{ext_get_or}
 use Rattle.std.proofs.lemmas.List.FromFn.{length-map-range_with_len, get_or-map-range_with_len}
 use Rattle.std.specs.List.{range_with_len}
-use Rattle.value_laws.proofs.Pieces.{promotes_same}
-use Rattle.value_laws.proofs.Cells.{none_everywhere, piece_at_is}
+use Rattle.board_laws.proofs.Pieces.{promotes_same}
+use Rattle.board_laws.proofs.Cells.{none_everywhere, piece_at_is}
 
 pub promoted_is : (side : Side) (kind : Kind) (h : true ≡ true → can_promote kind ≡ true) → can_promote kind ≡ true
     → Some (record { kind = kind; promoted = true; side = side; promotes = h }) ≡ promoted_piece side kind

@@ -6,7 +6,7 @@ use Rattle.std.proofs.Math.Dec.{eqb-suc-zero}
 use Rattle.std.proofs.lemmas.Bool.{and_parts, cases_Bool, eq-eqb, lt-ltb, and_right}
 use Rattle.std.proofs.lemmas.Bool.Decides.{eqb_tells, nat_tests}
 use Rattle.std.proofs.lemmas.List.{append-nil, nil_from_length, length-append, length-set, flat_map_more}
-use Rattle.value_laws.proofs.Pieces.{not_the_king}
+use Rattle.board_laws.proofs.Pieces.{not_the_king}
 use Rattle.bit_boards.specs.declared.piece.Kind.{Kind}
 use Rattle.bit_boards.specs.declared.piece.Kind.TheVariants.{Pawn, Lance, Knight, Silver, Gold, Bishop, Rook, King}
 use Rattle.bit_boards.specs.declared.piece.Side.{Side}

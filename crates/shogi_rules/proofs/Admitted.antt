@@ -1,7 +1,7 @@
 -- Nothing speaks against a move exactly where it has what a legal move has.
 use Rattle.std.proofs.Common.{◌≡◌, ◌<◌, ℕ, Bool, arith}
 use Rattle.std.proofs.lemmas.Bool.{false_from_ne_true}
-use Rattle.value_laws.proofs.Cells.{full_there}
+use Rattle.board_laws.proofs.Cells.{full_there}
 use Rattle.bit_boards.specs.declared.piece.Kind.{Kind}
 use Rattle.board_core.specs.Board.{Board, piece_at}
 use Rattle.shogi_rules.specs.Rules.{RefusesBoard, RefusesDrop}

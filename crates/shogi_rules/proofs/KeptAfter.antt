@@ -15,9 +15,9 @@ use Rattle.board_core.specs.declared.moves.Move.{Move}
 use Rattle.board_core.specs.declared.moves.Move.TheVariants as moves
 use Rattle.board_core.specs.Board.{Board, piece_at, is_pawn_of, count_of, with_cell, with_hand, with_more, with_less, with_turn_passed, hand_of, hand_count, one_if}
 use Rattle.board_core.specs.Kept.{IsKept}
-use Rattle.value_laws.proofs.Pieces.{same_kind_is, same_kind_refl}
-use Rattle.value_laws.proofs.Kept.{take_kept, put_kept, changes_cell, count_of-more, count_of-less, no_king_held}
-use Rattle.value_laws.proofs.Truth.{or_false}
+use Rattle.board_laws.proofs.Pieces.{same_kind_is, same_kind_refl}
+use Rattle.board_laws.proofs.Kept.{take_kept, put_kept, changes_cell, count_of-more, count_of-less, no_king_held}
+use Rattle.board_laws.proofs.Truth.{or_false}
 use Rattle.shogi_rules.specs.Rules.{landed_piece, hand_with_capture, promotion_fits, after_board, after_drop, after, IsLegal}
 use Rattle.shogi_rules.specs.Laws.{CanGo, CanDrop}
 use Rattle.shogi_rules.proofs.Admitted.{can_go, can_drop}

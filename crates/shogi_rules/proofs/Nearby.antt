@@ -2,8 +2,8 @@
 use Rattle.std.proofs.Common.{◌≡◌, ◌<◌, ◌/◌, ◌%◌, ◌&&◌, ◌||◌, ℕ, Option, Some, None, Bool, true, false, arith, refl, sym, ap, ◌∙◌, inl, inr}
 use Rattle.std.specs.Prelude.{IsSomeAnd, IsTrue}
 use Rattle.std.proofs.lemmas.Bool.{false≢true, or_cases, or_right, or_left, and_from}
-use Rattle.value_laws.proofs.Sides.{same_side_itself}
-use Rattle.value_laws.proofs.Squares.{line_back}
+use Rattle.board_laws.proofs.Sides.{same_side_itself}
+use Rattle.board_laws.proofs.Squares.{line_back}
 use Rattle.bit_boards.specs.declared.piece.Piece.{Piece}
 use Rattle.bit_boards.specs.declared.piece.Kind.{Kind}
 use Rattle.bit_boards.specs.declared.piece.Kind.TheVariants.{Pawn, Lance, Knight, Silver, Gold, Bishop, Rook, King}

@@ -1,6 +1,6 @@
 -- Whose turn it is after a move.
 use Rattle.std.proofs.Common.{◌≡◌, refl, ap, ◌∙◌}
-use Rattle.value_laws.proofs.Sides.{other_twice}
+use Rattle.board_laws.proofs.Sides.{other_twice}
 use Rattle.bit_boards.specs.declared.piece.Side.{Side}
 use Rattle.bit_boards.specs.Kind.{other}
 use Rattle.board_core.specs.declared.moves.Move.{Move}

@@ -7,7 +7,7 @@ use Rattle.board_core.specs.declared.moves.Move.TheVariants as moves
 use Rattle.board_core.specs.Board.{Board}
 use Rattle.shogi_rules.specs.declared.illegal.Illegal.{Illegal}
 use Rattle.shogi_rules.specs.Rules.{RefusesBoard, RefusesDrop, IsLegal, IsInCheck, IsQuiet, after_board, after_drop}
-use Rattle.value_laws.proofs.Sides.{other_twice}
+use Rattle.board_laws.proofs.Sides.{other_twice}
 
 pub legal_board_of : (b : Board) (m : Move) (from to : Square) (promote : Bool) → m ≡ moves.Board from to promote → IsLegal b m
     → (why : Illegal) → ¬ RefusesBoard b from.number to.number promote why

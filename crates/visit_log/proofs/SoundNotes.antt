@@ -13,7 +13,7 @@ use Rattle.pn_numbers.specs.declared.node.Node.{Node}
 use Rattle.pn_numbers.specs.declared.node.Node.TheVariants.{Attacker, Defender}
 use Rattle.shogi_rules.specs.Rules.{after}
 use Rattle.std.proofs.lemmas.List.Elements.{All-append, All-cons, All-contains, All-nil, All-tail, All-weaker, Contains-append_cases}
-use Rattle.value_laws.proofs.Keys.{same_key}
+use Rattle.board_laws.proofs.Keys.{same_key}
 use Rattle.visit_log.proofs.SoundChildren.{of_found}
 use Rattle.visit_log.specs.Children.{decides, deciding, note_list, notes_in, notes_under, notes_with, rule_at, rule_with}
 use Rattle.visit_log.specs.Frame.{Task, FrameView}

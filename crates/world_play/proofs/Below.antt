@@ -7,7 +7,7 @@ use Rattle.std.proofs.lemmas.List.{get_or_past}
 use Rattle.std.proofs.lemmas.List.Elements.{All-get_or}
 use Rattle.std.proofs.lemmas.List.Sums.{sum_by-cons}
 use Rattle.std.proofs.lemmas.Option.{slice_get_within, get_or_from_slice_get}
-use Rattle.value_laws.proofs.Keys.{same_from_test, test_from_same}
+use Rattle.board_laws.proofs.Keys.{same_from_test, test_from_same}
 use Rattle.board_core.specs.declared.keys.Key.{Key}
 use Rattle.board_core.specs.KeyOrder.{key_cmp}
 use Rattle.notes.specs.declared.words.Kept.{Kept}

@@ -1,5 +1,5 @@
 use Rattle.std.proofs.Common.{◌∙◌, ap}
-use Rattle.value_laws.proofs.Truth.{same_truth}
+use Rattle.board_laws.proofs.Truth.{same_truth}
 use Rattle.bit_boards.specs.Mask.{count}
 use Rattle.attack_lines.proofs.attacking.count_attackers.Goals as goal
 

@@ -1,6 +1,6 @@
 use Rattle.std.proofs.Common.{arith}
 use Rattle.std.proofs.lemmas.Bool.{both_ways}
-use Rattle.value_laws.proofs.Cells.{full_there}
+use Rattle.board_laws.proofs.Cells.{full_there}
 use Rattle.board_core.specs.Board.{piece_at}
 use Rattle.legal_moves.proofs.drops.mates.Goals as goal
 

@@ -1,6 +1,6 @@
 use Rattle.std.proofs.Common.{◌≡◌, ◌/◌, ℕ, arith, sym, subst, ◌∙◌, inl, inr, eq-eqb}
 use Rattle.std.proofs.lemmas.Bool.{cases_eq, ltb-true, lt-ltb, eqb-true, and_parts, and_from, or_left, or_right, or_cases}
-use Rattle.value_laws.proofs.Truth.{gone_before}
+use Rattle.board_laws.proofs.Truth.{gone_before}
 use Rattle.bit_boards.specs.Mask.{holds}
 use Rattle.bit_boards.specs.Square.{file_of}
 use Rattle.legal_moves.proofs.drops.pawn_files.Goals as goal

@@ -1,6 +1,6 @@
 use Rattle.std.proofs.Common.{true, false, sym, refl}
 use Rattle.shogi_rules.specs.Rules.{landed_piece}
-use Rattle.value_laws.proofs.Truth.{or_false}
+use Rattle.board_laws.proofs.Truth.{or_false}
 use Rattle.check_moves.proofs.Meaning.{stands_quiet, board_checks_are, reached_alike, promotable}
 use Rattle.check_moves.proofs.aim.Aim.piece_checks.Goals as goal
 

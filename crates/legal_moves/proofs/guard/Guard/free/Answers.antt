@@ -1,6 +1,6 @@
 use Rattle.std.proofs.Common.{◌≡◌, ◌<◌, ◌&&◌, Some, is_some, ap, sym, ◌∙◌}
 use Rattle.std.proofs.lemmas.Bool.{lt-ltb, and_parts, and_from, not-true, not_from_false}
-use Rattle.value_laws.proofs.Cells.{empty_of}
+use Rattle.board_laws.proofs.Cells.{empty_of}
 use Rattle.bit_boards.specs.declared.piece.Piece.{Piece}
 use Rattle.bit_boards.specs.Mask.{holds}
 use Rattle.bit_boards.specs.Piece.{plain_piece, is_dead}

@@ -10,7 +10,7 @@ use Rattle.bit_boards.specs.Kind.{same_side}
 use Rattle.board_core.specs.Board.{Board, piece_at, hand_of, hand_count, is_king_of}
 use Rattle.board_core.specs.Kept.{IsKept}
 use Rattle.board_core.specs.Sets.{is_of_side}
-use Rattle.value_laws.proofs.Sides.{same_side_itself}
+use Rattle.board_laws.proofs.Sides.{same_side_itself}
 -- what stands on a square after a cell was written, and how many cells there are
 pub use Rattle.board_core.proofs.Cells.{piece_at-set_same, piece_at-set_other, length-set, piece_at-get_or}
 -- what one cell counts
