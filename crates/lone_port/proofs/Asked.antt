@@ -1,19 +1,21 @@
 -- What the table does at each request, as a whole.
 use Rattle.std.proofs.Common.{sum, ◌≡◌, ◌<◌, ◌≤◌, ◌+◌, ◌-◌, ℕ, List, [], length, get_or, set, refl, sym, subst, ap, ap₂, ◌∙◌, arith, replicate, inl, inr}
-use Rattle.std.specs.Prelude.{Some, Result, Ok, Err, IfOk, All}
+use Rattle.std.specs.Prelude.{Some, Result, Ok, Err, IfOk, MatchResult, All}
 use Rattle.std.proofs.lemmas.List.{length-set, set-get_or, get_or_default}
 use Rattle.std.proofs.lemmas.List.Elements.{All-get_or, All-set}
 use Rattle.board_core.specs.declared.keys.Key.{Key}
 use Rattle.pn_numbers.specs.declared.numbers.Numbers.{Numbers}
-use Rattle.notes.specs.declared.words.Kept.TheVariants.{Slot}
+use Rattle.notes.specs.declared.words.Kept.TheVariants.{Slot, Unkept}
 use Rattle.notes.specs.declared.words.Seen.{Seen}
 use Rattle.notes.specs.declared.words.Update.{Update}
-use Rattle.table_shard.specs.Entry.{EntryView}
-use Rattle.table_shard.specs.Row.{IsRow, Looks, Enters, left}
+use Rattle.table_shard.specs.Entry.{EntryView, AreFor}
+use Rattle.table_shard.specs.Row.{IsRow, Looks, LooksBy, Enters, left}
 use Rattle.table_shard.specs.Shard.{row_of, with_row, EntersIn}
+use Rattle.table_shard.specs.Pins.{TellsCount}
+use Rattle.table_shard.specs.declared.pins.RowPins.{RowPins}
 use Rattle.table_shard.specs.Spot.{place_of, spot_of, word_of}
 use Rattle.table_shard.specs.declared.hash.Spot.{Spot}
-use Rattle.table_shard.proofs.Offered.{holds_within, length-left, place_within}
+use Rattle.table_shard.proofs.Offered.{holds_within, length-left, place_within, TellsStanding, looks_standing}
 use Rattle.visit_log.specs.declared.words.Request.TheVariants.{Look, Enter, Leave}
 use Rattle.visit_log.specs.declared.words.Reply.TheVariants.{Enter as Entered, Leave as LeftIt}
 use Rattle.visit_log.specs.Round.{MayShow}
@@ -21,7 +23,7 @@ use Rattle.visit_log.specs.Sound.{IsSoundUpdate}
 use Rattle.worker_core.specs.Port.{IsBooked, Suits, shown}
 use Rattle.board_core.specs.Board.{Board}
 use Rattle.std.proofs.lemmas.List.Folds.{sum_by-replicate}
-use Rattle.lone_port.specs.Lone.{LonePortView, IsLone, AreFor, IsLeftIn, Turns, book_of, pins_of, with_pins, pinned, unpinned, alone_at_first, worker_at_first}
+use Rattle.lone_port.specs.Lone.{LonePortView, IsLone, IsLeftIn, Turns, book_of, pins_of, with_pins, pinned, unpinned, alone_at_first, worker_at_first}
 use Rattle.lone_port.proofs.Words.{held_entered, held_left, IsOwn}
 use Rattle.lone_port.proofs.Rows.{IsEntered, entered, left_for, looks_may}
 use Rattle.lone_port.proofs.Places.{size_moves, there_moves, there_at}
@@ -37,6 +39,17 @@ pub found : (pins : List (List ℕ)) (key : Key) (p n : ℕ) (counts : List ℕ)
     → counts ≡ pins_of pins key
 found pins key p n counts long at within is =
     is ∙ (get_or_default pins p counts [] (subst (λ (m : ℕ). p < m) long within) ∙ ap (λ (q : ℕ). get_or pins q []) (at ∙ ap (place_of key) long))
+
+-- The counts of a row that nobody else changes.
+abbrev pub counts_in : RowPins → List ℕ
+counts_in pins = pins.counts.now
+
+-- They are told as they stand.
+abbrev pub tells : RowPins → ℕ → ℕ → RowPins → Type 0
+tells before slot count after = TellsCount (counts_in before) slot count × (before ≡ after)
+
+pub tells_standing : TellsStanding counts_in tells
+tells_standing before after slot count told = told
 
 -- 2. LOOKING.
 
@@ -55,6 +68,17 @@ look_may port key path (Ok seen) is rows h =
     (All-get_or (All (AreFor port.desk.position.side)) port.rows (place_of key (length port.rows)) [] (place_within key (length port.rows) is.some) is.notes)
     h
 look_may port key path (Err e) is rows h = tt
+
+-- A look by counts that stand is one by them, unless there is no memory for it.
+pub looks_in : {P E : Type 0} (counts_of : P → List ℕ) (told : P → ℕ → ℕ → P → Type 0) → TellsStanding counts_of told → (row : List EntryView) (key : Key) (path : List Key)
+    (before after : P) (r : Result Seen E) → IsRow row → MatchResult r (λ seen. LooksBy told row key path before seen after) (λ error. before ≡ after)
+    → IfOk r (Looks row (counts_of before) key path)
+looks_in counts_of told how row key path before after (Ok seen) is by = looks_standing counts_of told how row key path before after seen is by
+looks_in counts_of told how row key path before after (Err error) is by = tt
+
+-- The row of a key is kept as rows are.
+pub row_kept : (port : LonePortView) (key : Key) → IsLone port → All IsRow port.rows → IsRow (row_of port.rows key)
+row_kept port key is rows = All-get_or IsRow port.rows (place_of key (length port.rows)) [] (place_within key (length port.rows) is.some) rows
 
 -- 3. WHAT IS KNOWN OF A KEY'S ROW.
 
@@ -169,6 +193,22 @@ enter_books port after key numbers p n slot counts seen is rows long at within i
     (enter_same port after key p n slot counts enters.row long at within its enters.others)
     (enter_books_at port key numbers slot enters.row is (row_few port key is rows)
     (subst (λ (c : List ℕ). Enters (row_of port.rows key) c key numbers (Slot slot) enters.row) (found port.pins key p n seen long at within too) enters.enters))
+
+-- Entering a key is a step.
+pub enter_turns : (port : LonePortView) (path : List Key) (after : List (List EntryView)) (key : Key) (numbers : Numbers) (p n slot : ℕ) (counts seen : List ℕ) → n ≡ length port.pins
+    → p ≡ place_of key n → p < n → counts ≡ get_or port.pins p counts → seen ≡ get_or port.pins p seen → EntersIn port.rows seen key numbers (Slot slot) after
+    → Turns port path (Enter key numbers) (Some (Entered (Slot slot))) (record port { rows = after; pins = set port.pins p (set counts slot (get_or counts slot 0 + 1)) })
+enter_turns port path after key numbers p n slot counts seen long at within its too enters = (
+  subst (λ (c : List ℕ). EntersIn port.rows c key numbers (Slot slot) after) (found port.pins key p n seen long at within too) enters,
+  ap (λ (ps : List (List ℕ)). record port { rows = after; pins = ps })
+      (ap₂ (λ (q : ℕ) (c : List ℕ). set port.pins q (set c slot (get_or c slot 0 + 1))) (at ∙ ap (place_of key) long) (found port.pins key p n counts long at within its)),
+)
+
+pub refuse_turns : (port : LonePortView) (path : List Key) (after : List (List EntryView)) (key : Key) (numbers : Numbers) (p n : ℕ) (seen : List ℕ) → n ≡ length port.pins
+    → p ≡ place_of key n → p < n → seen ≡ get_or port.pins p seen → EntersIn port.rows seen key numbers Unkept after
+    → Turns port path (Enter key numbers) (Some (Entered Unkept)) (record port { rows = after })
+refuse_turns port path after key numbers p n seen long at within too enters =
+    (subst (λ (c : List ℕ). EntersIn port.rows c key numbers Unkept after) (found port.pins key p n seen long at within too) enters, refl)
 
 -- 5. LEAVING.
 

@@ -11,7 +11,7 @@ use Rattle.notes.specs.declared.words.Draw.TheVariants.{Go, Done, Spent as AllDr
 use Rattle.notes.specs.declared.words.RoomAnswer.TheVariants.{Room, NoRoom as Full}
 use Rattle.notes.specs.declared.words.Update.{Update}
 use Rattle.unit_desk.specs.Desk.{DeskView}
-use Rattle.table_shard.specs.Entry.{EntryView}
+use Rattle.table_shard.specs.Entry.{EntryView, AreFor}
 use Rattle.table_shard.specs.Row.{Enters, fresh}
 use Rattle.table_shard.specs.Shard.{row_of, with_row}
 use Rattle.table_shard.specs.Spot.{place_of, word_of}
@@ -23,7 +23,7 @@ use Rattle.visit_log.specs.declared.words.Reply.TheVariants.{Poll as Polled, Dra
 use Rattle.visit_log.specs.Visit.{Exchange}
 use Rattle.visit_log.specs.Counts.{Words, enters, leaves, enters_some, leaves_some}
 use Rattle.worker_core.specs.Port.{units_by, rooms_by}
-use Rattle.lone_port.specs.Lone.{LonePortView, AreFor, Turns, held_by, pins_of, pinned, unpinned}
+use Rattle.lone_port.specs.Lone.{LonePortView, Turns, held_by, pins_of, pinned, unpinned}
 use Rattle.lone_port.specs.Keeps.{IsKeptPort, MayAsk, IsCountedBy, TurnsAreCounted}
 use Rattle.lone_port.proofs.Asked.{after_enter, enter_keeps_at, enter_books_at, after_leave, left_row, leave_keeps_at, leave_books_at}
 use Rattle.lone_port.proofs.Words.{own}

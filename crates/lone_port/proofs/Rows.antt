@@ -9,17 +9,17 @@ use Rattle.pn_numbers.specs.declared.numbers.Numbers.{Numbers}
 use Rattle.pn_numbers.specs.Numbers.{IsOpen}
 use Rattle.path_tags.specs.Tag.{IsWithin}
 use Rattle.notes.specs.Derivation.{Derivation, attacker_of, tag_of}
-use Rattle.notes.specs.declared.words.Kept.TheVariants.{Slot}
+use Rattle.notes.specs.declared.words.Kept.{Kept}
+use Rattle.notes.specs.declared.words.Kept.TheVariants.{Slot, Unkept}
 use Rattle.notes.specs.declared.words.Seen.{Seen}
 use Rattle.notes.specs.declared.words.Seen.TheVariants.{New, Open, Solved}
 use Rattle.notes.specs.declared.words.Update.{Update}
 use Rattle.notes.specs.declared.words.Update.TheVariants.{Numbers as SetNumbers, Note as AddNote, Nothing as ChangeNothing}
-use Rattle.table_shard.specs.Entry.{EntryView, IsEntry, IsFirstWithin, IsFactAbout, Shows, is_closed, has_closed, noted, updated}
+use Rattle.table_shard.specs.Entry.{EntryView, AreFor, IsEntry, IsFirstWithin, IsFactAbout, Shows, is_closed, has_closed, noted, updated}
 use Rattle.table_shard.specs.Row.{HoldsAt, IsRow, Looks, Enters, IsGivenUp, fresh, left}
 use Rattle.table_shard.proofs.Offered.{holds_end, holds_within, holds_put}
 use Rattle.visit_log.specs.Round.{MayShow}
 use Rattle.visit_log.specs.Sound.{IsSoundUpdate}
-use Rattle.lone_port.specs.Lone.{AreFor}
 
 -- 1. ENTERING.
 
@@ -33,6 +33,16 @@ pub record IsEntered (attacker : Side) (row : List EntryView) (counts : List ℕ
 fresh_for : (attacker : Side) (key : Key) (numbers : Numbers) → AreFor attacker (fresh key numbers)
 fresh_for attacker key numbers = All-nil (λ (note : Derivation). attacker_of note ≡ attacker)
 
+-- An entry that is new has no note, so all stay for the attacker.
+pub enters_for : (attacker : Side) (row : List EntryView) (counts : List ℕ) (key : Key) (numbers : Numbers) (kept : Kept) (after : List EntryView)
+    → Enters row counts key numbers kept after → All (AreFor attacker) row → All (AreFor attacker) after
+enters_for attacker row counts key numbers (Slot slot) after (inl h) notes = subst (All (AreFor attacker)) (sym h.1) notes
+enters_for attacker row counts key numbers (Slot slot) after (inr (none, inl (room, at, is))) notes =
+    subst (All (AreFor attacker)) (sym is) (All-push (AreFor attacker) row (fresh key numbers) notes (fresh_for attacker key numbers))
+enters_for attacker row counts key numbers (Slot slot) after (inr (none, inr (full, given, is))) notes =
+    subst (All (AreFor attacker)) (sym is) (All-set (AreFor attacker) row slot (fresh key numbers) (fresh_for attacker key numbers) notes)
+enters_for attacker row counts key numbers Unkept after (none, full, above, is) notes = subst (All (AreFor attacker)) (sym is) notes
+
 -- The row of a key that is entered in a slot.
 pub entered : (attacker : Side) (row : List EntryView) (counts : List ℕ) (key : Key) (numbers : Numbers) (slot : ℕ) (after : List EntryView) → length row ≤ 8
     → ((s : ℕ) → 0 < get_or counts s 0 → s < length row) → Enters row counts key numbers (Slot slot) after → IsEntered attacker row counts key slot after
@@ -40,20 +50,20 @@ entered attacker row counts key numbers slot after few there (inl h) = record {
   holds = subst (λ (r : List EntryView). HoldsAt r slot key) (sym h.1) h.0;
   within = let w = holds_within row key slot h.0 in omega (arith, w, few);
   grows = let e = ap length h.1 in omega (arith, e);
-  notes = λ notes. subst (All (AreFor attacker)) (sym h.1) notes;
+  notes = enters_for attacker row counts key numbers (Slot slot) after (inl h);
 }
 entered attacker row counts key numbers slot after few there (inr (none, inl (room, at, is))) = record {
   holds = subst (λ (r : List EntryView). HoldsAt r slot key) (sym is)
       (subst (λ (s : ℕ). HoldsAt (row ++ fresh key numbers ∷ []) s key) (sym at) (holds_end row (fresh key numbers)));
   within = omega (arith, at, room);
   grows = let e = ap length is in let n = length_push row (fresh key numbers) in omega (arith, e, n);
-  notes = λ notes. subst (All (AreFor attacker)) (sym is) (All-push (AreFor attacker) row (fresh key numbers) notes (fresh_for attacker key numbers));
+  notes = enters_for attacker row counts key numbers (Slot slot) after (inr (none, inl (room, at, is)));
 }
 entered attacker row counts key numbers slot after few there (inr (none, inr (full, given, is))) = record {
   holds = subst (λ (r : List EntryView). HoldsAt r slot key) (sym is) (holds_put row slot (fresh key numbers) (idle given).0);
   within = let w = (idle given).0 in omega (arith, w, full);
   grows = let e = ap length is in let n = length-set row slot (fresh key numbers) in omega (arith, e, n);
-  notes = λ notes. subst (All (AreFor attacker)) (sym is) (All-set (AreFor attacker) row slot (fresh key numbers) (fresh_for attacker key numbers) notes);
+  notes = enters_for attacker row counts key numbers (Slot slot) after (inr (none, inr (full, given, is)));
 }
   where
     idle : IsGivenUp row counts slot → (slot < length row) × (get_or counts slot 0 ≡ 0)

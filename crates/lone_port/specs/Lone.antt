@@ -1,13 +1,11 @@
 -- A table, the counts of workers below its slots, and a desk: how a worker alone sees them, and what each request does with them.
 use Rattle.std.specs.Prelude.{◌≡◌, ◌<◌, ◌+◌, ◌-◌, ◌/◌, ◌%◌, ◌⊎◌, ℕ, Bool, true, false, List, [], Option, Some, None, All, length, replicate, slice_set, slice_index, slice_index_or, sum, sum_by, if◌then◌else◌}
-use Rattle.bit_boards.specs.declared.piece.Side.{Side}
 use Rattle.board_core.specs.Board.{Board}
 use Rattle.board_core.specs.declared.keys.Key.{Key}
-use Rattle.notes.specs.Derivation.{attacker_of}
 use Rattle.notes.specs.declared.words.Kept.{Kept}
 use Rattle.notes.specs.declared.words.Kept.TheVariants.{Slot, Unkept}
 use Rattle.notes.specs.declared.words.Update.{Update}
-use Rattle.table_shard.specs.Entry.{EntryView}
+use Rattle.table_shard.specs.Entry.{EntryView, AreFor}
 use Rattle.table_shard.specs.Row.{HoldsAt, Lacks, Looks}
 use Rattle.table_shard.specs.Shard.{row_of, EntersIn, IsLeftAt}
 use Rattle.table_shard.specs.Spot.{place_of, word_of}
@@ -77,10 +75,6 @@ abbrev pub worker_at_first : Board → ℕ → WorkerView
 worker_at_first problem number = record { task = task_for problem number; state = start (task_for problem number); waiting = false }
 
 -- 2. WHAT IT KEEPS.
-
--- All notes of the entry are for the attacker.
-abbrev pub AreFor : Side → EntryView → Type 0
-AreFor attacker entry = All (λ note. attacker_of note ≡ attacker) entry.notes
 
 -- It has a row; there are eight counts for each row; a slot with visits below it has an entry; and all notes are for the problem's attacker.
 pub record IsLone (port : LonePortView) : Type 0 where

@@ -13,7 +13,7 @@ use search_limits::Settings;
 use shogi_rules::Problem;
 use std::alloc::{AllocError, Global};
 use std::marker::Model;
-use table_shard::Shard;
+use table_shard::{RowPins, Shard};
 use unit_desk::Desk;
 use worker_core::Port;
 
@@ -191,15 +191,22 @@ impl Port for LonePort {
     fn look(&mut self, key: &Key, path: &Path) -> Result<Seen, AllocError> {
         self.shard.laws();
         let spot = self.shard.spot_of(key);
-        self.shard.look(spot, key, path, &self.pins[spot.place])
+        let mut pins = RowPins {
+            counts: &self.pins[spot.place],
+        };
+        self.shard.look(spot, key, path, &mut pins)
     }
 
     fn enter(&mut self, key: &Key, numbers: Numbers) -> Kept {
         self.shard.laws();
         let spot = self.shard.spot_of(key);
-        let kept = self.shard.enter(spot, key, numbers, &self.pins[spot.place]);
-        if let Kept::Slot(slot) = kept {
-            self.pins[spot.place][slot as usize] += 1;
+        let mut pins = RowPins {
+            counts: &self.pins[spot.place],
+        };
+        let kept = self.shard.enter(spot, key, numbers, &mut pins);
+        match kept {
+            Kept::Slot(slot) => self.pins[spot.place][slot as usize] += 1,
+            Kept::Unkept => {}
         }
         kept
     }

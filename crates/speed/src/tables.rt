@@ -10,7 +10,7 @@ use pn_numbers::Numbers;
 use std::alloc::{AllocError, Global};
 use std::io;
 use std::time::Instant;
-use table_shard::Shard;
+use table_shard::{RowPins, Shard};
 
 // Nobody is below any entry.
 const NOBODY: [u64; 8] = [0; 8];
@@ -43,6 +43,11 @@ impl Numbering {
     }
 }
 
+// Counts by which no worker is below a slot.
+fn nobody() -> RowPins<'static> {
+    RowPins { counts: &NOBODY }
+}
+
 // A shard of so many rows, nearly all of them full, and the numbers of keys of which nearly all are in it.
 fn filled(alloc: Global, rows: usize) -> Result<(Shard, Numbering), AllocError>
     requires { 0 < rows }
@@ -51,7 +56,7 @@ fn filled(alloc: Global, rows: usize) -> Result<(Shard, Numbering), AllocError>
     let limit = (rows as u64).saturating_mul(4);
     for number in 0..limit.saturating_mul(4) {
         let key = key(number);
-        shard.enter(shard.spot_of(&key), &key, NUMBERS, &NOBODY);
+        shard.enter(shard.spot_of(&key), &key, NUMBERS, &mut nobody());
     }
     Ok((shard, Numbering { state: 1, limit }))
 }
@@ -65,7 +70,7 @@ fn look_each(
     let mut sum: u64 = 0;
     for _ in 0..rounds {
         let key = key(keys.next());
-        if let Seen::Open { numbers, .. } = shard.look(shard.spot_of(&key), &key, path, &NOBODY)? {
+        if let Seen::Open { numbers, .. } = shard.look(shard.spot_of(&key), &key, path, &mut nobody())? {
             sum = sum.wrapping_add(u64::from(numbers.pn));
         }
     }
@@ -77,7 +82,7 @@ fn enter_each(shard: &mut Shard, keys: &mut Numbering, rounds: u64) -> Done {
     for _ in 0..rounds {
         let key = key(keys.next());
         let spot = shard.spot_of(&key);
-        if let Kept::Slot(slot) = shard.enter(spot, &key, NUMBERS, &NOBODY) {
+        if let Kept::Slot(slot) = shard.enter(spot, &key, NUMBERS, &mut nobody()) {
             shard.leave(spot, slot, &key, Update::Numbers(NUMBERS));
             sum = sum.wrapping_add(u64::from(slot));
         }

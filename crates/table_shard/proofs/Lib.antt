@@ -7,3 +7,5 @@ mod Emptied
 pub mod Offered
 pub mod Sent
 mod Sites
+mod Standing
+mod Looked

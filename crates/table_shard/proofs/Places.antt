@@ -6,8 +6,8 @@ use Rattle.board_core.specs.declared.keys.Key.{Key}
 use Rattle.table_shard.specs.Entry.{EntryView}
 use Rattle.pn_numbers.specs.declared.numbers.Numbers.{Numbers}
 use Rattle.notes.specs.declared.words.Kept.{Kept}
-use Rattle.table_shard.specs.Row.{HoldsAt, Enters, IsKeptAt}
-use Rattle.table_shard.specs.Shard.{row_of, with_row, KeepsPinned, EntersIn}
+use Rattle.table_shard.specs.Row.{HoldsAt, Enters, EntersBy, AsksToEnter, IsKeptAt}
+use Rattle.table_shard.specs.Shard.{row_of, with_row, KeepsPinned, EntersIn, EntersInBy}
 use Rattle.table_shard.specs.Spot.{hash_of, place_of, spot_of}
 use Rattle.table_shard.specs.declared.hash.Spot.{Spot}
 use Rattle.table_shard.proofs.Rows.{enters_held, enters_stays}
@@ -62,6 +62,21 @@ pinned_in rows place pins key numbers kept before row some is old enters other s
     (stays_in rows key other row slot some
     (λ same here. enters_stays before pins key numbers kept row slot other enters (pinned same) (subst (λ (r : List EntryView). HoldsAt r slot other) (sym old) here))
     h)
+
+-- What a row answered by counts that are asked for, its table answers.
+pub entered_by : {P : Type 0} (told : P → ℕ → ℕ → P → Type 0) (rows : List (List EntryView)) (place : ℕ) (key : Key) (numbers : Numbers) (before : P) (kept : Kept)
+    (old row : List EntryView) (after : P) → 0 < length rows → place ≡ place_of key (length rows) → old ≡ row_of rows key
+    → EntersBy told old key numbers before kept row after → EntersInBy told rows key numbers before kept (set rows place row) after
+entered_by told rows place key numbers before kept old row after some is same by = record {
+  counts = by.counts;
+  enters = record {
+    row = row;
+    enters = subst (λ (r : List EntryView). Enters r by.counts key numbers kept row) same by.enters;
+    others = ap (λ (n : ℕ). set rows n row) is;
+  };
+  asks = subst (λ (r : List EntryView). AsksToEnter told r key before by.counts after) same by.asks;
+  pinned = pinned_in rows place by.counts key numbers kept old row some is same by.enters;
+}
 
 -- So it is in a table that was entered.
 pub entered_at : (rows : List (List EntryView)) (pins : List ℕ) (key : Key) (numbers : Numbers) (kept : Kept) (after : List (List EntryView)) → 0 < length rows

@@ -6,7 +6,8 @@ use Rattle.board_core.specs.Key.{key_of}
 use Rattle.pn_numbers.specs.declared.numbers.Numbers.{Numbers}
 use Rattle.pn_numbers.specs.Numbers.{IsOpen}
 use Rattle.path_tags.specs.Tag.{IsWithin}
-use Rattle.notes.specs.Derivation.{Derivation, position_of, tag_of}
+use Rattle.bit_boards.specs.declared.piece.Side.{Side}
+use Rattle.notes.specs.Derivation.{Derivation, attacker_of, position_of, tag_of}
 use Rattle.notes.specs.Valid.{IsValid}
 use Rattle.notes.specs.declared.words.Seen.{Seen}
 use Rattle.notes.specs.declared.words.Seen.TheVariants.{New, Open, Solved}
@@ -34,6 +35,10 @@ IsAbout key note = key_of (position_of note) ≡ key.0
 -- The note is valid, so what it says is true, and it is about the position with the key.
 abbrev pub IsFactAbout : Key → Derivation → Type 0
 IsFactAbout key note = IsAbout key note × IsValid note
+
+-- All notes of the entry are for the attacker.
+abbrev pub AreFor : Side → EntryView → Type 0
+AreFor attacker entry = All (λ note. attacker_of note ≡ attacker) entry.notes
 
 -- The note depends on 1 to 32 positions.
 pub record IsTagged (note : Derivation) : Type 0 where

@@ -1,5 +1,5 @@
 -- A row of eight slots: the entries in the order of their slots, from slot 0; the slots behind them are free.
-use Rattle.std.specs.Prelude.{◌≡◌, ◌≢◌, ◌<◌, ◌≤◌, ◌⊎◌, ◌++◌, ℕ, zero, suc, List, [], ◌∷◌, All, IsSomeAnd, length, slice_get, slice_set, slice_index, false}
+use Rattle.std.specs.Prelude.{◌≡◌, ◌≢◌, ◌<◌, ◌≤◌, ◌⊎◌, ◌++◌, ◌+◌, ℕ, zero, suc, List, [], ◌∷◌, All, IsSomeAnd, length, slice_get, slice_set, slice_index, false}
 use Rattle.board_core.specs.declared.keys.Key.{Key}
 use Rattle.pn_numbers.specs.declared.numbers.Numbers.{Numbers}
 use Rattle.notes.specs.declared.words.Seen.{Seen}
@@ -71,6 +71,38 @@ Enters row pins key numbers (Slot slot) after =
     (HoldsAt row slot key × (after ≡ row)) ⊎ (Lacks row key × Takes row pins (fresh key numbers) slot after)
 Enters row pins key numbers Unkept after =
     Lacks row key × (length row ≡ 8) × ((slot : ℕ) → slot < 8 → 0 < slice_index pins slot) × (after ≡ row)
+
+-- From this slot on, slot after slot, these counts were told.
+abbrev pub TellsCounts : {P : Type 0} → (P → ℕ → ℕ → P → Type 0) → ℕ → P → List ℕ → P → Type 0
+TellsCounts told slot before [] after = before ≡ after
+TellsCounts {P} told slot before (count ∷ counts) after = (between : P) × told before slot count between × TellsCounts told (slot + 1) between counts after
+
+-- Looking asks how many workers are below the key's slot where it shows numbers, and else asks nothing.
+abbrev pub AsksToLook : {P : Type 0} → (P → ℕ → ℕ → P → Type 0) → List EntryView → Key → P → Seen → P → Type 0
+AsksToLook told row key before (Open numbers below) after = (slot : ℕ) × HoldsAt row slot key × told before slot below after
+AsksToLook told row key before seen after = before ≡ after
+
+-- What a look for the key shows by counts that are asked for one by one.
+pub record LooksBy {P : Type 0} (told : P → ℕ → ℕ → P → Type 0) (row : List EntryView) (key : Key) (path : List Key) (before : P) (seen : Seen) (after : P) : Type 0 where
+  pub counts : List ℕ
+  pub looks : Looks row counts key path seen
+  pub asks : AsksToLook told row key before seen after
+
+-- There is no need to give up an entry of the row for the key: it has one, or a slot is free.
+abbrev pub HasPlace : List EntryView → Key → Type 0
+HasPlace row key = ((slot : ℕ) × HoldsAt row slot key) ⊎ (length row < 8)
+
+-- Entering asks how many workers are below each of the eight slots where an entry has to be given up, and else asks nothing.
+abbrev pub AsksToEnter : {P : Type 0} → (P → ℕ → ℕ → P → Type 0) → List EntryView → Key → P → List ℕ → P → Type 0
+AsksToEnter told row key before counts after =
+    (HasPlace row key × (before ≡ after))
+    ⊎ (Lacks row key × (length row ≡ 8) × (length counts ≡ 8) × TellsCounts told 0 before counts after)
+
+-- What entering the key answers by counts that are asked for one by one, and the row after it.
+pub record EntersBy {P : Type 0} (told : P → ℕ → ℕ → P → Type 0) (row : List EntryView) (key : Key) (numbers : Numbers) (before : P) (kept : Kept) (later : List EntryView) (after : P) : Type 0 where
+  pub counts : List ℕ
+  pub enters : Enters row counts key numbers kept later
+  pub asks : AsksToEnter told row key before counts after
 
 -- The row after an update of the entry in a slot.
 abbrev pub left : List EntryView → ℕ → Update → List EntryView

@@ -5,7 +5,7 @@ use Rattle.pn_numbers.specs.declared.numbers.Numbers.{Numbers}
 use Rattle.notes.specs.declared.words.Kept.{Kept}
 use Rattle.notes.specs.declared.words.Update.{Update}
 use Rattle.table_shard.specs.Entry.{EntryView}
-use Rattle.table_shard.specs.Row.{HoldsAt, Enters, left}
+use Rattle.table_shard.specs.Row.{HoldsAt, Enters, AsksToEnter, left}
 use Rattle.table_shard.specs.Spot.{place_of}
 
 -- The key's row.
@@ -30,6 +30,13 @@ StaysAt rows after key slot = HoldsAt (row_of rows key) slot key → HoldsAt (ro
 abbrev pub KeepsPinned : List (List EntryView) → List ℕ → Key → List (List EntryView) → Type 0
 KeepsPinned rows pins key after =
     (other : Key) (slot : ℕ) → (place_of other (length rows) ≡ place_of key (length rows) → 0 < slice_index pins slot) → StaysAt rows after other slot
+
+-- What entering the key answers by counts that are asked for one by one, and the rows after it.
+pub record EntersInBy {P : Type 0} (told : P → ℕ → ℕ → P → Type 0) (rows : List (List EntryView)) (key : Key) (numbers : Numbers) (before : P) (kept : Kept) (later : List (List EntryView)) (after : P) : Type 0 where
+  pub counts : List ℕ
+  pub enters : EntersIn rows counts key numbers kept later
+  pub asks : AsksToEnter told (row_of rows key) key before counts after
+  pub pinned : KeepsPinned rows counts key later
 
 -- The rows after a slot of the key's row is left with an update: the slot's entry is updated where it is the key's; else nothing changes.
 abbrev pub IsLeftAt : List (List EntryView) → ℕ → Key → Update → List (List EntryView) → Type 0

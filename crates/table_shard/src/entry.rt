@@ -1,15 +1,14 @@
 // An entry: what the table knows of one position.
-ghost use Rattle.std.specs.Prelude.{◌≡◌, ◌↔◌, IfOk, IsTrue};
+ghost use Rattle.std.specs.Prelude.{◌≡◌, ◌↔◌, IsTrue, option_copied};
 ghost use Rattle.pn_numbers.specs.Numbers.{IsOpen};
-ghost use Rattle.table_shard.specs.Entry.{EntryView, IsEntry, Shows, IsAbout, noted, updated, FitsKey, has_closed};
+ghost use Rattle.table_shard.specs.Entry.{EntryView, IsEntry, IsFirstWithin, IsAbout, noted, updated, FitsKey, has_closed};
 ghost use Rattle.table_shard.specs.Row.{fresh};
 
 use crate::facts::Facts;
 use board_core::Key;
-use notes::{Note, Seen, Update};
+use notes::{Note, Update};
 use path_tags::Path;
 use pn_numbers::Numbers;
-use std::alloc::AllocError;
 use std::marker::Model;
 use std::mem;
 
@@ -69,17 +68,18 @@ impl Entry {
         self.facts.is_closed()
     }
 
-    // What it shows to a worker on the path, with so many workers below. Errors: want of memory alone.
-    pub(crate) fn show(&self, path: &Path, below: u64) -> Result<Seen, AllocError>
-        ensures { IfOk result (λ seen. Shows self.now path.now below seen) }
+    // The first note that holds on the path.
+    pub(crate) fn note_on(&self, path: &Path) -> Option<&Note>
+        ensures { IsFirstWithin path.now self.now.notes (option_copied result) }
     {
-        match self.facts.first_within(path) {
-            Some(note) => Ok(Seen::Solved(note.share()?)),
-            None => Ok(Seen::Open {
-                numbers: self.numbers,
-                below,
-            }),
-        }
+        self.facts.first_within(path)
+    }
+
+    // Its numbers.
+    pub(crate) fn numbers(&self) -> Numbers
+        ensures { result ≡ self.now.numbers }
+    {
+        self.numbers
     }
 
     // What is kept of every entry. Does nothing.

@@ -1,5 +1,6 @@
 // Which row a key has, and how it is told apart there at a glance.
 ghost use Rattle.std.specs.Prelude.{◌≡◌, ◌<◌, ◌≤◌, ◌+◌, ◌*◌, ◌/◌, ◌%◌, ◌^◌, ℕ, fold};
+ghost use Rattle.board_core.specs.declared.keys.Key.{Key};
 ghost use Rattle.table_shard.specs.Spot.{hashed, hash_of, spot_of, place_of, word_of};
 
 use board_core::Key;
@@ -26,7 +27,7 @@ fn hashed(hash: u64, word: u64) -> u64
 }
 
 // The hash of a key.
-fn hash_of(key: &Key) -> u64
+pub(crate) fn hash_of(key: &Key) -> u64
     ensures { result ≡ hash_of key.now.0 }
 {
     let mut hash = 0;
@@ -46,51 +47,48 @@ pub struct Spot {
     pub mark: u32,
 }
 
-// Where a table of so many rows has the position of a key: in the row that a hash of the key's words, modulo the rows, names.
-pub(crate) fn spot_of(key: &Key, rows: usize) -> Spot
+// Where a table of so many rows has the position of a key whose hash this is: in the row that the hash modulo the rows names.
+pub(crate) fn spot_at(hash: u64, rows: usize) -> Spot
     requires { 0 < rows }
-    ensures spot { result ≡ spot_of key.now rows }
+    ensures spot { (key : Key) → hash ≡ hash_of key.0 → result ≡ spot_of key rows }
     ensures there { result.place < rows }
 {
-    let hash = hash_of(key);
     Spot {
         place: (hash % rows as u64) as usize,
         mark: (hash >> 32) as u32,
     }
 }
 
-/// Where a table that is cut into shards has a position: in which shard, where that shard has it, and which word counts the visits below the
-/// first slot of its row; the words of the other slots follow it.
+/// Where a table that is cut into shards has a position: in which shard, by which hash that shard finds it, and which word counts the visits
+/// below the first slot of its row; the words of the other slots follow it.
 #[derive(Clone, Copy, Debug)]
 pub struct Site {
     /// The shard, from 0.
     pub shard: usize,
-    /// Where the shard has it.
-    pub spot: Spot,
+    /// The hash of the key's words.
+    pub hash: u64,
     /// The word of the row's first slot, from 0.
     pub word: usize,
 }
 
 /// Where a table of so many shards, each of `own` rows, has the position of a key: in the row that a hash of the key's words names, modulo all
-/// rows. The shards have the rows in their order, so the row's place in its shard is that hash modulo the shard's own rows. Takes no memory.
+/// rows. The shards have the rows in their order, so a shard finds the row's place among its own by that hash. Takes no memory.
 pub fn site_of(key: &Key, shards: usize, own: usize) -> Site
     requires shards { 0 < shards }
     requires own { 0 < own }
     requires few { shards * own ≤ 2 ^ 40 }
     ensures shard { result.shard ≡ place_of key.now (shards * own) / own }
     ensures within { result.shard < shards }
-    ensures spot { result.spot ≡ spot_of key.now own }
-    ensures place { result.spot.place ≡ place_of key.now (shards * own) % own }
+    ensures hash { result.hash ≡ hash_of key.now.0 }
+    ensures place { place_of key.now own ≡ place_of key.now (shards * own) % own }
     ensures words { (slot : ℕ) → slot < 8 → word_of (shards * own) key.now slot ≡ result.word + slot }
+    ensures inside { result.word + 8 ≤ 8 * (shards * own) }
 {
     let hash = hash_of(key);
     let row = (hash % (shards * own) as u64) as usize;
     Site {
         shard: row / own,
-        spot: Spot {
-            place: (hash % own as u64) as usize,
-            mark: (hash >> 32) as u32,
-        },
+        hash,
         word: 8 * row,
     }
 }

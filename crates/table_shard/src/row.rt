@@ -1,12 +1,13 @@
 // A row of eight slots.
-ghost use Rattle.std.specs.Prelude.{◌≡◌, ◌≢◌, ◌<◌, ◌≤◌, ◌++◌, ◌==◌, ◌↔◌, [], ◌∷◌, ℕ, IfOk, IfSome, IfNone, MatchOption, IsSomeAnd, All, IsTrue, false, length, slice_get, slice_set, slice_index};
+ghost use Rattle.std.specs.Prelude.{◌≡◌, ◌≢◌, ◌<◌, ◌≤◌, ◌++◌, ◌==◌, ◌↔◌, [], ◌∷◌, ℕ, IfSome, IfNone, MatchOption, MatchResult, IsSomeAnd, All, IsTrue, false, length, slice_get, slice_set, slice_index};
 ghost use Rattle.pn_numbers.specs.Numbers.{IsOpen};
 ghost use Rattle.table_shard.specs.Entry.{EntryView, IsEntry, FitsKey};
 ghost use Rattle.table_shard.specs.Marks.{marks_of};
 ghost use Rattle.table_shard.specs.Spot.{mark_of};
-ghost use Rattle.table_shard.specs.Row.{HoldsAt, Lacks, IsRow, Looks, IsIdle, IsIdleUnsolved, IsFirst, IsGivenUp, Enters, left};
+ghost use Rattle.table_shard.specs.Row.{HoldsAt, Lacks, IsRow, LooksBy, IsIdle, IsIdleUnsolved, IsFirst, IsGivenUp, EntersBy, left};
 
 use crate::entry::Entry;
+use crate::pins::{Pins, counts_of};
 use arrayvec::ArrayVec;
 use board_core::Key;
 use notes::{Kept, Seen, Update};
@@ -99,28 +100,45 @@ impl Row {
         }
     }
 
-    // What a look for the key shows. Errors: want of memory alone.
-    pub(crate) fn look(
+    // What a look for the key shows. Errors: want of memory alone; then nothing was asked.
+    pub(crate) fn look<P: Pins>(
         &self,
         mark: u32,
         key: &Key,
         path: &Path,
-        pins: &[u64; 8],
+        pins: &mut P,
     ) -> Result<Seen, AllocError>
-        requires { mark ≡ mark_of key.now }
-        ensures { IfOk result (λ seen. Looks self.now pins.now key.now path.now seen) }
+        requires mark { mark ≡ mark_of key.now }
+        requires ready { P.ready pins.old }
+        ensures ready { P.ready pins.new }
+        ensures looks { MatchResult result (λ seen. LooksBy P.told self.now key.now path.now pins.old seen pins.new) (λ _. pins.old ≡ pins.new) }
     {
         let Some(slot) = slot_of(self.marks.as_slice(), &self.entries, mark, key) else {
             return Ok(Seen::New);
         };
-        self.entries.as_slice()[slot].show(path, pins[slot])
+        let entry = &self.entries.as_slice()[slot];
+        match entry.note_on(path) {
+            Some(note) => Ok(Seen::Solved(note.share()?)),
+            None => Ok(Seen::Open {
+                numbers: entry.numbers(),
+                below: pins.count(slot),
+            }),
+        }
     }
 
     // Enters the key, with these numbers where it is new.
-    pub(crate) fn enter(&mut self, mark: u32, key: &Key, numbers: Numbers, pins: &[u64; 8]) -> Kept
+    pub(crate) fn enter<P: Pins>(
+        &mut self,
+        mark: u32,
+        key: &Key,
+        numbers: Numbers,
+        pins: &mut P,
+    ) -> Kept
         requires mark { mark ≡ mark_of key.now }
+        requires ready { P.ready pins.old }
         requires open { IsOpen numbers }
-        ensures { Enters self.old pins.now key.now numbers result self.new }
+        ensures ready { P.ready pins.new }
+        ensures enters { EntersBy P.told self.old key.now numbers pins.old result self.new pins.new }
     {
         if let Some(slot) = self.slot_of(mark, key) {
             return Kept::Slot(slot as u8);
@@ -131,7 +149,8 @@ impl Row {
             self.push(mark, entry);
             return Kept::Slot(slot as u8);
         }
-        let Some(slot) = given_up(self.entries.as_slice(), pins) else {
+        let counts = counts_of(pins);
+        let Some(slot) = given_up(self.entries.as_slice(), &counts) else {
             return Kept::Unkept;
         };
         self.put(slot, mark, entry);

@@ -1,14 +1,15 @@
 // A shard of the table.
-ghost use Rattle.std.specs.Prelude.{◌≡◌, ◌<◌, ◌↔◌, [], ℕ, List, IfOk, IfSome, IfNone, IsTrue, All, length, replicate};
+ghost use Rattle.std.specs.Prelude.{◌≡◌, ◌<◌, ◌↔◌, [], ℕ, List, IfOk, IfSome, IfNone, MatchResult, IsTrue, All, length, replicate};
 ghost use Rattle.board_core.specs.declared.keys.Key.{Key};
 ghost use Rattle.pn_numbers.specs.Numbers.{IsOpen};
 ghost use Rattle.table_shard.specs.Entry.{EntryView, FitsKey};
-ghost use Rattle.table_shard.specs.Row.{HoldsAt, Lacks, IsRow, IsKeptAt, Looks, left};
-ghost use Rattle.table_shard.specs.Shard.{row_of, with_row, EntersIn, KeepsPinned, StaysAt, IsLeftAt};
-ghost use Rattle.table_shard.specs.Spot.{spot_of};
+ghost use Rattle.table_shard.specs.Row.{HoldsAt, Lacks, IsRow, IsKeptAt, LooksBy, left};
+ghost use Rattle.table_shard.specs.Shard.{row_of, with_row, EntersInBy, StaysAt, IsLeftAt};
+ghost use Rattle.table_shard.specs.Spot.{hash_of, spot_of};
 ghost use Rattle.table_shard.specs.Emptied.{AreUncounted};
 
-use crate::hash::{Spot, spot_of};
+use crate::hash::{Spot, hash_of, spot_at};
+use crate::pins::Pins;
 use crate::row::Row;
 use board_core::Key;
 use notes::{Kept, Seen, Update};
@@ -23,8 +24,8 @@ use std::marker::Model;
 /// It keeps that it has a row, that each entry is true (its numbers are both from 1 to the cap, its notes are about its position, and
 /// one that holds on every path stands alone), and that no two entries of a row are of one position.
 ///
-/// Looking and entering are handed the row's eight counts of workers below the slots' entries, as `pins`. A full row gives up an
-/// entry that no worker is below; only looking can want memory once the shard is made.
+/// Looking and entering ask how many workers are below a slot's entry, where it matters ([`Pins`]). A full row gives up an entry that no worker is
+/// below; only looking can want memory once the shard is made.
 #[derive(Drop)]
 pub struct Shard {
     rows: Vec<Row>,
@@ -86,13 +87,30 @@ impl Shard {
         }
     }
 
+    /// Takes all entries out, for the search of another problem, in the time of the rows that have some. Takes no memory.
+    pub fn clear(&mut self)
+        ensures { self.new ≡ replicate (length self.old) [] }
+    {
+        while let Some(place) = self.used.pop() {
+            self.rows[place].clear();
+        }
+    }
+
     /// Where it has the position of a key: in the row that a hash of the key's words, modulo its rows, names. Whoever keeps counts beside its
     /// rows keeps them at these places. Takes no memory.
     pub fn spot_of(&self, key: &Key) -> Spot
         ensures spot { result ≡ spot_of key.now (length self.now) }
         ensures there { result.place < length self.now }
     {
-        spot_of(key, self.rows.len())
+        self.spot_at(hash_of(key))
+    }
+
+    /// The same for a key whose hash this is, which [`site_of`](crate::site_of) tells. Takes no memory.
+    pub fn spot_at(&self, hash: u64) -> Spot
+        ensures spot { (key : Key) → hash ≡ hash_of key.0 → result ≡ spot_of key (length self.now) }
+        ensures there { result.place < length self.now }
+    {
+        spot_at(hash, self.rows.len())
     }
 
     /// The slot of the key's entry; none where its row has none. Takes no memory.
@@ -105,8 +123,8 @@ impl Shard {
         self.rows[spot.place].slot_of(spot.mark, key)
     }
 
-    /// Whether the slot of the key's row has the key's entry. Takes no memory.
-    pub fn holds(&self, spot: Spot, slot: u8, key: &Key) -> bool
+    // Whether the slot of the key's row has the key's entry.
+    fn holds(&self, spot: Spot, slot: u8, key: &Key) -> bool
         requires { spot ≡ spot_of key.now (length self.now) }
         ensures { IsTrue result ↔ HoldsAt (row_of self.now key.now) slot key.now }
     {
@@ -114,30 +132,34 @@ impl Shard {
     }
 
     /// What the table shows of a position to a worker on the path: New exactly where it has no entry of the key; Solved with the first
-    /// note that holds on the path, where one does; else Open with the numbers and how many workers are below. The note is shared.
-    /// Errors: want of memory alone.
-    pub fn look(
+    /// note that holds on the path, where one does; else Open with the numbers and how many workers are below, which is asked for then alone. The
+    /// note is shared. Errors: want of memory alone; then nothing was asked.
+    pub fn look<P: Pins>(
         &self,
         spot: Spot,
         key: &Key,
         path: &Path,
-        pins: &[u64; 8],
+        pins: &mut P,
     ) -> Result<Seen, AllocError>
-        requires { spot ≡ spot_of key.now (length self.now) }
-        ensures { IfOk result (λ seen. Looks (row_of self.now key.now) pins.now key.now path.now seen) }
+        requires spot { spot ≡ spot_of key.now (length self.now) }
+        requires ready { P.ready pins.old }
+        ensures ready { P.ready pins.new }
+        ensures looks { MatchResult result (λ seen. LooksBy P.told (row_of self.now key.now) key.now path.now pins.old seen pins.new) (λ _. pins.old ≡ pins.new) }
     {
         self.rows[spot.place].look(spot.mark, key, path, pins)
     }
 
     /// Enters a position: answers the slot of its entry. Where it has none, it gets one with these numbers, both from 1 to the cap, in
     /// the row's first free slot, else in that of an entry that no worker is below, which is given up: the first without a note that
-    /// holds on every path, else the first. Unkept exactly where eight other entries have workers below. Takes no memory.
-    pub fn enter(&mut self, spot: Spot, key: &Key, numbers: Numbers, pins: &[u64; 8]) -> Kept
+    /// holds on every path, else the first. Unkept exactly where eight other entries have workers below. Where an entry has to be given up, the
+    /// counts of all eight slots are asked for, in their order, and else none. Takes no memory.
+    pub fn enter<P: Pins>(&mut self, spot: Spot, key: &Key, numbers: Numbers, pins: &mut P) -> Kept
         requires spot { spot ≡ spot_of key.now (length self.old) }
+        requires ready { P.ready pins.old }
         requires open { IsOpen numbers }
-        ensures entered { EntersIn self.old pins.now key.now numbers result self.new }
+        ensures ready { P.ready pins.new }
+        ensures entered { EntersInBy P.told self.old key.now numbers pins.old result self.new pins.new }
         ensures kept { IsKeptAt (row_of self.new key.now) key.now result }
-        ensures pinned { KeepsPinned self.old pins.now key.now self.new }
     {
         let place = spot.place;
         let is_new = self.rows[place].is_empty();
@@ -171,7 +193,8 @@ impl Shard {
     pub fn leave_held(&mut self, spot: Spot, slot: u8, key: &Key, update: Update)
         requires spot { spot ≡ spot_of key.now (length self.old) }
         requires fits { FitsKey key.now update }
-        ensures { IsLeftAt self.old slot key.now update self.new }
+        ensures left { IsLeftAt self.old slot key.now update self.new }
+        ensures stays { (other : Key) (place : ℕ) → StaysAt self.old self.new other place }
     {
         if self.holds(spot, slot, key) {
             self.leave(spot, slot, key, update);

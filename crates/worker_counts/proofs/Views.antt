@@ -9,7 +9,7 @@ use lib.ListN.{get_elem?}
 use Rattle.view_sums.proofs.Views.{sum_by-at}
 use Rattle.worker_counts.specs.declared.view.TheConstants.{MOST_ADDED}
 use Rattle.worker_counts.specs.declared.view.View.{View}
-use Rattle.worker_counts.specs.Counts.{times, without_one, IsFit}
+use Rattle.worker_counts.specs.Counts.{times, without_one, AreBelow, IsFit}
 
 -- how often a word stands in a list with one more in front
 pub times-cons : (word each : ℕ) (words : List ℕ) → times word (each ∷ words) ≡ cond (each == word) 1 0 + times word words
@@ -150,3 +150,21 @@ times-less word each words has = less_cases word each words (each == word) refl 
 pub empty-times : (words : List ℕ) → ((word : ℕ) → times word words ≡ 0) → words ≡ []
 empty-times [] zeros = refl
 empty-times (each ∷ others) zeros = absurd (let p = times-same each others in let q = zeros each in omega (arith, p, q))
+
+-- no word from the number of words on is added, and none is taken away
+pub below-cons : (size each : ℕ) (words : List ℕ) → each < size → AreBelow size words → AreBelow size (each ∷ words)
+below-cons size each words low below word high =
+    times-other word each words (λ same. absurd (omega (arith, low, high, same))) ∙ below word high
+
+pub below-less : (size each : ℕ) (words : List ℕ) → 0 < times each words → AreBelow size words → AreBelow size (without_one each words)
+below-less size each words has below word high =
+    let less = times-less word each words has in
+    let none = below word high in
+    omega (arith, less, none)
+
+pub below-append : (size : ℕ) (words others : List ℕ) → AreBelow size words → AreBelow size others → AreBelow size (others ++ words)
+below-append size words others below below_too word high =
+    let both = times-append word others words in
+    let one = below word high in
+    let other = below_too word high in
+    omega (arith, both, one, other)

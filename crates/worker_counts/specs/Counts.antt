@@ -18,6 +18,10 @@ abbrev pub without_one : ℕ → List ℕ → List ℕ
 without_one word [] = []
 without_one word (each ∷ others) = if each == word then others else (each ∷ without_one word others)
 
+-- Words from a number on aren't in a list of words.
+abbrev pub AreBelow : ℕ → List ℕ → Type 0
+AreBelow size words = (word : ℕ) → size ≤ word → times word words ≡ 0
+
 -- WHAT A STEP DOES TO A VIEW.
 
 -- The view of the first seat: it has every part, has added nothing, and has loaded nothing.

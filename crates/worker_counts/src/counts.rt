@@ -61,7 +61,7 @@ impl WorkerCounts {
         self.table.shared.load::<LoadStep>(&mut seat.seat, word)
     }
 
-    /// Adds one to the word, and returns its count before. The seat may have added fewer than [`MOST_ADDED`](crate::MOST_ADDED) so far.
+    /// Adds one to the word, and returns its count before. The seat must have added fewer than [`MOST_ADDED`](crate::MOST_ADDED) so far.
     pub fn add(&self, seat: &mut CountSeat, word: usize) -> u64
         requires seat { seat.old.counts ≡ self.now }
         requires word { word < self.now.words }

@@ -46,7 +46,7 @@ invariant_of-self c =
     let long : length port.rows ≡ length port.pins = sym c.self.invariant.as_many in
     leave_keeps port c.leave_held.new.self c.args.key.now c.args.update c.spot_of-spot.result.place (length port.rows) c.in-Slot.slot c.index_mut.result.now c.self.invariant
     long (spot_place c.spot_of-spot.result c.args.key.now (length port.rows) c.spot_of-spot.ensures.spot) c.spot_of-spot.ensures.there c.index_mut.ensures.value mine
-    (subst (λ (q : LonePortView). IsSoundUpdate q.desk.position.side c.args.key.now c.args.update) (sym c.self.view_is) c.requires.sound) c.leave_held.ensures
+    (subst (λ (q : LonePortView). IsSoundUpdate q.desk.position.side c.args.key.now c.args.update) (sym c.self.view_is) c.requires.sound) c.leave_held.ensures.left
 
 pub returns-clause-book : goal.returns-clause-book
 returns-clause-book c =
@@ -60,6 +60,6 @@ returns-clause-book c =
     } in
     let booked = leave_books port c.leave_held.new.self c.args.key.now c.args.update c.spot_of-spot.result.place (length port.rows) c.in-Slot.slot c.index_mut.result.now c.self.invariant
     long (spot_place c.spot_of-spot.result c.args.key.now (length port.rows) c.spot_of-spot.ensures.spot) c.spot_of-spot.ensures.there c.index_mut.ensures.value
-    mine c.leave_held.ensures in
+    mine c.leave_held.ensures.left in
     subst (λ (q : LonePortView). IsBooked (Leave c.args.kept c.args.key.now c.args.update, Some LeftIt) (book_of q) (book_of after)) c.self.view_is
     (subst (λ (k : Kept). IsBooked (Leave k c.args.key.now c.args.update, Some LeftIt) (book_of port) (book_of after)) (sym c.in-Slot.is) booked)

@@ -1,6 +1,7 @@
-use Rattle.std.proofs.Common.{◌<◌, ◌∙◌, ap, sym, length}
+use Rattle.std.proofs.Common.{◌<◌, ◌∙◌, ap, sym, length, arith}
 use Rattle.worker_counts.specs.declared.view.TheConstants.{MOST_ADDED}
 use Rattle.worker_counts.specs.Counts.{SeatView}
+use Rattle.worker_counts.proofs.Views.{below-cons}
 use Rattle.worker_counts.proofs.Moves.{adds}
 use Rattle.worker_counts.proofs.counts.WorkerCounts.add.Goals as goal
 
@@ -15,3 +16,11 @@ fetch_add-requires c =
       below,
       adds shared.key shared.table_id.slots seat.id seat.me c.args.word sized c.seat.invariant.0 room,
     )
+
+pub invariant_of-seat : goal.invariant_of-seat
+invariant_of-seat c =
+    let seat = c.seat.inside.seat in
+    let room : length seat.me.0.added < MOST_ADDED = rw (ap (λ (v : SeatView). v.view) c.seat.view_is) c.requires.room in
+    let within : c.args.word < seat.table_id.words = rw (ap (λ (v : SeatView). v.counts) c.seat.view_is ∙ c.requires.seat) c.requires.word in
+    rw (c.fetch_add.ensures.0, c.fetch_add.ensures.2.0)
+    (c.seat.invariant.0, omega (arith, room), c.seat.invariant.2, below-cons seat.table_id.words c.args.word seat.me.0.added within c.seat.invariant.3)

@@ -13,3 +13,6 @@ load-requires c =
       below,
       loads shared.key shared.table_id.slots seat.id seat.me c.args.word sized,
     )
+
+pub invariant_of-seat : goal.invariant_of-seat
+invariant_of-seat c = rw (c.load.ensures.0, c.load.ensures.2.0) c.seat.invariant
