@@ -12,3 +12,5 @@ mod same;
 mod shared_counts;
 #[cfg(test)]
 mod shared_desk;
+#[cfg(test)]
+mod two_ports;

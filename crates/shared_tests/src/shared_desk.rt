@@ -208,7 +208,7 @@ fn has_no_check(alloc: Global, problem: &Problem) -> Result<bool, AllocError>
 }
 
 // The note that the problem is none, for want of a check.
-fn escape(alloc: Global, problem: &Problem) -> Result<Option<Note>, AllocError>
+pub(crate) fn escape(alloc: Global, problem: &Problem) -> Result<Option<Note>, AllocError>
     ensures { IfOk result (λ found. IfSome found (IsAnswerTo problem.now.position)) }
 {
     if !has_no_check(alloc, problem)? {
