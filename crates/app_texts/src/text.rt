@@ -195,3 +195,13 @@ pub fn answer_text(alloc: Global, answer: &Answer) -> Result<Vec<u8>, AllocError
     append_answer(&mut text, answer)?;
     Ok(text)
 }
+
+/// The whole text of an answer to `solve`, whose moves have texts. Errors: want of memory alone. (USI protocol: `checkmate`.)
+pub fn solution_text(alloc: Global, solution: &Solution) -> Result<Vec<u8>, AllocError>
+    requires { HasLine solution.now }
+    ensures { IfOk result (λ text. text.items ≡ solution_text solution.now) }
+{
+    let mut text = Vec::new(alloc);
+    append_solution(&mut text, solution)?;
+    Ok(text)
+}

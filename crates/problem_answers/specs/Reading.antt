@@ -49,3 +49,8 @@ StandsFor form input (Ok problem) = IsProblemRead form input problem
 StandsFor form input (Err (Text fault)) = IsPositionRead form.format input (Err (Text fault))
 StandsFor form input (Err (Diagram fault)) = IsPositionRead form.format input (Err (Diagram fault))
 StandsFor form input (Err DefenderInCheck) = IsInCheckRead form input
+
+-- A law: no text stands for two things in a form, be they problems or first faults.
+abbrev pub OneReading : Type 0
+OneReading = (form : ProblemForm) (input : List ℕ) (one other : Result Board ProblemFault) → StandsFor form input one
+    → StandsFor form input other → one ≡ other

@@ -1,12 +1,12 @@
 // The problem that a text stands for.
 ghost use Rattle.std.specs.Prelude.{◌≡◌, Ok, Err, IfOk, MatchResult};
 ghost use Rattle.board_core.specs.Board.{HasDefender};
-ghost use Rattle.problem_answers.specs.Reading.{IsPositionRead, StandsFor, searched_board};
+ghost use Rattle.problem_answers.specs.Reading.{IsPositionRead, OneReading, StandsFor, searched_board};
 
 use app_texts::ProblemFault;
 use board_core::Position;
-use kif_text::read_kif;
-use sfen_text::read_sfen;
+use kif_text::{kif_laws, read_kif};
+use sfen_text::{read_sfen, sfen_laws};
 use shogi_rules::{Problem, accept_problem};
 use tsume_words::{Format, ProblemForm};
 
@@ -43,4 +43,12 @@ pub fn read_problem(input: &[u8], form: ProblemForm) -> Result<Problem, ProblemF
         Ok(problem) => Ok(problem),
         Err(_) => Err(ProblemFault::DefenderInCheck),
     }
+}
+
+/// No text stands for two problems in one form, for a problem where it has a fault, or has two first faults. It does nothing.
+pub fn problem_laws()
+    ensures { OneReading }
+{
+    sfen_laws();
+    kif_laws();
 }

@@ -2,5 +2,5 @@ pub mod Running
 pub mod Complete
 pub mod Promises
 pub mod Armed
-pub mod Verdict
 pub mod SoFar
+pub mod Solving

@@ -1,20 +1,15 @@
 -- The promise in plain words, from how a command ended.
-use Rattle.std.proofs.Common.{◌≡◌, ◌∙◌, ℕ, List, Option, Some, None, Ok, ap, length, refl, sym, subst}
+use Rattle.std.proofs.Common.{◌≡◌, ◌∙◌, ℕ, List, Option, Some, None, ap, length, refl, sym, subst}
 use Rattle.board_core.specs.declared.moves.Move.{Move}
 use Rattle.board_core.specs.Board.{Board}
 use Rattle.clap.specs.Words.{Text as Word}
-use Rattle.mate_def.specs.Mate.{IsMate}
-use Rattle.play_line.specs.Line.{IsMainLine}
 use Rattle.cert_text.specs.declared.certificate.Certificate.{Certificate}
-use Rattle.cert_text.specs.declared.certificate.Certificate.TheVariants as certificates
 use Rattle.cert_text.specs.Certificate.{Mating, Escaping}
 use Rattle.cert_text.specs.Reading.{IsTextOf}
 use Rattle.cert_text.specs.declared.head.Claim.{Claim}
 use Rattle.cert_text.specs.Kinds.{claim_of, positions_in}
-use Rattle.cert_check.specs.Valid.{IsValid, ValidMate, ValidEscape}
-use Rattle.tsume_words.specs.declared.form.ProblemForm.{ProblemForm}
-use Rattle.tsume_words.specs.Given.{WatchView, Wish}
-use Rattle.search_limits.specs.Sizes.{SettingsView}
+use Rattle.cert_check.specs.Valid.{IsValid}
+use Rattle.tsume_words.specs.Given.{Wish}
 use Rattle.tsume_words.specs.Given.Wish.{to_solve, to_check, to_survey, to_collect}
 use Rattle.tsume_words.specs.Meaning.{command_of}
 use Rattle.search_limits.specs.declared.cause.Cause.{Cause}
@@ -25,54 +20,31 @@ use Rattle.app_texts.specs.declared.answer.Answer.TheVariants.{Solved, Judged, S
 use Rattle.tsume_app.specs.declared.ended.Ended.{Ended}
 use Rattle.tsume_app.specs.declared.ended.Ended.TheVariants.{Answered, CutShort, Failed}
 use Rattle.app_texts.specs.declared.fault.Fault.TheVariants.{NotUtf8, Words, Asked, TooLong, Problem, Cert, Read, NoMemory}
-use Rattle.tsume_app.specs.Headline.{StandsForMate, StandsForNoMate, StandsForUnknown, NamesMate, NamesNoMate, IsValidText, IsAccepted, IsBrokenOff}
-use Rattle.problem_answers.specs.Answer.{IsAcceptedFor}
-use Rattle.problem_answers.specs.Reading.{StandsFor}
-use Rattle.tsume_app.specs.Stops.{Signals}
-use Rattle.tsume_app.specs.Outside.{Shown}
+use Rattle.tsume_app.specs.Headline.{IsValidText, IsAccepted, IsBrokenOff}
+use Rattle.cmd_solve.specs.Headline.{StandsForMate, StandsForNoMate, StandsForUnknown, NamesMate, NamesNoMate}
+use Rattle.cmd_solve.specs.Meaning.{SolveView}
+use Rattle.tsume_app.specs.Solved.{IsSolved}
+use Rattle.one_run.specs.Stops.{Signals}
+use Rattle.one_run.specs.Outside.{Shown}
 use Rattle.tsume_app.specs.Run.{IsEnded, IsEndedUnasked}
-use Rattle.tsume_app.specs.Inside.{OneOutcome}
-use Rattle.tsume_app.proofs.Complete.{took_it, one_judged_for, asked_has_no_fault}
+use Rattle.problem_answers.specs.Reading.{OneReading}
+use Rattle.one_run.proofs.Offered.{took_it}
+use Rattle.tsume_app.proofs.Complete.{one_judged_for, asked_has_no_fault}
+use Rattle.tsume_app.proofs.Solving.{own_answer}
 
-pub mate_of : (settings : SettingsView) (form : ProblemForm) (watch : WatchView) (stops : Signals) (source sink : Shown) (input : List ℕ) (c : Mating) (moves : List Move)
-    → IsEnded (to_solve settings form watch) stops source sink (Answered (Solved (Mate c moves))) → source.told ≡ Some input → StandsForMate form input c moves
-mate_of settings form watch stops source sink input c moves ended told =
-    let d = ended.decided in
-    record {
-      problem = d.true_of.problem;
-      stands_for = subst (λ (i : List ℕ). StandsFor form i (Ok d.true_of.problem)) (took_it source.told source.told_after d.input input told d.read.took) d.true_of.stands_for;
-      mate = d.true_of.true_of.verdict.shown.1.mate;
-      valid = d.true_of.true_of.verdict.shown.1.valid;
-      accepted = d.true_of.true_of.verdict.shown.1.accepted;
-      readable = d.true_of.true_of.verdict.shown.1.readable;
-      text = d.true_of.true_of.verdict.shown.1.text;
-      line = d.true_of.true_of.verdict.shown.1.line;
-    }
+pub mate_of : (asked : SolveView) (stops : Signals) (source sink : Shown) (ended : Ended) (input : List ℕ) (c : Mating) (moves : List Move)
+    → IsSolved asked stops source sink ended → source.told ≡ Some input → ended ≡ Answered (Solved (Mate c moves)) → StandsForMate asked.form input c moves
+mate_of asked stops source sink ended input c moves solved told is = solved.run.mate input c moves told (own_answer asked stops source sink ended (Mate c moves) solved is)
 
-pub no_mate_of : (settings : SettingsView) (form : ProblemForm) (watch : WatchView) (stops : Signals) (source sink : Shown) (input : List ℕ) (c : Escaping)
-    → IsEnded (to_solve settings form watch) stops source sink (Answered (Solved (NoMate c))) → source.told ≡ Some input → StandsForNoMate form input c
-no_mate_of settings form watch stops source sink input c ended told =
-    let d = ended.decided in
-    record {
-      problem = d.true_of.problem;
-      stands_for = subst (λ (i : List ℕ). StandsFor form i (Ok d.true_of.problem)) (took_it source.told source.told_after d.input input told d.read.took) d.true_of.stands_for;
-      no_mate = d.true_of.true_of.verdict.shown.1.no_mate;
-      valid = d.true_of.true_of.verdict.shown.1.valid;
-      accepted = d.true_of.true_of.verdict.shown.1.accepted;
-      readable = d.true_of.true_of.verdict.shown.1.readable;
-      text = d.true_of.true_of.verdict.shown.1.text;
-    }
+pub no_mate_of : (asked : SolveView) (stops : Signals) (source sink : Shown) (ended : Ended) (input : List ℕ) (c : Escaping)
+    → IsSolved asked stops source sink ended → source.told ≡ Some input → ended ≡ Answered (Solved (NoMate c)) → StandsForNoMate asked.form input c
+no_mate_of asked stops source sink ended input c solved told is = solved.run.no_mate input c told (own_answer asked stops source sink ended (NoMate c) solved is)
 
-pub unknown_of : (settings : SettingsView) (form : ProblemForm) (watch : WatchView) (stops : Signals) (source sink : Shown) (input : List ℕ) (cause : Cause) (crew : List WorkerView)
-    → IsEnded (to_solve settings form watch) stops source sink (Answered (Solved (Unknown cause crew))) → source.told ≡ Some input
-    → StandsForUnknown form settings stops input cause crew
-unknown_of settings form watch stops source sink input cause crew ended told =
-    let d = ended.decided in
-    record {
-      problem = d.true_of.problem;
-      stands_for = subst (λ (i : List ℕ). StandsFor form i (Ok d.true_of.problem)) (took_it source.told source.told_after d.input input told d.read.took) d.true_of.stands_for;
-      why = d.true_of.true_of;
-    }
+pub unknown_of : (asked : SolveView) (stops : Signals) (source sink : Shown) (ended : Ended) (input : List ℕ) (cause : Cause) (crew : List WorkerView)
+    → IsSolved asked stops source sink ended → source.told ≡ Some input → ended ≡ Answered (Solved (Unknown cause crew))
+    → StandsForUnknown asked.form asked.settings stops input cause crew
+unknown_of asked stops source sink ended input cause crew solved told is =
+    solved.run.gave_up input cause crew told (own_answer asked stops source sink ended (Unknown cause crew) solved is)
 
 pub own_mate_of : (words : List Word) (stops : Signals) (source sink : Shown) (ended : Ended) (c : Mating) (moves : List Move)
     → ((wish : Wish) → command_of words ≡ Some wish → IsEnded wish stops source sink ended)
@@ -86,17 +58,9 @@ own_mate_of words stops source sink ended c moves does refuses is = go (command_
   go (Some (to_survey range)) e = absurd (subst (IsEnded (to_survey range) stops source sink) is (does (to_survey range) e))
   go (Some (to_collect settings form)) e = absurd (subst (IsEnded (to_collect settings form) stops source sink) is (does (to_collect settings form) e))
   go (Some (to_solve settings form watch)) e =
-      let d = subst (IsEnded (to_solve settings form watch) stops source sink) is (does (to_solve settings form watch) e) in
-      let shown = d.decided.true_of.true_of.verdict.shown.1 in
-      let own = sym shown.valid.problem in
-      record {
-        mate = subst (λ (p : Board). IsMate p.side p) own shown.mate;
-        valid = subst (ValidMate c) own shown.valid;
-        accepted = subst (λ (p : Board). IsAcceptedFor p (certificates.Mate c)) own shown.accepted;
-        readable = shown.readable;
-        text = shown.text;
-        line = subst (λ (p : Board). IsMainLine c p.side p moves) own shown.line;
-      }
+      let asked : SolveView = record { settings = settings; form = form; watch = watch } in
+      let solved = does (to_solve settings form watch) e in
+      solved.run.own_mate c moves (own_answer asked stops source sink ended (Mate c moves) solved is)
 
 pub own_no_mate_of : (words : List Word) (stops : Signals) (source sink : Shown) (ended : Ended) (c : Escaping)
     → ((wish : Wish) → command_of words ≡ Some wish → IsEnded wish stops source sink ended)
@@ -110,16 +74,9 @@ own_no_mate_of words stops source sink ended c does refuses is = go (command_of 
   go (Some (to_survey range)) e = absurd (subst (IsEnded (to_survey range) stops source sink) is (does (to_survey range) e))
   go (Some (to_collect settings form)) e = absurd (subst (IsEnded (to_collect settings form) stops source sink) is (does (to_collect settings form) e))
   go (Some (to_solve settings form watch)) e =
-      let d = subst (IsEnded (to_solve settings form watch) stops source sink) is (does (to_solve settings form watch) e) in
-      let shown = d.decided.true_of.true_of.verdict.shown.1 in
-      let own = sym shown.valid.problem in
-      record {
-        no_mate = subst (λ (p : Board). ¬ IsMate p.side p) own shown.no_mate;
-        valid = subst (ValidEscape c) own shown.valid;
-        accepted = subst (λ (p : Board). IsAcceptedFor p (certificates.Escape c)) own shown.accepted;
-        readable = shown.readable;
-        text = shown.text;
-      }
+      let asked : SolveView = record { settings = settings; form = form; watch = watch } in
+      let solved = does (to_solve settings form watch) e in
+      solved.run.own_no_mate c (own_answer asked stops source sink ended (NoMate c) solved is)
 
 accepted_is_valid : (workers : ℕ) (problem : Option Word) (stops : Signals) (source sink : Shown) (input : List ℕ) (claim : Claim) (entries : ℕ)
     → IsEnded (to_check workers problem) stops source sink (Answered (Judged (Accepted claim entries))) → source.told ≡ Some input → IsValidText problem input claim entries
@@ -137,7 +94,7 @@ accepted_is_valid workers problem stops source sink input claim entries ended to
       shows = d.true_of.true_of.shows;
     }
 
-valid_is_accepted : OneOutcome → (workers : ℕ) (problem : Option Word) (stops : Signals) (source sink : Shown) (input : List ℕ) (claim : Claim) (entries : ℕ) (ended : Ended)
+valid_is_accepted : OneReading → (workers : ℕ) (problem : Option Word) (stops : Signals) (source sink : Shown) (input : List ℕ) (claim : Claim) (entries : ℕ) (ended : Ended)
     → IsEnded (to_check workers problem) stops source sink ended
     → source.told ≡ Some input → ¬ IsBrokenOff ended → IsValidText problem input claim entries → IsAccepted ended claim entries
 valid_is_accepted one workers problem stops source sink input claim entries (Answered (Solved s)) ended told whole valid = absurd (ended.decided.true_of)
@@ -163,7 +120,7 @@ valid_is_accepted one workers problem stops source sink input claim entries (Fai
 valid_is_accepted one workers problem stops source sink input claim entries (Failed (Asked f) i) ended told whole valid =
     absurd (asked_has_no_fault one workers problem valid.certificate valid.board f valid.judged_for ended.0.0)
 valid_is_accepted one workers problem stops source sink input claim entries (Failed TooLong i) ended told whole valid = absurd (whole tt)
-valid_is_accepted one workers problem stops source sink input claim entries (Failed (Problem f) i) ended told whole valid = absurd ended.0.1
+valid_is_accepted one workers problem stops source sink input claim entries (Failed (Problem f) i) ended told whole valid = absurd ended.0
 valid_is_accepted one workers problem stops source sink input claim entries (Failed (Cert f) i) ended told whole valid =
     let text = subst (λ (x : List ℕ). IsTextOf valid.certificate x) (sym (took_it source.told source.told_after i input told ended.0.0.took)) valid.text in
     absurd (ended.0.1.1 valid.certificate valid.readable text)
@@ -171,7 +128,7 @@ valid_is_accepted one workers problem stops source sink input claim entries (Fai
 valid_is_accepted one workers problem stops source sink input claim entries (Failed NoMemory i) ended told whole valid = absurd (whole tt)
 
 -- where the run wasn't broken off, it accepts exactly where the text is a valid certificate's
-pub accepted_of : OneOutcome → (workers : ℕ) (problem : Option Word) (stops : Signals) (source sink : Shown) (input : List ℕ) (claim : Claim) (entries : ℕ) (ended : Ended)
+pub accepted_of : OneReading → (workers : ℕ) (problem : Option Word) (stops : Signals) (source sink : Shown) (input : List ℕ) (claim : Claim) (entries : ℕ) (ended : Ended)
     → IsEnded (to_check workers problem) stops source sink ended → source.told ≡ Some input → ¬ IsBrokenOff ended
     → (IsAccepted ended claim entries → IsValidText problem input claim entries) × (IsValidText problem input claim entries → IsAccepted ended claim entries)
 accepted_of one workers problem stops source sink input claim entries ended is told whole = (

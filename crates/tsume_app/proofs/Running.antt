@@ -12,11 +12,10 @@ use Rattle.tsume_app.specs.declared.ended.Ended.{Ended}
 use Rattle.tsume_app.specs.declared.ended.Ended.TheVariants.{Answered, CutShort, Failed}
 use Rattle.app_texts.specs.declared.fault.Fault.{Fault}
 use Rattle.app_texts.specs.declared.fault.Fault.TheVariants.{NotUtf8, Words, Asked, TooLong, Problem, Cert, Read, NoMemory}
-use Rattle.tsume_words.specs.Given.Wish.{to_solve, to_check, to_survey, to_collect}
-use Rattle.tsume_app.specs.Inside.{HasWritten, IsReadFault, ReadsOne}
-use Rattle.tsume_app.specs.Stops.{Signals}
-use Rattle.tsume_app.specs.Outside.{Shown, IsUntouched}
-use Rattle.tsume_app.specs.Run.{IsReadWhole, IsDecided, HasCause, IsCollectionEnded, IsEnded, IsReadEnded, IsEndedUnasked, GivesHelp, WantsMemory}
+use Rattle.tsume_words.specs.Given.Wish.{to_collect}
+use Rattle.tsume_app.specs.Inside.{HasWritten, IsReadFault}
+use Rattle.one_run.specs.Outside.{Shown, IsUntouched}
+use Rattle.tsume_app.specs.Run.{IsReadWhole, IsDecided, HasCause, IsCollectionEnded, IsReadEnded, IsEndedUnasked, GivesHelp, WantsMemory}
 
 -- all that was left was taken from its front
 all_took : (left left_after : Option (List ℕ)) (input : List ℕ) → TookAll left left_after input → Took left left_after input
@@ -41,13 +40,13 @@ read_then_wanted_more wish source input read =
     ((input, read.short, all_took source.told source.told_after input read.took), inl refl)
 
 -- what was decided, and then written, is how the command ended
-pub ended_of : (wish : Wish) (stops : Signals) (source sink : Shown) (answer : Answer) (ended : Ended) → IsDecided wish stops source answer → HasWritten sink answer ended
-    → IsReadEnded wish stops source sink ended
-ended_of wish stops source sink answer (Answered told) d w =
-    record { decided = subst (λ (a : Answer). IsDecided wish stops source a) (sym w.0) d; grew = rw w.0 w.1 }
-ended_of wish stops source sink answer (CutShort told) d w =
-    record { decided = subst (λ (a : Answer). IsDecided wish stops source a) (sym w.0) d; grew = rw w.0 w.1; rose = w.2 }
-ended_of wish stops source sink answer (Failed fault input) d w = (
+pub ended_of : (wish : Wish) (source sink : Shown) (answer : Answer) (ended : Ended) → IsDecided wish source answer → HasWritten sink answer ended
+    → IsReadEnded wish source sink ended
+ended_of wish source sink answer (Answered told) d w =
+    record { decided = subst (λ (a : Answer). IsDecided wish source a) (sym w.0) d; grew = rw w.0 w.1 }
+ended_of wish source sink answer (CutShort told) d w =
+    record { decided = subst (λ (a : Answer). IsDecided wish source a) (sym w.0) d; grew = rw w.0 w.1; rose = w.2 }
+ended_of wish source sink answer (Failed fault input) d w = (
   subst (λ (f : Fault). HasCause wish source f input) (sym w.0)
       (subst (λ (i : List ℕ). HasCause wish source NoMemory i) (sym w.1) (read_then_wanted_more wish source d.input d.read)),
   w.2,
@@ -85,14 +84,6 @@ help_of sink (Collected counts) ended is w kept = absurd is
 help_of sink (Help text) (Answered told) is w kept = inl (subst (λ (a : Answer). GivesHelp (Answered a)) (sym w.0) tt)
 help_of sink answer (CutShort told) is w kept = absurd (kept w.2)
 help_of sink answer (Failed fault input) is w kept = inr (input, ap (λ (f : Fault). Failed f input) w.0)
-
--- a command that reads one text ended as that text was answered
-pub read_is_ended : (wish : Wish) (stops : Signals) (source sink : Shown) (ended : Ended) → ReadsOne wish → IsReadEnded wish stops source sink ended
-    → IsEnded wish stops source sink ended
-read_is_ended (to_solve settings form watch) stops source sink ended one is = is
-read_is_ended (to_check workers problem) stops source sink ended one is = is
-read_is_ended (to_survey range) stops source sink ended one is = absurd one
-read_is_ended (to_collect settings form) stops source sink ended one is = absurd one
 
 -- a collection that couldn't be read ended so
 pub read_failed : (settings : SettingsView) (form : CollectionView) (source sink : Shown) (fault : Fault) (input : List ℕ) → IsReadFault fault

@@ -20,7 +20,7 @@ use Rattle.problem_answers.specs.Coming.{Coming, IsNext}
 use Rattle.tsume_app.specs.declared.ended.Ended.{Ended}
 use Rattle.tsume_app.specs.declared.ended.Ended.TheVariants.{Answered, CutShort, Failed}
 use Rattle.tsume_app.specs.Inside.{AreSoFar, HasWritten, IsLineTold}
-use Rattle.tsume_app.specs.Outside.{Shown}
+use Rattle.one_run.specs.Outside.{Shown}
 use Rattle.problem_answers.specs.Reports.{IsTrueReport}
 use Rattle.tsume_app.specs.Reports.{AreReported, AreTrueReports, reports_text}
 use Rattle.app_texts.specs.declared.answer.Answer.{Answer}

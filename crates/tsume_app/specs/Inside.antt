@@ -1,5 +1,5 @@
 -- What the private functions of this crate say of one another; no public clause cites these.
-use Rattle.std.specs.Prelude.{◌≡◌, ◌++◌, ◌∷◌, ℕ, List, [], Option, Some, None, Result, Ok}
+use Rattle.std.specs.Prelude.{◌≡◌, ◌++◌, ◌∷◌, ℕ, List, [], Option, Some, None, Ok}
 use Rattle.tsume_io.specs.Faults.{Rose}
 use Rattle.tsume_io.specs.Sink.{GrewBy, GrewByPrefix}
 use Rattle.app_texts.specs.declared.answer.Answer.{Answer}
@@ -12,12 +12,9 @@ use Rattle.tsume_words.specs.Given.{Wish, CollectionView}
 use Rattle.search_limits.specs.Sizes.{SettingsView}
 use Rattle.tsume_words.specs.Given.Wish.{to_solve, to_check, to_survey, to_collect}
 use Rattle.app_texts.specs.Texts.{answer_text}
-use Rattle.board_core.specs.Board.{Board}
-use Rattle.tsume_words.specs.declared.form.Format.{Format}
-use Rattle.app_texts.specs.declared.fault.ProblemFault.{ProblemFault}
-use Rattle.problem_answers.specs.Reading.{IsPositionRead, StandsFor}
+use Rattle.problem_answers.specs.Reading.{StandsFor}
 use Rattle.tsume_app.specs.Input.{given_form}
-use Rattle.tsume_app.specs.Outside.{Shown, NeverFailed, IsUntouched}
+use Rattle.one_run.specs.Outside.{Shown, NeverFailed, IsUntouched}
 use Rattle.app_texts.specs.declared.counts.Counts.{Counts}
 use Rattle.app_texts.specs.declared.report.Report.{Report}
 use Rattle.app_texts.specs.Counts.{AreCountsOf}
@@ -57,18 +54,6 @@ IsAskedProblem (to_survey range) None = Unit {0}
 IsAskedProblem (to_survey range) (Some problem) = ⊥
 IsAskedProblem (to_collect settings form) None = Unit {0}
 IsAskedProblem (to_collect settings form) (Some problem) = ⊥
-
--- The command reads one text and answers it.
-abbrev pub ReadsOne : Wish → Type 0
-ReadsOne (to_solve settings form watch) = Unit {0}
-ReadsOne (to_check workers problem) = Unit {0}
-ReadsOne (to_survey range) = ⊥
-ReadsOne (to_collect settings form) = ⊥
-
--- A law: no text of a format has two outcomes, be they positions or first faults.
-abbrev pub OneOutcome : Type 0
-OneOutcome = (format : Format) (input : List ℕ) (one other : Result Board ProblemFault) → IsPositionRead format input one
-    → IsPositionRead format input other → one ≡ other
 
 -- What is told of a line of a collection: the text of a true report, by which the counts grew.
 pub record IsLineTold (settings : SettingsView) (form : CollectionView) (line : NumberedLine) (before after : Counts) (text : List ℕ) : Type 0 where

@@ -5,9 +5,9 @@ pub mod EndedText
 pub mod Headline
 pub mod Input
 pub mod Inside
-pub mod Outside
 pub mod Reports
 pub mod Run
+pub mod Solved
 pub mod Status
 pub mod Stops
 pub mod Told

@@ -1,6 +1,6 @@
 -- What became of the stops that a run was given.
-use Rattle.std.specs.Prelude.{◌≡◌, ◌⊎◌, ℕ, List, [], ◌∷◌, Option, Some, None, drop, map}
-use Rattle.search_gate.specs.Stop.{Signal, armed_with, one_more}
+use Rattle.std.specs.Prelude.{◌⊎◌, ℕ, Option, Some, None}
+use Rattle.one_run.specs.Stops.{Signals, AreUsed, AreUnused}
 use Rattle.tsume_words.specs.Given.{Wish}
 use Rattle.tsume_words.specs.Given.Wish.{to_solve, to_check, to_survey, to_collect}
 use Rattle.app_texts.specs.declared.answer.Answer.{Answer}
@@ -10,20 +10,6 @@ use Rattle.app_texts.specs.declared.fault.Fault.TheVariants.{NotUtf8, Words, Ask
 use Rattle.tsume_app.specs.declared.ended.Ended.{Ended}
 use Rattle.tsume_app.specs.declared.ended.Ended.TheVariants.{Answered, CutShort, Failed}
 
--- What the stops of a run tell of themselves, before and after.
-pub record Signals : Type 0 where
-  pub before : List Signal
-  pub after : List Signal
-
--- What they tell, by what each of them tells.
-abbrev pub signals : {A : Type 0} → (A → Signal) → List A → List A → Signals
-signals signal before after = record { before = map signal before; after = map signal after }
-
--- What the first stop tells, which the first worker polls.
-abbrev pub first_of : List Signal → Signal
-first_of [] = record { polls = 0; raised = 0; last = 0; armed = None; arms = 0; early = 0 }
-first_of (signal ∷ others) = signal
-
 -- The deadline that words give, if any.
 abbrev pub deadline_in : Option Wish → Option ℕ
 deadline_in None = None
@@ -31,18 +17,6 @@ deadline_in (Some (to_solve settings form watch)) = watch.deadline
 deadline_in (Some (to_check workers problem)) = None
 deadline_in (Some (to_survey range)) = None
 deadline_in (Some (to_collect settings form)) = None
-
--- A search with one worker used the stops: each was armed once, for this deadline or for none, the first before it was polled; and only the first was
--- polled.
-pub record AreUsed (deadline : Option ℕ) (stops : Signals) : Type 0 where
-  pub armed : (first_of stops.after).armed ≡ deadline
-  pub arms : (first_of stops.after).arms ≡ one_more (first_of stops.before).arms
-  pub early : (first_of stops.after).early ≡ (first_of stops.before).polls
-  pub others : drop 1 stops.after ≡ map (λ signal. armed_with signal deadline) (drop 1 stops.before)
-
--- No stop was armed or polled.
-abbrev pub AreUnused : Signals → Type 0
-AreUnused stops = stops.after ≡ stops.before
 
 -- The stops where an answer was found: used for a solution, and for nothing else.
 abbrev pub AreUsedFor : Option ℕ → Signals → Answer → Type 0

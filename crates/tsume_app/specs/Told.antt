@@ -17,8 +17,9 @@ use Rattle.tsume_app.specs.declared.ended.Ended.TheVariants.{Answered, CutShort,
 use Rattle.tsume_app.specs.declared.telling.Told.{Told}
 use Rattle.tsume_app.specs.declared.telling.Told.TheVariants.{Whole, InPart, Nothing}
 use Rattle.tsume_app.specs.EndedText.{ended_text}
-use Rattle.tsume_app.specs.Stops.{Signals, AreUsedTill, deadline_in}
-use Rattle.tsume_app.specs.Outside.{Shown, NeverFailed, IsUntouched}
+use Rattle.tsume_app.specs.Stops.{AreUsedTill, deadline_in}
+use Rattle.one_run.specs.Stops.{Signals}
+use Rattle.one_run.specs.Outside.{Shown, NeverFailed, IsUntouched}
 use Rattle.tsume_app.specs.Input.{IsAskedFault}
 use Rattle.tsume_app.specs.Run.{IsEnded, IsEndedUnasked, IsCounted, GivesHelp, WantsMemory, IsWellPosed, IsAnswered}
 use Rattle.tsume_app.specs.Status.{status_of, is_answered}

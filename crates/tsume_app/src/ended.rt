@@ -2,8 +2,8 @@
 ghost use Rattle.std.specs.Prelude.{◌≡◌, Some};
 ghost use Rattle.tsume_app.specs.Status.{solution_status, judgement_status, counts_status, answer_status, fault_status, status_of, is_answered};
 
-use crate::input::Input;
 use app_texts::{Answer, Counts, Fault, Judgement, Solution};
+use one_run::Input;
 use std::fmt::{self, Write};
 
 /// How a run ended. It prints as what the user is told of it beside the answer: nothing where it was answered, `write fault` where

@@ -13,12 +13,12 @@ mod many;
 mod note;
 mod program;
 mod progress;
-mod solution;
-mod stops;
+mod solved;
 mod telling;
 
 pub use ended::Ended;
 pub use exit::Exit;
-pub use input::{Input, MOST_CERTIFICATE_BYTES, MOST_COLLECTION_BYTES};
+pub use input::{MOST_CERTIFICATE_BYTES, MOST_COLLECTION_BYTES};
+pub use one_run::Input;
 pub use program::{named_file, run, told_limit};
 pub use telling::{Told, run_and_tell, start, tell};

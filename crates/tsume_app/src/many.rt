@@ -8,13 +8,14 @@ ghost use Rattle.app_texts.specs.Reports.{HasReportLine};
 ghost use Rattle.problem_lines.specs.Lines.{seen};
 ghost use Rattle.problem_answers.specs.Reports.{IsTrueReport};
 ghost use Rattle.tsume_app.specs.Inside.{IsLineTold};
-ghost use Rattle.tsume_app.specs.Outside.{NeverFailed, Shown, shown};
+ghost use Rattle.one_run.specs.Outside.{NeverFailed, Shown, shown};
 ghost use Rattle.tsume_app.specs.Run.{IsCounted, IsCollectionEnded, IsReadWhole, IsSurvey, IsSurveyEnded};
 
 use crate::ended::Ended;
-use crate::input::{Input, MOST_COLLECTION_BYTES};
+use crate::input::MOST_COLLECTION_BYTES;
 use crate::program::{read_input, write_answer};
 use app_texts::{Answer, Counts, Fault, Summary, Tallies, append_report};
+use one_run::Input;
 use problem_answers::{Reported, Reports};
 use search_limits::Settings;
 use std::alloc::{AllocError, Global};

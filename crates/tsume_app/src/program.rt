@@ -16,51 +16,32 @@ ghost use Rattle.app_texts.specs.declared.tallies.Summary.{Summary};
 ghost use Rattle.search_limits.specs.declared.cause.Cause.{Cause};
 ghost use Rattle.visit_log.specs.Run.{WorkerView};
 ghost use Rattle.app_texts.specs.declared.fault.ProblemFault.{ProblemFault};
-ghost use Rattle.tsume_app.specs.Headline.{AsksToSolve, AsksToCheck, StandsForMate, StandsForNoMate, StandsForUnknown, NamesMate, NamesNoMate, IsValidText, IsAccepted, IsBrokenOff};
+ghost use Rattle.tsume_app.specs.Headline.{AsksToSolve, AsksToCheck, IsValidText, IsAccepted, IsBrokenOff};
+ghost use Rattle.cmd_solve.specs.Headline.{StandsForMate, StandsForNoMate, StandsForUnknown, NamesMate, NamesNoMate};
 ghost use Rattle.app_texts.specs.Texts.{HasTexts};
-ghost use Rattle.tsume_app.specs.Inside.{HasWritten, IsAskedProblem, IsReadCounted, IsReadFault, OneOutcome, ReadsOne};
+ghost use Rattle.tsume_app.specs.Inside.{HasWritten, IsAskedProblem, IsReadCounted, IsReadFault};
 ghost use Rattle.tsume_app.specs.Input.{limit_of, IsAskedFault};
-ghost use Rattle.tsume_app.specs.Outside.{Shown, shown, NeverFailed};
-ghost use Rattle.tsume_app.specs.Stops.{AreUsedBefore, AreUsedFor, AreUsedTill, deadline_in, signals};
+ghost use Rattle.one_run.specs.Outside.{shown, NeverFailed};
+ghost use Rattle.tsume_app.specs.Stops.{AreUsedTill, deadline_in};
+ghost use Rattle.one_run.specs.Stops.{signals};
 ghost use Rattle.search_limits.specs.declared.settings.TheConstants.{MOST_WORKERS};
 ghost use Rattle.tsume_app.specs.Told.{limit_told};
-ghost use Rattle.tsume_app.specs.Run.{IsReadWhole, IsTrueOfInput, HasCause, IsEnded, IsReadEnded, IsCollected, IsSurvey, IsCounted, IsEndedUnasked, GivesHelp, IsWellPosed, IsAnswered, WantsMemory};
+ghost use Rattle.tsume_app.specs.Run.{IsReadWhole, HasCause, IsEnded, IsCollected, IsSurvey, IsCounted, IsEndedUnasked, GivesHelp, IsWellPosed, IsAnswered, WantsMemory};
 
 use crate::ended::Ended;
-use crate::input::{Input, MOST_CERTIFICATE_BYTES, MOST_COLLECTION_BYTES};
-use crate::judgement::judge_input;
+use crate::judgement::check_ended;
 use crate::many::{collection_ended, survey_ended};
-use crate::solution::solve_input;
+use crate::solved::solve_ended;
 use app_texts::{Answer, Fault, Judgement, ProblemFault, Solution, answer_text};
-use kif_text::kif_laws;
-use problem_answers::read_problem;
-use problem_lines::MOST_PROBLEM_BYTES;
+use cmd_solve::Solve;
+use one_run::Input;
+use problem_answers::{problem_laws, read_problem};
 use search_gate::{Gate, Stop};
-use sfen_text::sfen_laws;
 use shogi_rules::Problem;
 use std::alloc::{AllocError, Global};
 use std::thread::Threads;
 use tsume_io::{ReadEnd, Sink, Source, read_all, write_all};
 use tsume_words::{Command, Format, ProblemForm, WordsEnd, read_words};
-
-fn limit_of(command: &Command) -> usize
-    ensures { result ≡ limit_of (wish_of command.now) }
-{
-    match command {
-        Command::Solve { .. } => MOST_PROBLEM_BYTES,
-        Command::Check { .. } => MOST_CERTIFICATE_BYTES,
-        Command::Survey { .. } => 0,
-        Command::Collection { .. } => MOST_COLLECTION_BYTES,
-    }
-}
-
-// No text has two outcomes, in any format.
-fn text_laws()
-    ensures { OneOutcome }
-{
-    sfen_laws();
-    kif_laws();
-}
 
 // The problem that the words give for a certificate, where they give one.
 fn problem_in(command: &Command) -> Result<Option<Problem>, ProblemFault>
@@ -89,7 +70,7 @@ fn asked_problem(command: &Command) -> Result<Option<Problem>, ProblemFault>
     ensures found { MatchResult result (IsAskedProblem (wish_of command.now)) (IsAskedFault (wish_of command.now)) }
     ensures stopped { (fault : ProblemFault) → IsAskedFault (wish_of command.now) fault → result ≡ Err fault }
 {
-    text_laws();
+    problem_laws();
     problem_in(command)
 }
 
@@ -111,37 +92,6 @@ pub(crate) fn read_input<S: Source>(
     }
 }
 
-fn answer_to<G: Gate, T: Stop>(
-    alloc: Global,
-    command: &Command,
-    asked: &Option<Problem>,
-    input: &[u8],
-    gate: &G,
-    stops: &mut [T],
-) -> Result<Answer, Fault>
-    requires one { ReadsOne (wish_of command.now) }
-    requires asked { IsAskedProblem (wish_of command.now) asked.now }
-    requires stops { 0 < length stops.old }
-    ensures true_of { IfOk result (IsTrueOfInput (wish_of command.now) (signals T.signal stops.old stops.new) input.now) }
-    ensures texts { IfOk result HasTexts }
-    ensures used { MatchResult result (AreUsedFor (deadline_in (Some (wish_of command.now))) (signals T.signal stops.old stops.new))
-        (AreUsedBefore (deadline_in (Some (wish_of command.now))) (signals T.signal stops.old stops.new)) }
-    // Wherever these bytes were read whole.
-    ensures cause { (source : Shown) → IsReadWhole (wish_of command.now) source input.now
-        → IfErr result (λ fault. HasCause (wish_of command.now) source fault input.now) }
-{
-    match command {
-        Command::Solve {
-            settings,
-            form,
-            watch,
-        } => solve_input(alloc, input, settings, *form, watch, gate, stops),
-        Command::Check { .. } => judge_input(alloc, asked, input),
-        // These don't read one text, so they don't come here.
-        Command::Survey { .. } | Command::Collection { .. } => Err(Fault::NoMemory),
-    }
-}
-
 /// Writes the whole text of an answer, which is made before the first write.
 pub(crate) fn write_answer<K: Sink>(alloc: Global, sink: &mut K, answer: Answer) -> Ended
     requires { HasTexts answer }
@@ -154,33 +104,6 @@ pub(crate) fn write_answer<K: Sink>(alloc: Global, sink: &mut K, answer: Answer)
         return Ended::CutShort(answer);
     }
     Ended::Answered(answer)
-}
-
-// How a command ends that reads one text and answers it.
-fn read_ended<S: Source, K: Sink, G: Gate, T: Stop>(
-    alloc: Global,
-    command: &Command,
-    asked: &Option<Problem>,
-    source: &mut S,
-    sink: &mut K,
-    gate: &G,
-    stops: &mut [T],
-) -> Ended
-    requires one { ReadsOne (wish_of command.now) }
-    requires asked { IsAskedProblem (wish_of command.now) asked.now }
-    requires stops { 0 < length stops.old }
-    ensures used { AreUsedTill (deadline_in (Some (wish_of command.now))) (signals T.signal stops.old stops.new) result }
-    ensures ended { IsReadEnded (wish_of command.now) (signals T.signal stops.old stops.new) (shown S.left S.faults source.old source.new) (shown K.kept K.faults sink.old sink.new) result }
-    ensures counted { IsCounted (shown S.left S.faults source.old source.new) (shown K.kept K.faults sink.old sink.new) result }
-{
-    let input = match read_input(alloc, limit_of(command), source) {
-        Ok(input) => input,
-        Err(fault) => return Ended::Failed(fault, Input::none(alloc)),
-    };
-    match answer_to(alloc, command, asked, &input, gate, stops) {
-        Ok(answer) => write_answer(alloc, sink, answer),
-        Err(fault) => Ended::Failed(fault, Input::new(input)),
-    }
 }
 
 fn command_ended<R: Threads + Sync, S: Source, K: Sink, G: Gate, T: Stop>(
@@ -203,12 +126,22 @@ fn command_ended<R: Threads + Sync, S: Source, K: Sink, G: Gate, T: Stop>(
         Err(fault) => return Ended::Failed(Fault::Asked(fault), Input::none(alloc)),
     };
     match command {
+        Command::Solve {
+            settings,
+            form,
+            watch,
+        } => {
+            let asked = Solve {
+                settings: *settings,
+                form: *form,
+                watch: *watch,
+            };
+            solve_ended(alloc, &asked, source, sink, gate, stops)
+        }
+        Command::Check { .. } => check_ended(alloc, &asked, source, sink),
         Command::Survey { range } => survey_ended(rt, alloc, range, sink),
         Command::Collection { settings, form } => {
             collection_ended(rt, alloc, settings, form, source, sink)
-        }
-        Command::Solve { .. } | Command::Check { .. } => {
-            read_ended(alloc, command, &asked, source, sink, gate, stops)
         }
     }
 }
@@ -316,8 +249,8 @@ pub fn told_limit(alloc: Global, words: &[String]) -> Result<Option<u64>, AllocE
 /// line, that it is none, that it was given up, or what its fault is, perhaps with certificates, and the counts behind the last; a faulty line
 /// doesn't end the run.
 ///
-/// Everything else ends with a named fault and its cause: more than [`MOST_PROBLEM_BYTES`] of a problem, [`MOST_COLLECTION_BYTES`] of a collection or
-/// [`MOST_CERTIFICATE_BYTES`] of a certificate; a text that is no problem or no certificate, with its first fault; a source or a
+/// Everything else ends with a named fault and its cause: more than [`MOST_PROBLEM_BYTES`](problem_lines::MOST_PROBLEM_BYTES) of a problem,
+/// [`MOST_COLLECTION_BYTES`](crate::MOST_COLLECTION_BYTES) of a collection or [`MOST_CERTIFICATE_BYTES`](crate::MOST_CERTIFICATE_BYTES) of a certificate; a text that is no problem or no certificate, with its first fault; a source or a
 /// sink whose count of faults rose; want of memory. The whole text is made before the first write, but for a collection, whose reports are written
 /// one by one. `solve` passes the gate for each
 /// unit, one visit of a position, as worker 1 (no clause says it), and no other command does. The stops, one for each worker that there may be, are armed once, with the deadline that the words
@@ -403,6 +336,7 @@ pub fn run<R: Threads + Sync, S: Source, K: Sink, G: Gate, T: Stop>(
         → ¬ Rose (S.faults source.old) (S.faults source.new) → ¬ Rose (K.faults sink.old) (K.faults sink.new)
         → IsAnswered result ⊎ WantsMemory result }
 {
-    text_laws();
+    // No text stands for two problems.
+    problem_laws();
     words_ended(rt, alloc, words, source, sink, gate, stops)
 }

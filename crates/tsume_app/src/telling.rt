@@ -1,18 +1,18 @@
 // What the user is told beside the answer, and the program as a whole.
 ghost use Rattle.std.specs.Prelude.{◌≡◌, length, vec_len, ◌++◌, OnOk, IfOk};
 ghost use Rattle.tsume_words.specs.Meaning.{texts_of};
-ghost use Rattle.tsume_app.specs.Outside.{shown};
+ghost use Rattle.one_run.specs.Outside.{shown};
 ghost use Rattle.search_limits.specs.declared.settings.TheConstants.{MOST_WORKERS};
-ghost use Rattle.tsume_app.specs.Stops.{signals};
+ghost use Rattle.one_run.specs.Stops.{signals};
 ghost use Rattle.tsume_app.specs.Told.{told_text, BeginsAsTold, IsTold, IsToldRun};
 
 use crate::ended::Ended;
 use crate::exit::Exit;
-use crate::input::Input;
 use crate::note::note_of;
 use crate::program::{named_file, run, told_limit};
 use crate::progress::{Clearing, Progress};
 use app_texts::Fault;
+use one_run::Input;
 use search_gate::{DeadlineStop, Gate, Stop};
 use search_limits::MOST_WORKERS;
 use std::alloc::{AllocError, Global};

@@ -9,7 +9,7 @@ returns-in_err-judgement_of-in-Ok-clause-cause c = λ workers text source read.
     search rules
 
 pub returns-in_ok-judgement_of-in-Ok-clause-true_of : goal.returns-in_ok-judgement_of-in-Ok-clause-true_of
-returns-in_ok-judgement_of-in-Ok-clause-true_of c = λ workers text stops asked. record {
+returns-in_ok-judgement_of-in-Ok-clause-true_of c = λ workers text asked. record {
   certificate = c.in-Ok.certificate;
   read = c.in-Ok.ensures.exact;
   only = λ other readable is_text. sym (c.in-Ok.ensures.again other readable is_text);

@@ -5,7 +5,7 @@ use Rattle.tsume_words.specs.Meaning.{collection_in}
 use Rattle.search_limits.specs.Settings.{settings_in}
 use Rattle.app_texts.specs.declared.fault.Fault.TheVariants.{NoMemory}
 use Rattle.problem_lines.specs.Lines.{problem_lines, seen}
-use Rattle.tsume_app.specs.Outside.{shown}
+use Rattle.one_run.specs.Outside.{shown}
 use Rattle.tsume_app.specs.Run.{HasCause}
 use Rattle.tsume_app.proofs.Running.{read_then_wanted_more}
 use Rattle.tsume_app.proofs.SoFar.{next_is, none_is, told_by, so_far_next, so_far_wanted, so_far_cut, collected_of}

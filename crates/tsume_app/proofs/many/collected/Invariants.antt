@@ -3,7 +3,7 @@ use Rattle.problem_lines.specs.Lines.{problem_lines}
 use Rattle.tsume_words.specs.Meaning.{collection_in}
 use Rattle.search_limits.specs.Settings.{settings_in}
 use Rattle.tsume_app.specs.Inside.{AreSoFar}
-use Rattle.tsume_app.specs.Outside.{shown}
+use Rattle.one_run.specs.Outside.{shown}
 use Rattle.tsume_app.proofs.many.collected.Given as goal
 
 -- the lines so far are decided and told

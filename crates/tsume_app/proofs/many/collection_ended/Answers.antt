@@ -2,7 +2,7 @@ use Rattle.std.proofs.Common.{ℕ, List, [], refl, sym, subst}
 use Rattle.tsume_words.specs.Given.Wish.{to_collect}
 use Rattle.tsume_words.specs.Meaning.{collection_in}
 use Rattle.search_limits.specs.Settings.{settings_in}
-use Rattle.tsume_app.specs.Outside.{shown}
+use Rattle.one_run.specs.Outside.{shown}
 use Rattle.tsume_app.specs.declared.ended.Ended.TheVariants.{Failed}
 use Rattle.tsume_app.specs.Run.{IsReadWhole, IsCollectionEnded}
 use Rattle.tsume_app.proofs.Running.{read_failed}

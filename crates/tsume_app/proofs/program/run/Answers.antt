@@ -2,8 +2,8 @@ use Rattle.tsume_words.specs.Given.Wish.{to_solve, to_check, to_survey, to_colle
 use Rattle.tsume_words.specs.Meaning.{texts_of}
 use Rattle.tsume_app.specs.declared.ended.Ended.{Ended}
 use Rattle.std.proofs.Common.{subst}
-use Rattle.tsume_app.specs.Outside.{shown}
-use Rattle.tsume_app.specs.Stops.{signals}
+use Rattle.one_run.specs.Outside.{shown}
+use Rattle.one_run.specs.Stops.{signals}
 use Rattle.tsume_app.specs.Run.{IsEnded}
 use Rattle.tsume_app.proofs.Complete.{complete_of}
 use Rattle.tsume_app.proofs.Promises.{mate_of, no_mate_of, unknown_of, own_mate_of, own_no_mate_of, accepted_of}
@@ -14,24 +14,24 @@ returns-clause-mate g c = λ form input certificate moves asks told is.
     let stops = signals g.T.Stop.signal c.args.stops.now c.words_ended.new.stops in
     let source = shown g.S.Source.left g.S.Source.faults c.args.source.now c.words_ended.new.source in
     let sink = shown g.K.Sink.kept g.K.Sink.faults c.args.sink.now c.words_ended.new.sink in
-    mate_of asks.0 form asks.1 stops source sink input certificate moves
-    (subst (λ (e : Ended). IsEnded (to_solve asks.0 form asks.1) stops source sink e) is (c.words_ended.ensures.ended (to_solve asks.0 form asks.1) asks.2)) told
+    mate_of (record { settings = asks.0; form = form; watch = asks.1 }) stops source sink c.words_ended.result input certificate moves
+    (c.words_ended.ensures.ended (to_solve asks.0 form asks.1) asks.2) told is
 
 pub returns-clause-no_mate : goal.returns-clause-no_mate
 returns-clause-no_mate g c = λ form input certificate asks told is.
     let stops = signals g.T.Stop.signal c.args.stops.now c.words_ended.new.stops in
     let source = shown g.S.Source.left g.S.Source.faults c.args.source.now c.words_ended.new.source in
     let sink = shown g.K.Sink.kept g.K.Sink.faults c.args.sink.now c.words_ended.new.sink in
-    no_mate_of asks.0 form asks.1 stops source sink input certificate
-    (subst (λ (e : Ended). IsEnded (to_solve asks.0 form asks.1) stops source sink e) is (c.words_ended.ensures.ended (to_solve asks.0 form asks.1) asks.2)) told
+    no_mate_of (record { settings = asks.0; form = form; watch = asks.1 }) stops source sink c.words_ended.result input certificate
+    (c.words_ended.ensures.ended (to_solve asks.0 form asks.1) asks.2) told is
 
 pub returns-clause-gave_up : goal.returns-clause-gave_up
 returns-clause-gave_up g c = λ settings form watch input cause crew asks told is.
     let stops = signals g.T.Stop.signal c.args.stops.now c.words_ended.new.stops in
     let source = shown g.S.Source.left g.S.Source.faults c.args.source.now c.words_ended.new.source in
     let sink = shown g.K.Sink.kept g.K.Sink.faults c.args.sink.now c.words_ended.new.sink in
-    unknown_of settings form watch stops source sink input cause crew
-    (subst (λ (e : Ended). IsEnded (to_solve settings form watch) stops source sink e) is (c.words_ended.ensures.ended (to_solve settings form watch) asks)) told
+    unknown_of (record { settings = settings; form = form; watch = watch }) stops source sink c.words_ended.result input cause crew
+    (c.words_ended.ensures.ended (to_solve settings form watch) asks) told is
 
 pub returns-clause-own_mate : goal.returns-clause-own_mate
 returns-clause-own_mate g c = λ certificate moves is.
@@ -52,7 +52,7 @@ returns-clause-accepted g c = λ problem input claim entries asks told whole.
     let stops = signals g.T.Stop.signal c.args.stops.now c.words_ended.new.stops in
     let source = shown g.S.Source.left g.S.Source.faults c.args.source.now c.words_ended.new.source in
     let sink = shown g.K.Sink.kept g.K.Sink.faults c.args.sink.now c.words_ended.new.sink in
-    accepted_of c.text_laws.ensures asks.0 problem stops source sink input claim entries c.words_ended.result
+    accepted_of c.problem_laws.ensures asks.0 problem stops source sink input claim entries c.words_ended.result
     (c.words_ended.ensures.ended (to_check asks.0 problem) asks.1) told whole
 
 pub returns-clause-complete : goal.returns-clause-complete
@@ -60,7 +60,7 @@ returns-clause-complete g c = λ wish asks posed sound kept.
     let stops = signals g.T.Stop.signal c.args.stops.now c.words_ended.new.stops in
     let source = shown g.S.Source.left g.S.Source.faults c.args.source.now c.words_ended.new.source in
     let sink = shown g.K.Sink.kept g.K.Sink.faults c.args.sink.now c.words_ended.new.sink in
-    complete_of c.text_laws.ensures wish stops source sink c.words_ended.result (c.words_ended.ensures.ended wish asks) posed sound kept
+    complete_of c.problem_laws.ensures wish stops source sink c.words_ended.result (c.words_ended.ensures.ended wish asks) posed sound kept
 
 pub returns-clause-surveyed : goal.returns-clause-surveyed
 returns-clause-surveyed g c = λ range summary asks is.

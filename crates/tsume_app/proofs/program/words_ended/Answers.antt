@@ -6,10 +6,12 @@ use Rattle.tsume_words.specs.declared.faults.WordsEnd.{WordsEnd}
 use Rattle.tsume_words.specs.declared.faults.WordsEnd.TheVariants as ends
 use Rattle.app_texts.specs.declared.answer.Answer.TheVariants as answers
 use Rattle.tsume_words.specs.Given.{Wish}
-use Rattle.tsume_app.specs.Outside.{shown}
-use Rattle.tsume_app.specs.Stops.{AreUsedTill, deadline_in, signals}
+use Rattle.one_run.specs.Outside.{shown}
+use Rattle.tsume_app.specs.Stops.{AreUsedTill, deadline_in}
+use Rattle.one_run.specs.Stops.{signals}
 use Rattle.tsume_app.proofs.Armed.{used_till}
 use Rattle.tsume_app.proofs.Running.{help_of}
+use Rattle.tsume_app.proofs.Solving.{unbegun_ended}
 use Rattle.tsume_app.proofs.program.words_ended.Goals as goal
 
 taken_not_stopped : (r : Result Asked WordsEnd) (command : Asked) (a b : WordsEnd) → r ≡ Ok command → (r ≡ Err a) ⊎ (r ≡ Err b) → ⊥
@@ -60,3 +62,9 @@ pub returns-in-Err-Help-clause-used : goal.returns-in-Err-Help-clause-used
 returns-in-Err-Help-clause-used g c =
     used_till (deadline_in (command_of (texts_of c.args.words.items))) (signals g.T.Stop.signal c.args.stops.now c.args.stops.now)
     (shown g.K.Sink.kept g.K.Sink.faults c.args.sink.now c.write_answer.new.sink) (answers.Help c.in-Err-Help.text) c.write_answer.result c.write_answer.ensures refl
+
+pub returns-clause-ended : goal.returns-clause-ended
+returns-clause-ended g c = λ wish asks.
+    unbegun_ended wish (signals g.T.Stop.signal c.args.stops.now c.args.stops.now) (shown g.S.Source.left g.S.Source.faults c.args.source.now c.args.source.now)
+    (shown g.K.Sink.kept g.K.Sink.faults c.args.sink.now c.args.sink.now) c.none-in-Err-NoMemory.result c.none-in-Err-NoMemory.ensures refl
+    (record { told = refl; faults = refl }) (record { told = refl; faults = refl })

@@ -1,0 +1,4 @@
+pub mod Armed
+pub mod Promises
+pub mod Verdict
+pub mod Offered

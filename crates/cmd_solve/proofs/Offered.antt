@@ -1,0 +1,2 @@
+-- What of `solve` is offered to the crates above; they cite no other lemma of this one.
+pub use Rattle.cmd_solve.proofs.Promises.{unbegun_solve}

@@ -1,0 +1,6 @@
+-- This project's.
+pub mod Command
+pub mod Inside
+pub mod Outside
+pub mod Run
+pub mod Stops

@@ -1,0 +1,19 @@
+//! What the commands of the program do alike: one reads a text whole, answers it, and writes the
+//! answer's text; or it ends with a fault that has its cause.
+//!
+//! What a command is of its own is a [`Command`], by its meaning: how many bytes a text may have, which
+//! answers are true of one, which faults one has, the text of an answer, and what becomes of the stops.
+//! A run is three calls: [`read`] begins it, the command answers the text by one of its own, and
+//! [`tell`] ends it; [`Ended`] is how. What a run promises (`IsRun`) is proved here, once for all of
+//! them: a command says no more than its own, and no fault is named that can't come.
+#![tactic(auto)]
+
+mod command;
+mod ended;
+mod input;
+mod running;
+
+pub use command::{Command, Unanswered};
+pub use ended::{Ended, Fault};
+pub use input::Input;
+pub use running::{read, tell};
