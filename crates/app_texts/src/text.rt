@@ -205,3 +205,12 @@ pub fn solution_text(alloc: Global, solution: &Solution) -> Result<Vec<u8>, Allo
     append_solution(&mut text, solution)?;
     Ok(text)
 }
+
+/// The whole text of an answer to `check`. Errors: want of memory alone.
+pub fn judgement_text(alloc: Global, judgement: &Judgement) -> Result<Vec<u8>, AllocError>
+    ensures { IfOk result (λ text. text.items ≡ judgement_text judgement.now) }
+{
+    let mut text = Vec::new(alloc);
+    append_judgement(&mut text, judgement)?;
+    Ok(text)
+}

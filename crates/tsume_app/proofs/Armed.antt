@@ -1,9 +1,7 @@
 -- What a search did with the stops.
 use Rattle.std.proofs.Common.{inl, inr, ℕ, Option, sym, subst}
-use Rattle.clap.specs.Words.{Text as Word}
 use Rattle.tsume_words.specs.Given.{SurveyView, CollectionView}
 use Rattle.search_limits.specs.Sizes.{SettingsView}
-use Rattle.tsume_words.specs.Given.Wish.{to_check}
 use Rattle.app_texts.specs.declared.answer.Answer.{Answer}
 use Rattle.app_texts.specs.declared.answer.Answer.TheVariants.{Solved, Judged, Surveyed, Collected, Help}
 use Rattle.tsume_app.specs.declared.ended.Ended.{Ended}
@@ -12,7 +10,7 @@ use Rattle.app_texts.specs.declared.fault.Fault.{Fault}
 use Rattle.app_texts.specs.declared.fault.Fault.TheVariants.{NotUtf8, Words, Asked, TooLong, Problem, Cert, Read, NoMemory}
 use Rattle.tsume_app.specs.Inside.{HasWritten}
 use Rattle.one_run.specs.Outside.{Shown}
-use Rattle.tsume_app.specs.Run.{IsReadEnded, IsSurveyEnded, IsCollectionEnded}
+use Rattle.tsume_app.specs.Run.{IsSurveyEnded, IsCollectionEnded}
 use Rattle.tsume_app.specs.Stops.{AreUsedBefore, AreUsedFor, AreUsedTill}
 use Rattle.one_run.specs.Stops.{Signals, AreUnused}
 
@@ -26,21 +24,6 @@ unused_before deadline stops (Problem fault) unused = unused
 unused_before deadline stops (Cert fault) unused = unused
 unused_before deadline stops Read unused = unused
 unused_before deadline stops NoMemory unused = inr unused
-
--- `check` uses no stop.
-pub unused_check : (deadline : Option ℕ) (stops : Signals) (workers : ℕ) (problem : Option Word) (source sink : Shown) (ended : Ended)
-    → IsReadEnded (to_check workers problem) source sink ended → AreUnused stops → AreUsedTill deadline stops ended
-unused_check deadline stops workers problem source sink (Answered (Solved x)) is unused = absurd is.decided.true_of
-unused_check deadline stops workers problem source sink (Answered (Judged x)) is unused = unused
-unused_check deadline stops workers problem source sink (Answered (Surveyed x)) is unused = absurd is.decided.true_of
-unused_check deadline stops workers problem source sink (Answered (Collected x)) is unused = absurd is.decided.true_of
-unused_check deadline stops workers problem source sink (Answered (Help x)) is unused = absurd is.decided.true_of
-unused_check deadline stops workers problem source sink (CutShort (Solved x)) is unused = absurd is.decided.true_of
-unused_check deadline stops workers problem source sink (CutShort (Judged x)) is unused = unused
-unused_check deadline stops workers problem source sink (CutShort (Surveyed x)) is unused = absurd is.decided.true_of
-unused_check deadline stops workers problem source sink (CutShort (Collected x)) is unused = absurd is.decided.true_of
-unused_check deadline stops workers problem source sink (CutShort (Help x)) is unused = absurd is.decided.true_of
-unused_check deadline stops workers problem source sink (Failed fault input) is unused = unused_before deadline stops fault unused
 
 -- A command's end is as its answer was written.
 pub used_till : (deadline : Option ℕ) (stops : Signals) (sink : Shown) (answer : Answer) (ended : Ended) → HasWritten sink answer ended

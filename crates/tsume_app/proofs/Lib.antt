@@ -4,3 +4,4 @@ pub mod Promises
 pub mod Armed
 pub mod SoFar
 pub mod Solving
+pub mod Checking

@@ -15,7 +15,7 @@ use Rattle.app_texts.specs.declared.fault.Fault.TheVariants.{NotUtf8, Words, Ask
 use Rattle.tsume_words.specs.Given.Wish.{to_collect}
 use Rattle.tsume_app.specs.Inside.{HasWritten, IsReadFault}
 use Rattle.one_run.specs.Outside.{Shown, IsUntouched}
-use Rattle.tsume_app.specs.Run.{IsReadWhole, IsDecided, HasCause, IsCollectionEnded, IsReadEnded, IsEndedUnasked, GivesHelp, WantsMemory}
+use Rattle.tsume_app.specs.Run.{IsReadWhole, HasCause, IsCollectionEnded, IsEndedUnasked, GivesHelp, WantsMemory}
 
 -- all that was left was taken from its front
 all_took : (left left_after : Option (List ℕ)) (input : List ℕ) → TookAll left left_after input → Took left left_after input
@@ -29,28 +29,10 @@ pub took_none : (limit : ℕ) (left : Option (List ℕ)) → TookAtMost limit le
 took_none limit None = ([], omega arith, tt)
 took_none limit (Some before) = ([], omega arith, refl)
 
--- memory may be wanted after all was read
-pub read_then_wanted : (wish : Wish) (source : Shown) (input : List ℕ) → IsReadWhole wish source input → HasCause wish source NoMemory input
-read_then_wanted wish source input read =
-    ((input, read.short, all_took source.told source.told_after input read.took), inr read.took)
-
--- and then no byte of it may be kept
+-- memory may be wanted after all was read, and no byte of it kept
 pub read_then_wanted_more : (wish : Wish) (source : Shown) (input : List ℕ) → IsReadWhole wish source input → HasCause wish source NoMemory []
 read_then_wanted_more wish source input read =
     ((input, read.short, all_took source.told source.told_after input read.took), inl refl)
-
--- what was decided, and then written, is how the command ended
-pub ended_of : (wish : Wish) (source sink : Shown) (answer : Answer) (ended : Ended) → IsDecided wish source answer → HasWritten sink answer ended
-    → IsReadEnded wish source sink ended
-ended_of wish source sink answer (Answered told) d w =
-    record { decided = subst (λ (a : Answer). IsDecided wish source a) (sym w.0) d; grew = rw w.0 w.1 }
-ended_of wish source sink answer (CutShort told) d w =
-    record { decided = subst (λ (a : Answer). IsDecided wish source a) (sym w.0) d; grew = rw w.0 w.1; rose = w.2 }
-ended_of wish source sink answer (Failed fault input) d w = (
-  subst (λ (f : Fault). HasCause wish source f input) (sym w.0)
-      (subst (λ (i : List ℕ). HasCause wish source NoMemory i) (sym w.1) (read_then_wanted_more wish source d.input d.read)),
-  w.2,
-)
 
 -- the answer is help
 abbrev pub IsHelpText : Answer → Type 0

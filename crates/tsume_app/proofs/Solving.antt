@@ -13,6 +13,7 @@ use Rattle.one_run.specs.declared.ended.Fault.TheVariants as faults
 use Rattle.one_run.specs.Outside.{Shown, IsUntouched}
 use Rattle.one_run.specs.Run.{AreUsedTill as AreOwnUsed, IsCounted as IsOwnCounted, IsAnswered as IsOwnAnswered, WantsMemory as WantsOwnMemory}
 use Rattle.one_run.specs.Stops.{Signals, AreUnused}
+use Rattle.cmd_check.proofs.Offered.{unbegun_check}
 use Rattle.cmd_solve.proofs.Offered.{unbegun_solve}
 use Rattle.cmd_solve.specs.Headline.{IsProblemGiven}
 use Rattle.cmd_solve.specs.Meaning.{SolveView, solve_meaning}
@@ -79,6 +80,7 @@ unbegun_ended wish stops source sink input is unused unread unwritten =
     go (to_solve settings form watch) =
         let asked : SolveView = record { settings = settings; form = form; watch = watch } in
         record { own_end = own.Failed faults.NoMemory []; is_own = refl; run = unbegun_solve asked stops source sink unused unread unwritten }
-    go (to_check workers problem) = ((taken (limit_of (to_check workers problem)), inl refl), unwritten)
+    go (to_check workers problem) =
+        inr (record { own_end = own.Failed faults.NoMemory []; is_own = refl; run = unbegun_check problem source sink unread unwritten })
     go (to_survey range) = (unread, unwritten, refl)
     go (to_collect settings form) = ((taken (limit_of (to_collect settings form)), inl refl), inl unwritten)

@@ -1,12 +1,7 @@
 -- The program's promise in plain words.
-use Rattle.std.specs.Prelude.{◌≡◌, ℕ, List, Option, Some, ⊤, length}
-use Rattle.board_core.specs.Board.{Board}
+use Rattle.std.specs.Prelude.{◌≡◌, ℕ, List, Option, Some, ⊤}
 use Rattle.clap.specs.Words.{Text as Word}
-use Rattle.cert_text.specs.declared.certificate.Certificate.{Certificate}
-use Rattle.cert_text.specs.Reading.{IsReadable, IsTextOf}
 use Rattle.cert_text.specs.declared.head.Claim.{Claim}
-use Rattle.cert_text.specs.Kinds.{claim_of, positions_in}
-use Rattle.cert_check.specs.Valid.{IsValid, Shows}
 use Rattle.tsume_words.specs.declared.form.ProblemForm.{ProblemForm}
 use Rattle.tsume_words.specs.Given.{WatchView}
 use Rattle.search_limits.specs.Sizes.{SettingsView}
@@ -17,7 +12,6 @@ use Rattle.app_texts.specs.declared.answer.Answer.TheVariants.{Judged}
 use Rattle.app_texts.specs.declared.fault.Fault.TheVariants.{NotUtf8, Words, Asked, TooLong, Problem, Cert, Read, NoMemory}
 use Rattle.tsume_app.specs.declared.ended.Ended.{Ended}
 use Rattle.tsume_app.specs.declared.ended.Ended.TheVariants.{Answered, CutShort, Failed}
-use Rattle.tsume_app.specs.Input.{IsJudgedFor}
 
 -- The words ask to solve a problem of this form.
 abbrev pub AsksToSolve : ProblemForm → List Word → Type 0
@@ -26,19 +20,6 @@ AsksToSolve form words = (settings : SettingsView) × (watch : WatchView) × (co
 -- The words ask to check, for the problem of this text, or, where there is none, for the certificate's own.
 abbrev pub AsksToCheck : Option Word → List Word → Type 0
 AsksToCheck problem words = (workers : ℕ) × (command_of words ≡ Some (to_check workers problem))
-
--- The bytes are the text of a certificate that claims this, lists so many positions, is valid for the problem whose text is given, or
--- for its own where none is, and shows what it claims.
-pub record IsValidText (problem : Option Word) (input : List ℕ) (claim : Claim) (entries : ℕ) : Type 0 where
-  pub certificate : Certificate
-  pub readable : IsReadable certificate
-  pub text : IsTextOf certificate input
-  pub is_claim : claim ≡ claim_of certificate
-  pub count : entries ≡ length (positions_in certificate)
-  pub board : Board
-  pub judged_for : IsJudgedFor problem certificate board
-  pub valid : IsValid certificate board
-  pub shows : Shows certificate board
 
 -- The run ended with a certificate accepted that claims this and has so many entries.
 abbrev pub IsAccepted : Ended → Claim → ℕ → Type 0

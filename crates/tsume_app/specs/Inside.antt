@@ -1,5 +1,5 @@
 -- What the private functions of this crate say of one another; no public clause cites these.
-use Rattle.std.specs.Prelude.{◌≡◌, ◌++◌, ◌∷◌, ℕ, List, [], Option, Some, None, Ok}
+use Rattle.std.specs.Prelude.{◌≡◌, ◌++◌, ◌∷◌, ℕ, List, []}
 use Rattle.tsume_io.specs.Faults.{Rose}
 use Rattle.tsume_io.specs.Sink.{GrewBy, GrewByPrefix}
 use Rattle.app_texts.specs.declared.answer.Answer.{Answer}
@@ -7,13 +7,9 @@ use Rattle.app_texts.specs.declared.fault.Fault.{Fault}
 use Rattle.app_texts.specs.declared.fault.Fault.TheVariants.{NotUtf8, Words, Asked, TooLong, Problem, Cert, Read, NoMemory}
 use Rattle.tsume_app.specs.declared.ended.Ended.{Ended}
 use Rattle.tsume_app.specs.declared.ended.Ended.TheVariants.{Answered, CutShort, Failed}
-use Rattle.shogi_rules.specs.declared.problem.Problem.{Problem as GivenProblem}
-use Rattle.tsume_words.specs.Given.{Wish, CollectionView}
+use Rattle.tsume_words.specs.Given.{CollectionView}
 use Rattle.search_limits.specs.Sizes.{SettingsView}
-use Rattle.tsume_words.specs.Given.Wish.{to_solve, to_check, to_survey, to_collect}
 use Rattle.app_texts.specs.Texts.{answer_text}
-use Rattle.problem_answers.specs.Reading.{StandsFor}
-use Rattle.tsume_app.specs.Input.{given_form}
 use Rattle.one_run.specs.Outside.{Shown, NeverFailed, IsUntouched}
 use Rattle.app_texts.specs.declared.counts.Counts.{Counts}
 use Rattle.app_texts.specs.declared.report.Report.{Report}
@@ -41,19 +37,6 @@ HasWritten sink answer (Answered told) = (told ≡ answer) × GrewBy sink.told s
 HasWritten sink answer (CutShort told) =
     (told ≡ answer) × GrewByPrefix sink.told sink.told_after (answer_text answer) × Rose sink.faults sink.faults_after
 HasWritten sink answer (Failed fault input) = (fault ≡ NoMemory) × (input ≡ []) × IsUntouched sink
-
--- The problem that the words give for a certificate, where they give one.
-abbrev pub IsAskedProblem : Wish → Option GivenProblem → Type 0
-IsAskedProblem (to_solve settings form watch) None = Unit {0}
-IsAskedProblem (to_solve settings form watch) (Some problem) = ⊥
-IsAskedProblem (to_check workers None) None = Unit {0}
-IsAskedProblem (to_check workers None) (Some problem) = ⊥
-IsAskedProblem (to_check workers (Some text)) None = ⊥
-IsAskedProblem (to_check workers (Some text)) (Some problem) = StandsFor given_form text (Ok problem.position)
-IsAskedProblem (to_survey range) None = Unit {0}
-IsAskedProblem (to_survey range) (Some problem) = ⊥
-IsAskedProblem (to_collect settings form) None = Unit {0}
-IsAskedProblem (to_collect settings form) (Some problem) = ⊥
 
 -- What is told of a line of a collection: the text of a true report, by which the counts grew.
 pub record IsLineTold (settings : SettingsView) (form : CollectionView) (line : NumberedLine) (before after : Counts) (text : List ℕ) : Type 0 where

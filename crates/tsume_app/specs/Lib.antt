@@ -1,5 +1,5 @@
 -- This project's; the USI protocol for the answer.
-pub mod Answer
+pub mod Checked
 pub mod Exit
 pub mod EndedText
 pub mod Headline

@@ -1,6 +1,5 @@
 -- What a run of the program did.
-use Rattle.std.specs.Prelude.{◌≡◌, ◌≤◌, ◌⊎◌, ◌++◌, ℕ, List, [], Option, Some, None, Ok, length, ⊤}
-use Rattle.board_core.specs.Board.{Board}
+use Rattle.std.specs.Prelude.{◌≡◌, ◌≤◌, ◌⊎◌, ◌++◌, ℕ, List, [], Option, Some, length, ⊤}
 use Rattle.tsume_io.specs.Faults.{Rose}
 use Rattle.tsume_io.specs.Source.{TookAtMost, TookOneMoreThan, HasMoreThan}
 use Rattle.tsume_io.specs.Sink.{GrewBy, GrewByPrefix}
@@ -9,10 +8,6 @@ use Rattle.search_limits.specs.Sizes.{SettingsView}
 use Rattle.tsume_words.specs.Given.Wish.{to_solve, to_check, to_survey, to_collect}
 use Rattle.tsume_words.specs.Meaning.{IsRefusalOf}
 use Rattle.clap.specs.Words.{Text as Word}
-use Rattle.cert_text.specs.declared.certificate.Certificate.{Certificate}
-use Rattle.cert_text.specs.declared.fault.CertFault.{CertFault}
-use Rattle.cert_text.specs.Reading.{HasFirstFault, IsReadable, IsTextOf, IsCertificateOutcome}
-use Rattle.app_texts.specs.declared.answer.Judgement.{Judgement}
 use Rattle.app_texts.specs.declared.answer.Answer.{Answer}
 use Rattle.app_texts.specs.declared.answer.Answer.TheVariants.{Solved, Judged, Surveyed, Collected, Help}
 use Rattle.app_texts.specs.declared.fault.Fault.{Fault}
@@ -20,9 +15,7 @@ use Rattle.app_texts.specs.declared.fault.Fault.TheVariants.{NotUtf8, Words, Ask
 use Rattle.tsume_app.specs.declared.ended.Ended.{Ended}
 use Rattle.tsume_app.specs.declared.ended.Ended.TheVariants.{Answered, CutShort, Failed}
 use Rattle.app_texts.specs.Texts.{answer_text}
-use Rattle.tsume_app.specs.Answer.{IsTrueOfCertificate}
-use Rattle.problem_answers.specs.Reading.{StandsFor}
-use Rattle.tsume_app.specs.Input.{limit_of, given_form, IsAskedFault, IsJudgedFor}
+use Rattle.tsume_app.specs.Input.{limit_of}
 use Rattle.app_texts.specs.declared.counts.Counts.{Counts}
 use Rattle.app_texts.specs.declared.tallies.Summary.{Summary}
 use Rattle.survey.specs.Tally.{AreTallied}
@@ -30,89 +23,30 @@ use Rattle.problem_lines.specs.Lines.{NumberedLine, problem_lines}
 use Rattle.tsume_app.specs.Reports.{AreReported}
 use Rattle.one_run.specs.Stops.{Signals}
 use Rattle.one_run.specs.Run.{IsAllOrNone, IsReadWhole as IsReadWithin}
+use Rattle.cmd_check.specs.Asked.{IsProblemAsked}
+use Rattle.cmd_check.specs.Headline.{IsCertificateGiven}
 use Rattle.cmd_solve.specs.Headline.{IsProblemGiven}
+use Rattle.tsume_app.specs.Checked.{IsChecked}
 use Rattle.tsume_app.specs.Solved.{IsSolved}
 use Rattle.one_run.specs.Outside.{Shown, NeverFailed, IsUntouched}
-
--- The bytes of an input are the text of one certificate, of which the judgement is true, for the problem whose text the words give, or
--- for its own.
-pub record IsJudged (problem : Option Word) (input : List ℕ) (judgement : Judgement) : Type 0 where
-  pub certificate : Certificate
-  pub read : IsCertificateOutcome input (Ok certificate)
-  pub only : (c : Certificate) → IsReadable c → IsTextOf c input → c ≡ certificate
-  pub board : Board
-  pub judged_for : IsJudgedFor problem certificate board
-  pub true_of : IsTrueOfCertificate board certificate judgement
-
--- An answer to `check` is true of the bytes of an input: a judgement on the certificate that they are. (`solve` is a command of its own; a survey
--- reads nothing, and a collection is told line by line.)
-abbrev pub IsTrueOfInput : Wish → List ℕ → Answer → Type 0
-IsTrueOfInput (to_solve settings form watch) input answer = ⊥
-IsTrueOfInput (to_check workers problem) input (Solved solution) = ⊥
-IsTrueOfInput (to_check workers problem) input (Judged judgement) = IsJudged problem input judgement
-IsTrueOfInput (to_check workers problem) input (Surveyed summary) = ⊥
-IsTrueOfInput (to_check workers problem) input (Collected counts) = ⊥
-IsTrueOfInput (to_check workers problem) input (Help text) = ⊥
-IsTrueOfInput (to_survey range) input answer = ⊥
-IsTrueOfInput (to_collect settings form) input answer = ⊥
-
--- The bytes of an input are no certificate's text.
-abbrev pub IsNoCertificate : List ℕ → Type 0
-IsNoCertificate input = (c : Certificate) → IsReadable c → ¬ IsTextOf c input
-
--- The bytes of an input have this first fault as a certificate's text, and no other.
-abbrev pub HasOneFault : List ℕ → CertFault → Type 0
-HasOneFault input fault = HasFirstFault input fault × ((other : CertFault) → HasFirstFault input other → other ≡ fault)
-
--- The bytes of an input are no certificate's text, and this is their first fault; `check` alone tells it.
-abbrev pub IsCertificateFault : Wish → List ℕ → CertFault → Type 0
-IsCertificateFault (to_solve settings form watch) input fault = ⊥
-IsCertificateFault (to_check workers problem) input fault = HasOneFault input fault × IsNoCertificate input
-IsCertificateFault (to_survey range) input fault = ⊥
-IsCertificateFault (to_collect settings form) input fault = ⊥
 
 -- The bytes of an input were all that the source had left, as far as it tells its bytes, and no more than the command takes.
 abbrev pub IsReadWhole : Wish → Shown → List ℕ → Type 0
 IsReadWhole wish source input = IsReadWithin (limit_of wish) source input
 
--- An answer was decided: it is true of the bytes that the source had left.
-pub record IsDecided (wish : Wish) (source : Shown) (answer : Answer) : Type 0 where
-  pub input : List ℕ
-  pub read : IsReadWhole wish source input
-  pub true_of : IsTrueOfInput wish input answer
-
--- An answer was decided, and its text written whole.
-pub record IsWritten (wish : Wish) (source sink : Shown) (answer : Answer) : Type 0 where
-  pub decided : IsDecided wish source answer
-  pub grew : GrewBy sink.told sink.told_after (answer_text answer)
-
--- An answer was decided, and a failing sink kept a part of its text.
-pub record IsCutShort (wish : Wish) (source sink : Shown) (answer : Answer) : Type 0 where
-  pub decided : IsDecided wish source answer
-  pub grew : GrewByPrefix sink.told sink.told_after (answer_text answer)
-  pub rose : Rose sink.faults sink.faults_after
-
--- A fault of a command has its cause, and these bytes of the input were kept. The words give a text that is no problem, and nothing was
--- read; more bytes than the command takes, and one more was taken; a text that is no problem, or no certificate; a count of faults that
--- rose, and no more than the limit was taken; want of memory, which is free, likewise. The words were taken.
+-- A fault of a collection has its cause, and these bytes of the input were kept: more bytes than the command takes, and one more was taken; a count
+-- of faults that rose, and no more than the limit was taken; want of memory, which is free, likewise. The words were taken.
 abbrev pub HasCause : Wish → Shown → Fault → List ℕ → Type 0
 HasCause wish source NotUtf8 input = ⊥
 HasCause wish source (Words fault) input = ⊥
-HasCause wish source (Asked fault) input = IsAskedFault wish fault × IsUntouched source × (input ≡ [])
+HasCause wish source (Asked fault) input = ⊥
 HasCause wish source TooLong input =
     HasMoreThan (limit_of wish) source.told × TookOneMoreThan (limit_of wish) source.told source.told_after × (input ≡ [])
 HasCause wish source (Problem fault) input = ⊥
-HasCause wish source (Cert fault) input = IsReadWhole wish source input × IsCertificateFault wish input fault
+HasCause wish source (Cert fault) input = ⊥
 HasCause wish source Read input =
     Rose source.faults source.faults_after × TookAtMost (limit_of wish) source.told source.told_after × (input ≡ [])
 HasCause wish source NoMemory input = TookAtMost (limit_of wish) source.told source.told_after × IsAllOrNone source input
-
--- How `check` ended. Answered: the answer is true of what the source's bytes were, and its text was written. Cut short: a failed sink has kept a
--- prefix of the text of an answer that stands. Failed: the fault has its cause, and nothing was written.
-abbrev pub IsReadEnded : Wish → Shown → Shown → Ended → Type 0
-IsReadEnded wish source sink (Answered answer) = IsWritten wish source sink answer
-IsReadEnded wish source sink (CutShort answer) = IsCutShort wish source sink answer
-IsReadEnded wish source sink (Failed fault input) = HasCause wish source fault input × IsUntouched sink
 
 -- A survey's summary is true: it begins with the number that was asked for, and its tallies are those of as many numbers as were asked for.
 pub record IsSurvey (range : SurveyView) (summary : Summary) : Type 0 where
@@ -206,7 +140,7 @@ IsCollectionEnded settings form source sink (Failed NoMemory input) =
 abbrev pub IsEnded : Wish → Signals → Shown → Shown → Ended → Type 0
 IsEnded (to_solve settings form watch) stops source sink ended =
     IsSolved (record { settings = settings; form = form; watch = watch }) stops source sink ended
-IsEnded (to_check workers problem) stops source sink ended = IsReadEnded (to_check workers problem) source sink ended
+IsEnded (to_check workers problem) stops source sink ended = IsChecked problem source sink ended
 IsEnded (to_survey range) stops source sink ended = IsSurveyEnded range source sink ended
 IsEnded (to_collect settings form) stops source sink ended = IsCollectionEnded settings form source sink ended
 
@@ -259,20 +193,6 @@ GivesHelp (Answered (Help text)) = ⊤
 GivesHelp (CutShort answer) = ⊥
 GivesHelp (Failed fault input) = ⊥
 
--- The bytes that the source has left are the text of a certificate, and short enough.
-pub record IsCertificateGiven (limit : ℕ) (left : Option (List ℕ)) : Type 0 where
-  pub input : List ℕ
-  pub certificate : Certificate
-  pub told : left ≡ Some input
-  pub short : length input ≤ limit
-  pub readable : IsReadable certificate
-  pub text : IsTextOf certificate input
-
--- The text that the words give for a certificate's problem is one's, where they give one.
-abbrev pub IsProblemAsked : Option Word → Type 0
-IsProblemAsked None = Unit {0}
-IsProblemAsked (Some text) = (problem : Board) × StandsFor given_form text (Ok problem)
-
 -- The bytes that the source has left are short enough; a collection may hold any.
 pub record IsShortEnough (limit : ℕ) (left : Option (List ℕ)) : Type 0 where
   pub input : List ℕ
@@ -282,7 +202,7 @@ pub record IsShortEnough (limit : ℕ) (left : Option (List ℕ)) : Type 0 where
 -- The bytes that the source has left are what a command is asked about, and so is the problem that the words give.
 abbrev pub IsWellPosed : Wish → Option (List ℕ) → Type 0
 IsWellPosed (to_solve settings form watch) left = IsProblemGiven form left
-IsWellPosed (to_check workers problem) left = IsCertificateGiven (limit_of (to_check workers problem)) left × IsProblemAsked problem
+IsWellPosed (to_check workers problem) left = IsCertificateGiven left × IsProblemAsked problem
 IsWellPosed (to_survey range) left = Unit {0}
 IsWellPosed (to_collect settings form) left = IsShortEnough (limit_of (to_collect settings form)) left
 

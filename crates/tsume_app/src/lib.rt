@@ -5,10 +5,10 @@
 //! certificate that the checker accepts; and every answer that is no verdict comes only for its stated cause, but for want of memory, which needs none.
 #![tactic(auto)]
 
+mod checked;
 mod ended;
 mod exit;
 mod input;
-mod judgement;
 mod many;
 mod note;
 mod program;
@@ -16,9 +16,10 @@ mod progress;
 mod solved;
 mod telling;
 
+pub use cmd_check::MOST_CERTIFICATE_BYTES;
 pub use ended::Ended;
 pub use exit::Exit;
-pub use input::{MOST_CERTIFICATE_BYTES, MOST_COLLECTION_BYTES};
+pub use input::MOST_COLLECTION_BYTES;
 pub use one_run::Input;
 pub use program::{named_file, run, told_limit};
 pub use telling::{Told, run_and_tell, start, tell};

@@ -16,10 +16,11 @@ ghost use Rattle.app_texts.specs.declared.tallies.Summary.{Summary};
 ghost use Rattle.search_limits.specs.declared.cause.Cause.{Cause};
 ghost use Rattle.visit_log.specs.Run.{WorkerView};
 ghost use Rattle.app_texts.specs.declared.fault.ProblemFault.{ProblemFault};
-ghost use Rattle.tsume_app.specs.Headline.{AsksToSolve, AsksToCheck, IsValidText, IsAccepted, IsBrokenOff};
+ghost use Rattle.tsume_app.specs.Headline.{AsksToSolve, AsksToCheck, IsAccepted, IsBrokenOff};
+ghost use Rattle.cmd_check.specs.Headline.{IsValidText};
 ghost use Rattle.cmd_solve.specs.Headline.{StandsForMate, StandsForNoMate, StandsForUnknown, NamesMate, NamesNoMate};
 ghost use Rattle.app_texts.specs.Texts.{HasTexts};
-ghost use Rattle.tsume_app.specs.Inside.{HasWritten, IsAskedProblem, IsReadCounted, IsReadFault};
+ghost use Rattle.tsume_app.specs.Inside.{HasWritten, IsReadCounted, IsReadFault};
 ghost use Rattle.tsume_app.specs.Input.{limit_of, IsAskedFault};
 ghost use Rattle.one_run.specs.Outside.{shown, NeverFailed};
 ghost use Rattle.tsume_app.specs.Stops.{AreUsedTill, deadline_in};
@@ -28,50 +29,34 @@ ghost use Rattle.search_limits.specs.declared.settings.TheConstants.{MOST_WORKER
 ghost use Rattle.tsume_app.specs.Told.{limit_told};
 ghost use Rattle.tsume_app.specs.Run.{IsReadWhole, HasCause, IsEnded, IsCollected, IsSurvey, IsCounted, IsEndedUnasked, GivesHelp, IsWellPosed, IsAnswered, WantsMemory};
 
+use crate::checked::check_ended;
 use crate::ended::Ended;
-use crate::judgement::check_ended;
 use crate::many::{collection_ended, survey_ended};
 use crate::solved::solve_ended;
 use app_texts::{Answer, Fault, Judgement, ProblemFault, Solution, answer_text};
+use cmd_check::{Check, asked_problem};
 use cmd_solve::Solve;
 use one_run::Input;
-use problem_answers::{problem_laws, read_problem};
+use problem_answers::problem_laws;
 use search_gate::{Gate, Stop};
-use shogi_rules::Problem;
 use std::alloc::{AllocError, Global};
 use std::thread::Threads;
 use tsume_io::{ReadEnd, Sink, Source, read_all, write_all};
-use tsume_words::{Command, Format, ProblemForm, WordsEnd, read_words};
+use tsume_words::{Command, WordsEnd, read_words};
 
-// The problem that the words give for a certificate, where they give one.
-fn problem_in(command: &Command) -> Result<Option<Problem>, ProblemFault>
-    ensures { MatchResult result (IsAskedProblem (wish_of command.now)) (IsAskedFault (wish_of command.now)) }
-{
-    match command {
-        Command::Check {
-            problem: Some(text),
-            ..
-        } => {
-            let form = ProblemForm {
-                format: Format::Sfen,
-                rest: false,
-            };
-            Ok(Some(read_problem(text.as_bytes(), form)?))
-        }
-        Command::Check { problem: None, .. }
-        | Command::Solve { .. }
-        | Command::Survey { .. }
-        | Command::Collection { .. } => Ok(None),
-    }
-}
-
-// The same, and that no fault is passed over.
-fn asked_problem(command: &Command) -> Result<Option<Problem>, ProblemFault>
-    ensures found { MatchResult result (IsAskedProblem (wish_of command.now)) (IsAskedFault (wish_of command.now)) }
+// Whether the problem that the words give for a certificate, where they give one, is one: else its
+// text's first fault.
+fn asked(command: &Command) -> Result<(), ProblemFault>
+    ensures fault { IfErr result (IsAskedFault (wish_of command.now)) }
     ensures stopped { (fault : ProblemFault) → IsAskedFault (wish_of command.now) fault → result ≡ Err fault }
 {
-    problem_laws();
-    problem_in(command)
+    match command {
+        Command::Check { problem, .. } => {
+            asked_problem(&Check { problem })?;
+            Ok(())
+        }
+        Command::Solve { .. } | Command::Survey { .. } | Command::Collection { .. } => Ok(()),
+    }
 }
 
 /// All bytes of the source, where there are no more than the limit, which is a command's.
@@ -121,10 +106,6 @@ fn command_ended<R: Threads + Sync, S: Source, K: Sink, G: Gate, T: Stop>(
     ensures counted { IsCounted (shown S.left S.faults source.old source.new) (shown K.kept K.faults sink.old sink.new) result }
     ensures asked { (fault : ProblemFault) → IsAskedFault (wish_of command.now) fault → result ≡ Ended.Failed (Fault.Asked fault) [] }
 {
-    let asked = match asked_problem(command) {
-        Ok(asked) => asked,
-        Err(fault) => return Ended::Failed(Fault::Asked(fault), Input::none(alloc)),
-    };
     match command {
         Command::Solve {
             settings,
@@ -138,7 +119,7 @@ fn command_ended<R: Threads + Sync, S: Source, K: Sink, G: Gate, T: Stop>(
             };
             solve_ended(alloc, &asked, source, sink, gate, stops)
         }
-        Command::Check { .. } => check_ended(alloc, &asked, source, sink),
+        Command::Check { problem, .. } => check_ended(alloc, &Check { problem }, source, sink),
         Command::Survey { range } => survey_ended(rt, alloc, range, sink),
         Command::Collection { settings, form } => {
             collection_ended(rt, alloc, settings, form, source, sink)
@@ -190,8 +171,8 @@ pub fn named_file(alloc: Global, words: &[String]) -> Result<Option<String>, All
         → IfOk result (λ file. file ≡ None) }
 {
     match read_words(alloc, words) {
-        Ok(asked) => match asked_problem(&asked.command) {
-            Ok(_) => Ok(asked.file),
+        Ok(asking) => match asked(&asking.command) {
+            Ok(()) => Ok(asking.file),
             Err(_) => Ok(None),
         },
         Err(WordsEnd::NoMemory) => Err(AllocError),

@@ -1,13 +1,11 @@
 use Rattle.std.proofs.Common.{Some, refl, sym, subst}
-use Rattle.std.specs.Prelude.{option_map, string_bytes}
 use Rattle.tsume_words.specs.Meaning.{wish_of, survey_in}
 use Rattle.tsume_words.specs.declared.command.Command.{Command}
 use Rattle.one_run.specs.Outside.{shown}
 use Rattle.tsume_app.specs.Stops.{deadline_in}
 use Rattle.one_run.specs.Stops.{signals}
 use Rattle.tsume_app.specs.Run.{IsEnded}
-use Rattle.tsume_app.specs.Inside.{IsAskedProblem}
-use Rattle.tsume_app.proofs.Armed.{unused_check, unused_survey}
+use Rattle.tsume_app.proofs.Armed.{unused_survey}
 use Rattle.tsume_app.proofs.program.command_ended.Goals as goal
 
 pub returns-in-Survey-clause-used : goal.returns-in-Survey-clause-used
@@ -27,20 +25,11 @@ returns-in-Survey-clause-ended g c =
 
 pub returns-in-Check-clause-used : goal.returns-in-Check-clause-used
 returns-in-Check-clause-used g c =
-    let text = option_map string_bytes c.in-Check.problem in
-    let source = shown g.S.Source.left g.S.Source.faults c.args.source.now c.check_ended.new.source in
-    let sink = shown g.K.Sink.kept g.K.Sink.faults c.args.sink.now c.check_ended.new.sink in
-    unused_check (deadline_in (Some (wish_of c.args.command.now))) (signals g.T.Stop.signal c.args.stops.now c.args.stops.now) c.in-Check.workers text source sink
-    c.check_ended.result
-    (c.check_ended.ensures.ended c.in-Check.workers text
-    (subst (λ (command : Command). IsAskedProblem (wish_of command) c.in-Ok.asked) c.in-Check.is c.in-Ok.ensures.found)) refl
+    c.check_ended.ensures.used (deadline_in (Some (wish_of c.args.command.now))) (signals g.T.Stop.signal c.args.stops.now c.args.stops.now) refl
 
 pub returns-in-Check-clause-ended : goal.returns-in-Check-clause-ended
 returns-in-Check-clause-ended g c =
-    let text = option_map string_bytes c.in-Check.problem in
     let stops = signals g.T.Stop.signal c.args.stops.now c.args.stops.now in
     let source = shown g.S.Source.left g.S.Source.faults c.args.source.now c.check_ended.new.source in
     let sink = shown g.K.Sink.kept g.K.Sink.faults c.args.sink.now c.check_ended.new.sink in
-    subst (λ (command : Command). IsEnded (wish_of command) stops source sink c.check_ended.result) (sym c.in-Check.is)
-    (c.check_ended.ensures.ended c.in-Check.workers text
-    (subst (λ (command : Command). IsAskedProblem (wish_of command) c.in-Ok.asked) c.in-Check.is c.in-Ok.ensures.found))
+    subst (λ (command : Command). IsEnded (wish_of command) stops source sink c.check_ended.result) (sym c.in-Check.is) c.check_ended.ensures.ended

@@ -6,7 +6,8 @@ use Rattle.one_run.specs.Outside.{shown}
 use Rattle.one_run.specs.Stops.{signals}
 use Rattle.tsume_app.specs.Run.{IsEnded}
 use Rattle.tsume_app.proofs.Complete.{complete_of}
-use Rattle.tsume_app.proofs.Promises.{mate_of, no_mate_of, unknown_of, own_mate_of, own_no_mate_of, accepted_of}
+use Rattle.tsume_app.proofs.Promises.{mate_of, no_mate_of, unknown_of, own_mate_of, own_no_mate_of}
+use Rattle.tsume_app.proofs.Checking.{accepted_of}
 use Rattle.tsume_app.proofs.program.run.Goals as goal
 
 pub returns-clause-mate : goal.returns-clause-mate
@@ -49,10 +50,8 @@ returns-clause-own_no_mate g c = λ certificate is.
 
 pub returns-clause-accepted : goal.returns-clause-accepted
 returns-clause-accepted g c = λ problem input claim entries asks told whole.
-    let stops = signals g.T.Stop.signal c.args.stops.now c.words_ended.new.stops in
-    let source = shown g.S.Source.left g.S.Source.faults c.args.source.now c.words_ended.new.source in
-    let sink = shown g.K.Sink.kept g.K.Sink.faults c.args.sink.now c.words_ended.new.sink in
-    accepted_of c.problem_laws.ensures asks.0 problem stops source sink input claim entries c.words_ended.result
+    accepted_of c.problem_laws.ensures problem (shown g.S.Source.left g.S.Source.faults c.args.source.now c.words_ended.new.source)
+    (shown g.K.Sink.kept g.K.Sink.faults c.args.sink.now c.words_ended.new.sink) c.words_ended.result input claim entries
     (c.words_ended.ensures.ended (to_check asks.0 problem) asks.1) told whole
 
 pub returns-clause-complete : goal.returns-clause-complete

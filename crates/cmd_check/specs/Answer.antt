@@ -1,14 +1,17 @@
--- When an answer is true.
-use Rattle.std.specs.Prelude.{◌≡◌, ℕ, length}
+-- When a judgement is true.
+use Rattle.std.specs.Prelude.{◌≡◌, ℕ, List, Option, Ok, length}
 use Rattle.board_core.specs.Board.{Board}
 use Rattle.cert_text.specs.declared.certificate.Certificate.{Certificate}
+use Rattle.cert_text.specs.declared.fault.CertFault.{CertFault}
 use Rattle.cert_text.specs.declared.head.Claim.{Claim}
 use Rattle.cert_text.specs.Kinds.{claim_of, positions_in}
+use Rattle.cert_text.specs.Reading.{HasFirstFault, IsReadable, IsTextOf, IsCertificateOutcome}
 use Rattle.cert_check.specs.declared.verdict.Why.{Why}
 use Rattle.cert_check.specs.Valid.{IsValid, Shows}
 use Rattle.cert_check.specs.Reasons.{IsFirstAgainst}
 use Rattle.app_texts.specs.declared.answer.Judgement.{Judgement}
 use Rattle.app_texts.specs.declared.answer.Judgement.TheVariants.{Accepted, Refused}
+use Rattle.cmd_check.specs.Asked.{IsJudgedFor}
 
 -- A certificate was accepted for a problem: it is valid for it, and shows what it claims.
 pub record IsAcceptance (p : Board) (c : Certificate) (claim : Claim) (entries : ℕ) : Type 0 where
@@ -27,3 +30,19 @@ pub record IsRefusal (p : Board) (c : Certificate) (entry : ℕ) (why : Why) : T
 abbrev pub IsTrueOfCertificate : Board → Certificate → Judgement → Type 0
 IsTrueOfCertificate p c (Accepted claim entries) = IsAcceptance p c claim entries
 IsTrueOfCertificate p c (Refused entry why) = IsRefusal p c entry why
+
+-- The bytes of an input are the text of one certificate, of which the judgement is true, for the problem whose text the words give, or
+-- for its own.
+pub record IsJudged (problem : Option (List ℕ)) (input : List ℕ) (judgement : Judgement) : Type 0 where
+  pub certificate : Certificate
+  pub read : IsCertificateOutcome input (Ok certificate)
+  pub only : (c : Certificate) → IsReadable c → IsTextOf c input → c ≡ certificate
+  pub board : Board
+  pub judged_for : IsJudgedFor problem certificate board
+  pub true_of : IsTrueOfCertificate board certificate judgement
+
+-- The bytes of an input are no certificate's text, and have this first fault as one, and no other.
+pub record IsNoCertificate (input : List ℕ) (fault : CertFault) : Type 0 where
+  pub first : HasFirstFault input fault
+  pub only : (other : CertFault) → HasFirstFault input other → other ≡ fault
+  pub none : (c : Certificate) → IsReadable c → ¬ IsTextOf c input

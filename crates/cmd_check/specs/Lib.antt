@@ -1,0 +1,5 @@
+-- This project's.
+pub mod Answer
+pub mod Asked
+pub mod Headline
+pub mod Meaning
