@@ -24,10 +24,11 @@ use Rattle.table_port.specs.declared.parts.Cut.{Cut}
 abbrev pub all_rows : Cut → ℕ
 all_rows cut = cut.shards * cut.own
 
--- Which shard has a key's row, and which word the first slot of that row.
+-- Which shard has a key's row.
 abbrev pub shard_of : Cut → Key → ℕ
 shard_of cut key = place_of key (all_rows cut) / cut.own
 
+-- Which word counts the workers below the first slot of that row.
 abbrev pub first_word : Cut → Key → ℕ
 first_word cut key = word_of (all_rows cut) key 0
 
