@@ -1,0 +1,3 @@
+-- Jobs by number, done side by side.
+pub mod Answers
+pub mod Inside
