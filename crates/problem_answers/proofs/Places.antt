@@ -1,58 +1,34 @@
 -- Reports where their lines stand.
-use Rattle.std.proofs.Common.{◌≡◌, ◌<◌, ◌+◌, ◌++◌, ℕ, List, [], ◌∷◌, Option, Some, None, IfSome, MatchOption, option_to_list, All, length, map, take, get_or, set, inl, inr, refl, sym, subst, ap, ◌∙◌, arith}
-use Rattle.std.proofs.lemmas.Bool.{cases_eq}
-use Rattle.std.proofs.lemmas.Grind.{take_at_read}
-use Rattle.std.proofs.lemmas.List.{length-append, length-set, map-append, take_at, get_or_default, get_or_push, get_or-set_same, get_or-set_other}
-use Rattle.std.proofs.lemmas.List.Elements.{All-take}
+use Rattle.std.proofs.Common.{◌≡◌, ◌++◌, ℕ, List, [], ◌∷◌, Option, Some, None, MatchOption, option_to_list, All, length, map, get_or, slice_get, suc, refl, sym, subst, ap, ◌∙◌, arith}
+use Rattle.std.proofs.lemmas.Option.{same_Some, slice_get-get_or}
 use Rattle.tsume_words.specs.Given.{CollectionView}
 use Rattle.search_limits.specs.Sizes.{SettingsView}
-use Rattle.app_texts.specs.declared.report.Report.{Report}
 use Rattle.problem_lines.specs.declared.line.Line.{Line}
-use Rattle.app_texts.specs.Reports.{HasReportLine}
 use Rattle.problem_lines.specs.Lines.{NumberedLine, seen}
 use Rattle.problem_answers.specs.Coming.{Coming, IsNext}
 use Rattle.problem_answers.specs.declared.reports.Reported.{Reported}
 use Rattle.problem_answers.specs.Reports.{IsTrueReport}
-use Rattle.problem_answers.specs.Inside.{IsReportOn, IsReportAt, AreReportsAt}
+use Rattle.problem_answers.specs.Inside.{IsReportOn, IsReportedAt}
+use Rattle.side_by_side.specs.Answers.{AreAnswers}
 
--- All places are open.
-pub none_yet : (s : SettingsView) (f : CollectionView) (lines : List Line) (slots : List (Option Report)) → All (λ slot. slot ≡ None) slots → AreReportsAt s f lines slots
-none_yet s f lines slots all = λ k low. subst (λ (o : Option Report). IfSome o (IsReportAt s f lines k)) (sym (all k None low)) tt
+-- Where each is told of the line at its place, the lines are told in their order.
+lines_told : (all : List Reported) (lines : List Line) → length all ≡ length lines
+    → ((k : ℕ) (one : Reported) → slice_get all k ≡ Some one → slice_get lines k ≡ Some one.line) → map (λ one. one.line) all ≡ lines
+lines_told [] [] same at = refl
+lines_told [] (line ∷ lines) same at = absurd (omega (arith, same))
+lines_told (one ∷ all) [] same at = absurd (omega (arith, same))
+lines_told (one ∷ all) (line ∷ lines) same at =
+    ap (λ (l : Line). l ∷ map (λ one. one.line) all) (sym (same_Some line one.line (at 0 one refl)))
+    ∙ ap (λ (ls : List Line). line ∷ ls) (lines_told all lines (omega (arith, same)) (λ k other there. at (suc k) other there))
 
--- What may be told of the line at a place is put there, where there is such a place; or the place is left open.
-pub put_report : (s : SettingsView) (f : CollectionView) (lines : List Line) (slots : List (Option Report)) (place : ℕ) (slot : Option Report)
-    → AreReportsAt s f lines slots → IfSome slot (IsReportAt s f lines place) → AreReportsAt s f lines (set slots place slot)
-put_report s f lines slots place slot are one = λ k low. elim (cases_eq k place) [
-  | inl same ↦
-      let there : place < length slots = subst (λ (n : ℕ). n < length slots) same (subst (λ (n : ℕ). k < n) (length-set slots place slot) low) in
-      subst (λ (o : Option Report). IfSome o (IsReportAt s f lines k)) (sym (ap (λ (n : ℕ). get_or (set slots place slot) n None) same ∙ get_or-set_same slots place slot None there))
-      (subst (λ (n : ℕ). IfSome slot (IsReportAt s f lines n)) (sym same) one)
-  | inr not ↦ subst (λ (o : Option Report). IfSome o (IsReportAt s f lines k)) (sym (get_or-set_other slots place k slot None not))
-      (are k (subst (λ (n : ℕ). k < n) (length-set slots place slot) low))
-]
+pub told_in_order : (s : SettingsView) (f : CollectionView) (lines : List Line) (all : List Reported) → AreAnswers (length lines) (IsReportedAt s f lines) all
+    → map (λ one. one.line) all ≡ lines
+told_in_order s f lines all are = lines_told all lines are.all (λ k one there. (are.each k one there).line)
 
--- What may be told of a line may be told of it at its place.
-pub told_there : (s : SettingsView) (f : CollectionView) (lines : List Line) (place : ℕ) (e : Line) (report : Report) → IsTrueReport s f (seen (get_or lines place e)) report
-    → HasReportLine report → IsReportAt s f lines place report
-told_there s f lines place e report true_of has = λ d low.
-    subst (λ (line : Line). IsReportOn s f line report) (get_or_default lines place e d low) (record { true_of = true_of; has_line = has })
-
--- The last holds, and so do those before it.
-pub all_last : {X : Type 0} (P : X → Type 0) (all before : List X) (x : X) → all ≡ before ++ x ∷ [] → All P all → P x
-all_last P all before x e holds =
-    let l = length-append before (x ∷ []) in
-    subst P (get_or_push before x x (length before) refl) (subst (All P) e holds (length before) x (omega (arith, l)))
-
-pub all_before : {X : Type 0} (P : X → Type 0) (all before : List X) (x : X) → all ≡ before ++ x ∷ [] → All P all → All P before
-all_before P all before x e holds = subst (All P) (take_at before (x ∷ []) (length before) refl) (All-take P (length before) (before ++ x ∷ []) (subst (All P) e holds))
-
--- One more line is told behind the others.
-pub one_more_told : (lines : List Line) (place : ℕ) (e : Line) (all after : List Reported) (report : Report) → place < length lines
-    → map (λ one. one.line) all ≡ take place lines → after ≡ all ++ record { line = get_or lines place e; report = report } ∷ []
-    → map (λ one. one.line) after ≡ take (place + 1) lines
-one_more_told lines place e all after report low told is =
-    ap (map (λ one. one.line)) is ∙ (map-append (λ one. one.line) all (record { line = get_or lines place e; report = report } ∷ [])
-    ∙ (ap (λ (l : List Line). l ++ get_or lines place e ∷ []) told ∙ sym (take_at_read lines place e low).1))
+-- And each may be told of its line.
+pub all_told : (s : SettingsView) (f : CollectionView) (lines : List Line) (all : List Reported) → AreAnswers (length lines) (IsReportedAt s f lines) all
+    → All (λ one. IsReportOn s f one.line one.report) all
+all_told s f lines all are = λ k d low. (are.each k (get_or all k d) (slice_get-get_or all k d low)).report
 
 seen_lines : (all : List Reported) → map seen (map (λ one. one.line) all) ≡ map (λ one. seen one.line) all
 seen_lines [] = refl

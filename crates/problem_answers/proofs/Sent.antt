@@ -1,11 +1,12 @@
 -- What may cross threads: each type, from those that it is made of.
 use denote.Param.Send.{IsSend, sendable}
-use denote.Param.SendFields.{as_row_send, declared_send, variants_send}
+use denote.Param.SendFields.{declared_send, variants_send}
 use denote.Hole.{as_row}
+use denote.Ref.{NamedLft}
 use Rattle.std.proofs.Crossing.{crosses}
 use Rattle.notes.proofs.note.Note.TheLaws.TheKnot as knot
 use Rattle.app_texts.proofs.report.LineFault.TheSendSync as of_linefault
-use Rattle.search_pool.proofs.Offered.{crew_send, table_send}
+use Rattle.search_pool.proofs.Offered.{crew_send}
 use Rattle.board_core.proofs.Kind.TheSendSync as of_kind
 use Rattle.board_core.proofs.Side.TheSendSync as of_side
 use Rattle.board_core.proofs.Square.TheSendSync as of_square
@@ -29,9 +30,9 @@ use Rattle.path_tags.proofs.path.Path.TheSendSync as of_path
 use Rattle.app_texts.specs.contracts.answer.Solution as solution
 use Rattle.app_texts.specs.contracts.report.Report as report
 use Rattle.app_texts.specs.contracts.report.LineFault as line_fault
-use Rattle.problem_answers.specs.contracts.seat.Made as made
-use Rattle.search_pool.specs.contracts.table.Table as table
-use Rattle.problem_answers.specs.contracts.seat.Seat as seat
+use Rattle.problem_lines.proofs.line.Line.TheSendSync as of_line
+use Rattle.problem_lines.specs.contracts.line.Line as line
+use Rattle.problem_answers.specs.contracts.reports.Reported as reported
 
 pub ruleset parts = (of_linefault.the_send, of_linefault.the_field_send, of_kind.the_send, of_kind.the_field_send, of_side.the_send, of_side.the_field_send, of_square.the_send, of_square.the_field_send, of_code.the_send, of_code.the_field_send, of_key.the_send, of_key.the_field_send, of_move.the_send, of_move.the_field_send, of_sets.the_send, of_sets.the_field_send, of_rule.the_send, of_rule.the_field_send, of_numbers.the_send, of_numbers.the_field_send, of_child_pn.the_send, of_child_pn.the_field_send, of_entry_visit.the_send, of_entry_visit.the_field_send, of_look.the_send, of_look.the_field_send, of_workend.the_send, of_workend.the_field_send, of_cause.the_send, of_cause.the_field_send, of_settings.the_send, of_settings.the_field_send, of_tag.the_send, of_hand.the_send, of_position.the_send, of_problem.the_send, of_path.the_send, crosses, knot.crosses, sendable)
 
@@ -53,11 +54,8 @@ report_send = search (variants_send, solution_field_send, line_fault_field_send,
 pub report_field_send : IsSend (as_row report.the_field)
 report_field_send = search (report_send, parts) depth 60 fits 20000
 
-pub made_send : IsSend made.the_row
-made_send = search (declared_send, as_row_send, report_field_send, sendable) depth 20 fits 20000
+pub line_field_send : (κ : NamedLft) → IsSend (as_row (line.the_field κ))
+line_field_send κ = search (of_line.the_send, parts) depth 60 fits 20000
 
-pub table_field_send : IsSend (as_row table.the_field)
-table_field_send = search (table_send, parts) depth 60 fits 20000
-
-pub seat_send : IsSend seat.the_row
-seat_send = search (declared_send, as_row_send, table_field_send, made_send, crosses, sendable) depth 60 fits 20000
+pub reported_send : (κ : NamedLft) → IsSend (reported.the_row κ)
+reported_send κ = search (declared_send, report_field_send, line_field_send κ, sendable) depth 20 fits 20000

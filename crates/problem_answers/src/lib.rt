@@ -5,10 +5,10 @@
 //! a time over threads, and the reports come in the order of the lines.
 #![tactic(auto)]
 
+mod line_jobs;
 mod problem;
 mod report;
 mod reports;
-mod seat;
 mod solution;
 
 pub use problem::{problem_laws, read_problem};

@@ -6,15 +6,17 @@ ghost use Rattle.problem_lines.specs.Lines.{problem_lines, seen};
 ghost use Rattle.problem_answers.specs.Coming.{Coming, IsNext};
 ghost use Rattle.problem_answers.specs.Inside.{IsReportOn};
 
-use crate::seat::{Seat, decide_apart, in_order};
+use crate::line_jobs::LineJobs;
 use app_texts::Report;
 use problem_lines::{Line, Lines};
 use search_limits::Settings;
+use search_pool::Table;
+use side_by_side::{MOST_MEMBERS, Team};
 use std::alloc::{AllocError, Global};
 use std::collections::VecDeque;
 use std::marker::Model;
-use std::thread::{self, Threads};
-use tsume_words::{CollectionForm, MOST_THREADS};
+use std::thread::Threads;
+use tsume_words::CollectionForm;
 
 // How many lines of a stretch there are for each thread.
 const LINES_A_THREAD: usize = 32;
@@ -29,20 +31,20 @@ pub struct Reported<'a> {
 }
 
 /// Goes over the lines of a collection that hold problems, and gives what is told of each. The problems of a stretch of lines are decided
-/// side by side, as many at a time as there are threads, each by a search of its own with one worker; that changes no report (by tests; no clause says it). Contracts see
-/// the settings, the form, and the lines that are still to come.
+/// side by side by a [`Team`], each by a search of its own with one worker; how many there are in it changes no report (by tests; no
+/// clause says it). Contracts see the settings, the form, and the lines that are still to come.
 #[derive(Drop)]
 pub struct Reports<'a> {
     lines: Lines<'a>,
     // What was found ahead, in the order of the lines.
     ahead: VecDeque<Reported<'a>>,
-    seats: Vec<Seat>,
+    team: Team<Table, Reported<'a>>,
     settings: Settings,
     form: CollectionForm,
 }
 
 impl<'a> Model for Reports<'a> {
-    ghost use Rattle.std.specs.Prelude.{◌<◌, ◌++◌, All, map, vec_len};
+    ghost use Rattle.std.specs.Prelude.{◌++◌, All, map};
     ghost use Rattle.tsume_words.specs.Meaning.{collection_in};
     ghost use Rattle.search_limits.specs.Settings.{settings_in};
     ghost use Rattle.problem_lines.specs.Lines.{seen};
@@ -53,32 +55,15 @@ impl<'a> Model for Reports<'a> {
 
     ghost view = { λ r. record { settings = settings_in r.settings; form = collection_in r.form; lines = map (λ one. seen one.line) r.ahead.items ++ r.lines } };
 
-    ghost invariant = { λ r. (0 < vec_len r.seats)
-        × All (λ one. IsReportOn (settings_in r.settings) (collection_in r.form) one.line one.report) r.ahead.items };
+    ghost invariant = { λ r. All (λ one. IsReportOn (settings_in r.settings) (collection_in r.form) one.line one.report) r.ahead.items };
 }
 
-// As many threads as the words say, or else as there are processors, at most [`MOST_THREADS`], and one where that isn't known.
-fn threads_for<R: Threads>(rt: &R, form: &CollectionForm) -> usize
-    ensures { 0 < result }
-{
-    let most = MOST_THREADS as usize;
+// As many threads as the words say, or else as many as there can be.
+fn most_threads(form: &CollectionForm) -> usize {
     match form.threads {
         Some(threads) => threads as usize,
-        None => match thread::available_parallelism(rt) {
-            Ok(count) => count.get().min(most),
-            Err(_) => 1,
-        },
+        None => MOST_MEMBERS,
     }
-}
-
-fn seats(alloc: Global, count: usize) -> Result<Vec<Seat>, AllocError>
-    ensures { IfOk result (λ seats. vec_len seats ≡ count) }
-{
-    let mut seats = Vec::with_capacity(alloc, count)?;
-    for _ in 0..count {
-        seats.push(Seat::new(alloc))?;
-    }
-    Ok(seats)
 }
 
 // The next lines, as many as there are up to this number, which is none only where there are none left.
@@ -105,18 +90,21 @@ fn stretch<'a>(
 fn decided<'a, R: Threads + Sync>(
     rt: &R,
     alloc: Global,
-    seats: &mut [Seat],
+    team: &mut Team<Table, Reported<'a>>,
     lines: &[Line<'a>],
     settings: &Settings,
     form: &CollectionForm,
 ) -> Result<VecDeque<Reported<'a>>, AllocError>
-    requires { 0 < length seats.old }
-    ensures seats { length seats.new ≡ length seats.old }
     ensures lines { IfOk result (λ all. map (λ one. one.line) all.items ≡ lines.now) }
     ensures reports { IfOk result (λ all. All (λ one. IsReportOn (settings_in settings.now) (collection_in form.now) one.line one.report) all.items) }
 {
-    let mut slots = decide_apart(rt, alloc, seats, lines, settings, form)?;
-    in_order(alloc, &mut seats[0], lines, &mut slots, settings, form)
+    let jobs = LineJobs {
+        lines,
+        settings,
+        form,
+    };
+    let all = team.answers(rt, alloc, &jobs)?;
+    Ok(VecDeque::from(all))
 }
 
 fn has_none(ahead: &VecDeque<Reported<'_>>) -> bool
@@ -132,13 +120,11 @@ fn refill<'a, R: Threads + Sync>(
     alloc: Global,
     lines: &mut Lines<'a>,
     ahead: &mut VecDeque<Reported<'a>>,
-    seats: &mut [Seat],
+    team: &mut Team<Table, Reported<'a>>,
     settings: &Settings,
     form: &CollectionForm,
 ) -> Result<(), AllocError>
-    requires seats { 0 < length seats.old }
-    requires reports { All (λ one. IsReportOn (settings_in settings.now) (collection_in form.now) one.line one.report) ahead.old.items }
-    ensures seats { length seats.new ≡ length seats.old }
+    requires { All (λ one. IsReportOn (settings_in settings.now) (collection_in form.now) one.line one.report) ahead.old.items }
     ensures reports { All (λ one. IsReportOn (settings_in settings.now) (collection_in form.now) one.line one.report) ahead.new.items }
     ensures same { OnOk result (map (λ one. seen one.line) ahead.old.items ++ lines.old ≡ map (λ one. seen one.line) ahead.new.items ++ lines.new) }
     ensures none { OnOk result (ahead.new.items ≡ [] → lines.new ≡ []) }
@@ -146,9 +132,9 @@ fn refill<'a, R: Threads + Sync>(
     if !has_none(ahead) {
         return Ok(());
     }
-    let most = seats.len().saturating_mul(LINES_A_THREAD);
+    let most = team.size().saturating_mul(LINES_A_THREAD);
     let stretch = stretch(alloc, lines, most)?;
-    *ahead = decided(rt, alloc, seats, &stretch, settings, form)?;
+    *ahead = decided(rt, alloc, team, &stretch, settings, form)?;
     Ok(())
 }
 
@@ -167,7 +153,7 @@ impl<'a> Reports<'a> {
         Ok(Reports {
             lines: Lines::new(text),
             ahead: VecDeque::new(alloc),
-            seats: seats(alloc, threads_for(rt, form))?,
+            team: Team::new(rt, alloc, most_threads(form))?,
             settings: *settings,
             form: *form,
         })
@@ -187,7 +173,7 @@ impl<'a> Reports<'a> {
             alloc,
             &mut self.lines,
             &mut self.ahead,
-            &mut self.seats,
+            &mut self.team,
             &self.settings,
             &self.form,
         )?;

@@ -1,5 +1,5 @@
 -- What a note that answers a problem says of it.
-use Rattle.std.proofs.Common.{◌≡◌, sym, ap, subst, ◌∙◌}
+use Rattle.std.proofs.Common.{◌≡◌, IfOk, Result, Ok, Err, sym, ap, subst, ◌∙◌}
 use Rattle.board_core.specs.Board.{Board}
 use Rattle.mate_def.specs.Mate.{IsMate, Escapes, EscapeIsNoMate}
 use Rattle.notes.specs.declared.rule.Conclusion.TheVariants.{Escape}
@@ -16,3 +16,8 @@ escape-no_mate law problem note truth answer escape =
     let escapes : Escapes (attacker_of note) (position_of note) = truth.escapes escape turn answer.closed in
     let here : Escapes problem.side (position_of note) = subst (λ side. Escapes side (position_of note)) answer.same_attacker escapes in
     law problem.side problem (subst (λ (b : Board). Escapes problem.side b) answer.about here)
+
+-- What follows from what is so of an answer is so of it.
+pub answer_so : {A E : Type 0} (r : Result A E) (P Q : A → Type 0) → IfOk r P → ((a : A) → P a → Q a) → IfOk r Q
+answer_so (Ok a) P Q so leads = leads a so
+answer_so (Err e) P Q so leads = tt

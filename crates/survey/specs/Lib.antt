@@ -1,3 +1,2 @@
 -- Surveys: what the searches of many problems come to.
 pub mod Tally
-pub mod Inside

@@ -1,5 +1,5 @@
 -- What the search of a problem comes to.
-use Rattle.std.specs.Prelude.{◌≡◌, ◌+◌, ℕ, List, Some, length, slice_get}
+use Rattle.std.specs.Prelude.{◌≡◌, ◌+◌, ℕ, List}
 use Rattle.board_core.specs.Board.{Board}
 use Rattle.mate_def.specs.Mate.{IsMate}
 use Rattle.notes.specs.declared.rule.Conclusion.{Conclusion}
@@ -13,6 +13,7 @@ use Rattle.search_pool.specs.declared.end.SearchEnd.TheVariants as ends
 use Rattle.search_pool.specs.End.{IsAlone}
 use Rattle.search_pool.specs.declared.tally.Tally.{Tally}
 use Rattle.search_pool.specs.declared.tally.Tally.TheVariants.{Mate, NoMate, Unknown}
+use Rattle.side_by_side.specs.Answers.{AreAnswers}
 
 -- What a note about a problem concludes of it.
 abbrev pub tally_by : Conclusion → Tally
@@ -48,6 +49,5 @@ pub record IsTallied (expansions number : ℕ) (tally : Tally) : Type 0 where
   pub comes : ComesTo problem (survey_settings expansions) tally
 
 -- The tallies of so many numbers from a first one on, in their order.
-pub record AreTallied (first count expansions : ℕ) (tallies : List Tally) : Type 0 where
-  pub all : length tallies ≡ count
-  pub each : (place : ℕ) (tally : Tally) → slice_get tallies place ≡ Some tally → IsTallied expansions (first + place) tally
+abbrev pub AreTallied : ℕ → ℕ → ℕ → List Tally → Type 0
+AreTallied first count expansions tallies = AreAnswers count (λ place tally. IsTallied expansions (first + place) tally) tallies

@@ -10,7 +10,7 @@ ghost use Rattle.survey.specs.Tally.{tally_by, IsTrueOf, ComesTo, survey_setting
 use mate_def::escape_is_no_mate;
 use notes::{Conclusion, Note};
 use search_limits::{MOST_ROOM, Settings};
-use search_pool::{SearchEnd, Tally, search_alone};
+use search_pool::{SearchEnd, Table, Tally};
 use shogi_rules::Problem;
 use std::alloc::{AllocError, Global};
 
@@ -42,13 +42,19 @@ fn verdict(problem: &Problem, note: &Note) -> Tally
     }
 }
 
-/// What the search of a problem comes to with one worker and so many units. Takes about 1 MB at once. Errors: want of memory alone.
-pub(crate) fn decide(alloc: Global, problem: &Problem, expansions: u64) -> Result<Tally, AllocError>
+/// What the search of a problem comes to with one worker and so many units, over a table that is emptied for it; its first search makes it,
+/// of about 1 MB. Errors: want of memory alone.
+pub(crate) fn decide(
+    alloc: Global,
+    table: &mut Table,
+    problem: &Problem,
+    expansions: u64,
+) -> Result<Tally, AllocError>
     requires from { 1 ≤ expansions }
     requires to { expansions ≤ MOST_EXPANSIONS }
     ensures { IfOk result (ComesTo problem.now.position (survey_settings expansions)) }
 {
-    match search_alone(alloc, problem, &settings(expansions))? {
+    match table.search(alloc, problem, &settings(expansions))? {
         SearchEnd::Solved(note) => Ok(verdict(problem, &note)),
         SearchEnd::Unknown(cause, _) => Ok(Tally::Unknown(cause)),
     }

@@ -5,7 +5,7 @@
 //! (no clause says it).
 #![tactic(auto)]
 
-mod apart;
+mod asked;
 mod decide;
 mod tallies;
 
