@@ -29,11 +29,18 @@ fn looked(
     pins: &[u64; 8],
 ) -> Result<Option<(u32, u32, u64)>, AllocError> {
     let key = key(word);
-    Ok(match shard.look(shard.spot_of(&key), &key, path, &mut RowPins { counts: pins })? {
-        Seen::New => None,
-        Seen::Open { numbers, below } => Some((numbers.pn, numbers.dn, below)),
-        Seen::Solved(_) => Some((0, 0, 0)),
-    })
+    Ok(
+        match shard.look(
+            shard.spot_of(&key),
+            &key,
+            path,
+            &mut RowPins { counts: pins },
+        )? {
+            Seen::New => None,
+            Seen::Open { numbers, below } => Some((numbers.pn, numbers.dn, below)),
+            Seen::Solved(_) => Some((0, 0, 0)),
+        },
+    )
 }
 
 // What entering a key answers.
@@ -41,7 +48,12 @@ fn entered(shard: &mut Shard, word: u64, numbers: Numbers, pins: &[u64; 8]) -> K
     requires { IsOpen numbers }
 {
     let key = key(word);
-    shard.enter(shard.spot_of(&key), &key, numbers, &mut RowPins { counts: pins })
+    shard.enter(
+        shard.spot_of(&key),
+        &key,
+        numbers,
+        &mut RowPins { counts: pins },
+    )
 }
 
 #[test]
@@ -115,10 +127,17 @@ fn rules_on(shard: &Shard, key: &Key, paths: &[Path; 3]) -> Result<[Option<Rule>
 }
 
 fn rule_on(shard: &Shard, key: &Key, path: &Path) -> Result<Option<Rule>, AllocError> {
-    Ok(match shard.look(shard.spot_of(key), key, path, &mut RowPins { counts: &[0; 8] })? {
-        Seen::Solved(note) => Some(note.rule()),
-        _ => None,
-    })
+    Ok(
+        match shard.look(
+            shard.spot_of(key),
+            key,
+            path,
+            &mut RowPins { counts: &[0; 8] },
+        )? {
+            Seen::Solved(note) => Some(note.rule()),
+            _ => None,
+        },
+    )
 }
 
 // A note that is left, and the rules of those that show where the path has the position after the first evasion,
@@ -157,7 +176,8 @@ fn a_note_counts_where_its_position_is_on_the_path(rt: HostRuntime) -> Result<()
     let key = key_of(&position);
     let mut shard = Shard::make(alloc, 3)?;
     let spot = shard.spot_of(&key);
-    let Kept::Slot(slot) = shard.enter(spot, &key, Numbers::ONE, &mut RowPins { counts: &[0; 8] }) else {
+    let Kept::Slot(slot) = shard.enter(spot, &key, Numbers::ONE, &mut RowPins { counts: &[0; 8] })
+    else {
         return Err(Fail::from("no slot"));
     };
     for (leaving, wanted) in left_in_turn(moves) {

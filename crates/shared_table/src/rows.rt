@@ -43,7 +43,8 @@ pub trait Rows<J: Job> {
         ensures ran { RanOn J.ATTACKER (shards self.old) (shards self.new) shard (λ before after. T.ran task.old before task.new after) };
 }
 
-/// Shards behind locks, which threads share. A lock is held for one task, and nothing of the rows is told to proofs but what the type keeps.
+/// Shards behind locks, which threads share. A lock is held for one task, and nothing of the rows is told to proofs but that the task ran
+/// between two shards that the type keeps.
 #[derive(Drop)]
 pub struct LockedRows<'a, J: Job, R: Wait> {
     wait: &'a R,

@@ -16,7 +16,8 @@ use worker_counts::{ClosedCounts, CountSeat, WorkerCounts};
 /// All shards of the table of a search, each behind a lock that lies on lines of memory of its own, and the words that count workers. It can be emptied for
 /// another search, whose attacker is `K`'s.
 ///
-/// Contracts see which words it has, in how many shards it is cut, and how many rows each shard has.
+/// Contracts see which words it has, in how many shards it is cut, and for how many rows of each shard there are words. Of what stands behind the locks they see
+/// what a [`JobShard`] keeps, and no more: that a shard has these rows, and is empty where it is said to be, is shown by a test.
 #[derive(Drop)]
 pub struct SharedTable<J: Job, K: Job> {
     shards: Vec<CachePadded<Mutex<JobShard<J>>>>,
@@ -49,7 +50,8 @@ fn locked<J: Job>(shard: JobShard<J>) -> CachePadded<Mutex<JobShard<J>>> {
 }
 
 impl<J: Job, K: Job> SharedTable<J, K> {
-    /// A table with the shards and the rows of the settings, which knows nothing, and the first seat at its words, which has every part. Takes all its memory but
+    /// A table with the shards and the rows of the settings, which knows nothing (what its locks hold contracts don't see), and the first seat at its words,
+    /// which has every part. Takes all its memory but
     /// for that of the notes: about 1 KB a row. Errors: want of memory alone.
     pub fn make(
         alloc: Global,
@@ -137,7 +139,7 @@ impl<J: Job, K: Job> SharedTable<J, K> {
         }
     }
 
-    /// The same table for another search of the same attacker. Takes no memory.
+    /// The same table for another search of the same attacker, emptied likewise. Takes no memory.
     pub fn emptied(self) -> SharedTable<J, K>
         ensures { result ≡ self }
     {

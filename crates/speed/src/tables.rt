@@ -70,7 +70,12 @@ fn look_each(
     let mut sum: u64 = 0;
     for _ in 0..rounds {
         let key = key(keys.next());
-        if let Seen::Open { numbers, .. } = shard.look(shard.spot_of(&key), &key, path, &mut nobody())? {
+        if let Seen::Open { numbers, .. } = shard.look(
+            shard.spot_of(&key),
+            &key,
+            path,
+            &mut nobody(),
+        )? {
             sum = sum.wrapping_add(u64::from(numbers.pn));
         }
     }
