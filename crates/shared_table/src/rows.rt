@@ -21,6 +21,9 @@ pub trait Task<J: Job> {
     fn run(&mut self, shard: &mut JobShard<J>)
         requires { ready self.old }
         ensures { ran self.old shard.old self.new shard.new };
+
+    /// A task that has run can't be run again.
+    ghost once: { (before after : Self) (old new : List (List EntryView)) → ran before old after new → ready after → ⊥ };
 }
 
 /// The shards of a table, each of which can be lent for a task.
@@ -34,6 +37,10 @@ pub trait Rows<J: Job> {
 
     /// The rows of each shard, where that is told.
     ghost shards: { Self → Option (List (List (List EntryView))) };
+
+    /// How many shards there are. Takes no memory.
+    fn len(&self) -> usize
+        ensures { result ≡ count self.now };
 
     /// Lends the shard of this number, from 0, to the task, which runs once.
     fn under<T: Task<J>>(&mut self, shard: usize, task: &mut T)
@@ -64,6 +71,10 @@ impl<'a, J: Job, R: Wait> Rows<J> for LockedRows<'a, J, R> {
     ghost count = { λ rows. length rows.shards.now };
 
     ghost shards = { λ rows. None };
+
+    fn len(&self) -> usize {
+        self.shards.len()
+    }
 
     fn under<T: Task<J>>(&mut self, shard: usize, task: &mut T) {
         let mut guard = self.shards[shard].lock(self.wait);
@@ -101,6 +112,10 @@ impl<J: Job> Rows<J> for PlainRows<J> {
     ghost count = { λ rows. length rows.shards.items };
 
     ghost shards = { λ rows. Some rows.shards.items };
+
+    fn len(&self) -> usize {
+        self.shards.len()
+    }
 
     fn under<T: Task<J>>(&mut self, shard: usize, task: &mut T) {
         let shard = &mut self.shards[shard];

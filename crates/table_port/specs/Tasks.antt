@@ -1,5 +1,5 @@
 -- What a port does with the shard of a key.
-use Rattle.std.specs.Prelude.{◌≡◌, List, Result, Ok, Err, IfOk}
+use Rattle.std.specs.Prelude.{◌≡◌, List, Option, Some, None, Result, Ok, Err, IfOk, IsSomeAnd}
 use Rattle.bit_boards.specs.declared.piece.Side.{Side}
 use Rattle.board_core.specs.declared.keys.Key.{Key}
 use Rattle.notes.specs.declared.words.Seen.{Seen}
@@ -24,3 +24,13 @@ ShowsAt site key path before rows after (Err error) = at_row before site.word �
 abbrev pub LooksAt : {E : Type 0} → Side → Site → Key → List Key → RowSeatView → ShardRows → RowSeatView → Result Seen E → Type 0
 LooksAt attacker site key path before rows after result =
     ShowsAt site key path before rows after result × IsSameSeat (at_row before site.word) after × IfOk result (MayShow attacker key path)
+
+-- There is nothing.
+abbrev pub IsMissing : {A : Type 0} → Option A → Type 0
+IsMissing None = Unit {0}
+IsMissing (Some x) = ⊥
+
+-- What is there isn't missing.
+pub not_both : {A : Type 0} (P : A → Type 0) (found : Option A) → IsSomeAnd found P → IsMissing found → ⊥
+not_both P None there missing = there
+not_both P (Some x) there missing = missing

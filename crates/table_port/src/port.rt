@@ -14,6 +14,7 @@ use search_gate::{Gate, Stop};
 use shared_table::{Job, Rows};
 use std::alloc::AllocError;
 use std::marker::PhantomData;
+use std::mem;
 use table_shard::site_of;
 use word_desk::DeskSeat;
 use worker_core::Port;
@@ -69,6 +70,26 @@ impl<'a, J: Job, R: Rows<J>, G: Gate, T: Stop> TablePort<'a, J, R, G, T> {
             watch,
             of: PhantomData,
         }
+    }
+
+    /// How the table is cut. Takes no memory.
+    pub fn cut(&self) -> Cut
+        ensures { result ≡ self.now.cut }
+    {
+        self.cut
+    }
+
+    /// Exchanges its rows for others, of as many shards, and its stop for another. So several ports of one table can work in turn over rows that are at one of them
+    /// at a time. Takes no memory.
+    pub fn exchange(&mut self, rows: &mut R, stop: &mut T)
+        requires { R.count rows.old ≡ self.old.cut.shards }
+        ensures rows { (self.new.rows ≡ rows.old) × (rows.new ≡ self.old.rows) }
+        ensures stop { (self.new.watch.stop ≡ stop.old) × (stop.new ≡ self.old.watch.stop) }
+        ensures cut { self.new.cut ≡ self.old.cut }
+        ensures seats { (self.new.seats.row ≡ self.old.seats.row) × (self.new.seats.desk_seat ≡ self.old.seats.desk_seat) }
+    {
+        mem::swap(&mut self.rows, rows);
+        mem::swap(&mut self.watch.stop, stop);
     }
 
     /// The rows, the seats, each with the one part that it had, and the stop, for their owner. Takes no memory.

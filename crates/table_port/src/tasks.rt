@@ -28,13 +28,15 @@ struct LookTask<'t, 'a> {
 }
 
 impl<'t, 'a, J: Job> Task<J> for LookTask<'t, 'a> {
-    ghost use Rattle.std.specs.Prelude.{◌≡◌, None, IsSomeAnd};
-    ghost use Rattle.table_port.specs.Tasks.{IsAt, LooksAt};
+    ghost use Rattle.std.specs.Prelude.{◌≡◌, IsSomeAnd};
+    ghost use Rattle.table_port.specs.Tasks.{IsAt, IsMissing, LooksAt, not_both};
 
-    ghost ready = { λ task. IsAt task.site task.key.now task.seat.now × (task.answer.now ≡ None) };
+    ghost ready = { λ task. IsAt task.site task.key.now task.seat.now × IsMissing task.answer.now };
 
     ghost ran = { λ before old after new. (after.seat.ghost_name ≡ before.seat.ghost_name) × (after.answer.ghost_name ≡ before.answer.ghost_name) × (new ≡ old)
         × IsSomeAnd after.answer.now (LooksAt J.ATTACKER before.site before.key.now before.path.now before.seat.now old after.seat.now) };
+
+    ghost once = { λ before after old new ran ready. not_both _ after.answer.now ran.3 ready.1 };
 
     fn run(&mut self, shard: &mut JobShard<J>) {
         *self.answer = Some(look_in(shard, self.seat, self.site, self.key, self.path));
@@ -52,18 +54,20 @@ struct EnterTask<'t, 'a> {
 }
 
 impl<'t, 'a, J: Job> Task<J> for EnterTask<'t, 'a> {
-    ghost use Rattle.std.specs.Prelude.{◌≡◌, ◌<◌, None, IsSomeAnd, length};
+    ghost use Rattle.std.specs.Prelude.{◌≡◌, ◌<◌, IsSomeAnd, length};
     ghost use Rattle.pn_numbers.specs.Numbers.{IsOpen};
     ghost use Rattle.worker_counts.specs.declared.view.TheConstants.{MOST_ADDED};
     ghost use Rattle.shared_table.specs.Calls.{EntersAndAdds};
     ghost use Rattle.shared_table.specs.Seat.{at_row};
-    ghost use Rattle.table_port.specs.Tasks.{IsAt};
+    ghost use Rattle.table_port.specs.Tasks.{IsAt, IsMissing, not_both};
 
-    ghost ready = { λ task. IsAt task.site task.key.now task.seat.now × (task.kept ≡ None) × IsOpen task.numbers
+    ghost ready = { λ task. IsAt task.site task.key.now task.seat.now × IsMissing task.kept × IsOpen task.numbers
         × (length task.seat.now.seat.view.added < MOST_ADDED) };
 
     ghost ran = { λ before old after new. (after.seat.ghost_name ≡ before.seat.ghost_name)
         × IsSomeAnd after.kept (λ kept. EntersAndAdds old (at_row before.seat.now before.site.word) before.key.now before.numbers kept new after.seat.now) };
+
+    ghost once = { λ before after old new ran ready. not_both _ after.kept ran.1 ready.1 };
 
     fn run(&mut self, shard: &mut JobShard<J>) {
         self.kept = Some(enter_in(shard, self.seat, self.site, self.key, self.numbers));
@@ -81,17 +85,19 @@ struct LeaveTask<'t, 'a> {
 }
 
 impl<'t, 'a, J: Job> Task<J> for LeaveTask<'t, 'a> {
-    ghost use Rattle.std.specs.Prelude.{◌≡◌, None, IsSomeAnd};
+    ghost use Rattle.std.specs.Prelude.{◌≡◌, IsSomeAnd};
     ghost use Rattle.visit_log.specs.Sound.{IsSoundUpdate};
     ghost use Rattle.shared_table.specs.Calls.{LeavesAndSubtracts, MayLeave};
     ghost use Rattle.shared_table.specs.Seat.{at_row};
-    ghost use Rattle.table_port.specs.Tasks.{IsAt};
+    ghost use Rattle.table_port.specs.Tasks.{IsAt, IsMissing, not_both};
 
     ghost ready = { λ task. IsAt task.site task.key.now task.seat.now × IsSomeAnd task.update.now (IsSoundUpdate J.ATTACKER task.key.now)
         × MayLeave (at_row task.seat.now task.site.word) task.kept };
 
-    ghost ran = { λ before old after new. (after.seat.ghost_name ≡ before.seat.ghost_name) × (after.update.ghost_name ≡ before.update.ghost_name) × (after.update.now ≡ None)
+    ghost ran = { λ before old after new. (after.seat.ghost_name ≡ before.seat.ghost_name) × (after.update.ghost_name ≡ before.update.ghost_name) × IsMissing after.update.now
         × IsSomeAnd before.update.now (λ update. LeavesAndSubtracts old (at_row before.seat.now before.site.word) before.kept before.key.now update new after.seat.now) };
+
+    ghost once = { λ before after old new ran ready. not_both _ after.update.now ready.1 ran.2 };
 
     fn run(&mut self, shard: &mut JobShard<J>) {
         if let Some(update) = self.update.take() {

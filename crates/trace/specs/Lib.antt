@@ -1,2 +1,3 @@
 -- What a world that is written down keeps.
 pub mod Told
+pub mod Ported

@@ -15,6 +15,8 @@ pub struct Asked {
     pub settings: Settings,
     /// Whether several workers search, and a schedule says what happens; else one searches alone.
     pub is_world: bool,
+    /// Whether each of several workers has a port of its own of one shared table, whose rows go from one to the next.
+    pub is_by_ports: bool,
     /// The schedule.
     pub events: Vec<Event>,
 }
@@ -35,7 +37,8 @@ fn named<'a>(text: &'a str, name: &str) -> Option<(u64, &'a str)> {
 }
 
 fn settings(line: &str) -> Option<Settings> {
-    let (workers, rest) = named(line, "workers").unwrap_or((1, line));
+    let crew = named(line, "workers").or(named(line, "ports"));
+    let (workers, rest) = crew.unwrap_or((1, line));
     let (expansions, rest) = named(rest, "expansions")?;
     let (room, rest) = named(rest, "room")?;
     let (rows, rest) = named(rest, "rows")?;
@@ -86,7 +89,8 @@ pub fn read_asked(alloc: Global, input: &str) -> Result<Option<Asked>, AllocErro
     let (Some(problem), Some(settings)) = (problem(first), settings(second)) else {
         return Ok(None);
     };
-    let is_world = second.starts_with("workers ");
+    let is_by_ports = second.starts_with("ports ");
+    let is_world = is_by_ports || second.starts_with("workers ");
     let Some(events) = schedule(alloc, rest)? else {
         return Ok(None);
     };
@@ -97,6 +101,7 @@ pub fn read_asked(alloc: Global, input: &str) -> Result<Option<Asked>, AllocErro
         problem,
         settings,
         is_world,
+        is_by_ports,
         events,
     }))
 }

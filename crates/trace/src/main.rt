@@ -17,12 +17,17 @@
 //! units and the room that were given, how many workers have ended, and how many visits are below the slots of the
 //! table.
 //!
+//! Where they begin with `ports N`, the same happens to workers each of which has a port of its own of one shared table and one shared desk, whose rows go
+//! from one to the next.
+//!
 //! An input of another form, want of memory, and a failed read or write end with status 1.
 #![tactic(auto)]
 
 mod asked;
+mod flag_stop;
 mod lines;
 mod place;
+mod ports;
 mod recorder;
 mod told;
 

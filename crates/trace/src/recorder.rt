@@ -1,30 +1,27 @@
 // A port that writes down what it is asked, and what it answers.
 use crate::lines::Lines;
 use board_core::Key;
-use lone_port::LonePort;
 use notes::{Draw, Kept, Note, RoomAnswer, Seen, Update};
 use path_tags::Path;
 use pn_numbers::Numbers;
 use std::alloc::AllocError;
 use worker_core::Port;
 
-/// The port of a worker alone, and the lines that tell what it was asked and answered.
+/// A port, and the lines that tell what it was asked and answered.
 #[derive(Drop)]
-pub struct Recorder {
+pub struct Recorder<P: Port> {
     /// What answers.
-    pub port: LonePort,
+    pub port: P,
     /// What was written down.
     pub lines: Lines,
     /// How many slots are entered and not left.
     pub below: u64,
 }
 
-impl Port for Recorder {
-    ghost use Rattle.lone_port.specs.Lone.{book_of, Turns};
+impl<P: Port> Port for Recorder<P> {
+    ghost book = { λ r. P.book r.port };
 
-    ghost book = { λ r. book_of r.port };
-
-    ghost turn = { λ before path request answer after. Turns before.port path request answer after.port };
+    ghost turn = { λ before path request answer after. P.turn before.port path request answer after.port };
 
     fn poll(&mut self) -> bool {
         let stop = self.port.poll();

@@ -3,8 +3,9 @@ ghost use Rattle.std.specs.Prelude.{◌<◌, IfSome, length};
 
 use crate::asked::Asked;
 use crate::lines::Lines;
+use crate::ports::trace_ports;
 use crate::recorder::Recorder;
-use lone_port::Event;
+use lone_port::{Event, LonePort};
 use std::alloc::{AllocError, Global};
 use std::marker::Model;
 use worker_core::Worker;
@@ -15,7 +16,7 @@ use world_play::{World, starve_in_crew, turn_in_crew};
 /// It keeps that what the table and the desk count is what its workers have, all together.
 #[derive(Drop)]
 pub struct Told {
-    recorder: Recorder,
+    recorder: Recorder<LonePort>,
     workers: Vec<Worker>,
     // Of each worker, whether a stop was signalled to it since it polled last.
     raised: Vec<bool>,
@@ -155,6 +156,9 @@ impl Told {
 
 /// The lines of the search that is asked for, by one worker, or of the world of several. Errors: want of memory alone.
 pub fn trace(alloc: Global, asked: &Asked) -> Result<Vec<u8>, AllocError> {
+    if asked.is_by_ports {
+        return trace_ports(alloc, asked);
+    }
     let world = World::make(alloc, &asked.problem, &asked.settings)?;
     let lines = Lines::new(alloc, asked.problem.attacker(), asked.is_world);
     let mut told = Told::make(alloc, world, lines)?;
