@@ -23,8 +23,8 @@ use worker_counts::{CountSeat, view_laws};
 /// The shared table of positions and the shared desk of a search, for one worker; the gate that the worker passes behind each unit that it draws; and the stop that
 /// each of its polls asks.
 ///
-/// It keeps that its seats are of the words and of the desk, that there are eight words for each row of the shards, and that the desk's problem is one whose
-/// attacker the job names.
+/// It keeps that its seats are of the words and of the desk, each with one part; that there are as many shards as the cut says, and eight words for each row
+/// that it says; and that the desk's problem has the job's attacker. That each shard has so many rows isn't kept: behind a lock nobody could tell.
 #[derive(Drop)]
 pub struct TablePort<'a, J: Job, R: Rows<J>, G: Gate, T: Stop> {
     rows: R,
@@ -41,8 +41,8 @@ pub struct TablePort<'a, J: Job, R: Rows<J>, G: Gate, T: Stop> {
 }
 
 impl<'a, J: Job, R: Rows<J>, G: Gate, T: Stop> TablePort<'a, J, R, G, T> {
-    /// The port over these rows, which are so cut: its seats are at the table's words, of which there are eight for each row, and at the desk; each with one part; the desk's
-    /// problem has the job's attacker. Takes no memory.
+    /// The port over these rows, cut as `cut` says. Its seats are at the table's words, of which there are eight for each row, and at the desk, each with one
+    /// part. The desk's problem has the job's attacker. Takes no memory.
     pub fn new(
         rows: R,
         cut: Cut,
