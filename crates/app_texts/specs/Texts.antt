@@ -1,5 +1,5 @@
--- What an answer prints.
-use Rattle.std.specs.Prelude.{ℕ, List, ◌∷◌, ◌++◌, codes, string_bytes}
+-- What is printed of what was found out.
+use Rattle.std.specs.Prelude.{ℕ, List, ◌∷◌, ◌++◌, codes}
 use Rattle.std.specs.Fmt.{decimal}
 use Rattle.usi_text.specs.MoveText.{move_text}
 use Rattle.usi_text.specs.Lines.{mate_text, nomate_text, timeout_text}
@@ -10,14 +10,10 @@ use Rattle.cert_check.specs.declared.verdict.Why.{Why}
 use Rattle.cert_check.specs.declared.verdict.Why.TheVariants.{RootMissing, NotACheck, EvasionOutside, RankNotLower, CheckUnanswered}
 use Rattle.search_limits.specs.declared.cause.Cause.{Cause}
 use Rattle.search_limits.specs.declared.cause.Cause.TheVariants.{Expansions, Room, Height, Stopped, Entries}
-use Rattle.app_texts.specs.Counts.{counts_text}
-use Rattle.app_texts.specs.Survey.{summary_text}
 use Rattle.app_texts.specs.declared.answer.Solution.{Solution}
 use Rattle.app_texts.specs.declared.answer.Solution.TheVariants.{Mate, NoMate, Unknown}
 use Rattle.app_texts.specs.declared.answer.Judgement.{Judgement}
 use Rattle.app_texts.specs.declared.answer.Judgement.TheVariants.{Accepted, Refused}
-use Rattle.app_texts.specs.declared.answer.Answer.{Answer}
-use Rattle.app_texts.specs.declared.answer.Answer.TheVariants.{Solved, Judged, Surveyed, Collected, Help}
 use Rattle.usi_text.specs.Lines.{AllHaveText}
 
 -- A reason against a certificate: a word, and the move that it names, if it names one.
@@ -49,24 +45,8 @@ abbrev pub judgement_text : Judgement → List ℕ
 judgement_text (Accepted claim entries) = line (codes "accepted " ++ claim_word claim ++ 32 ∷ decimal entries)
 judgement_text (Refused entry why) = line (codes "refused " ++ decimal entry ++ 32 ∷ why_text why)
 
--- The text of an answer.
-abbrev pub answer_text : Answer → List ℕ
-answer_text (Solved solution) = solution_text solution
-answer_text (Judged judgement) = judgement_text judgement
-answer_text (Surveyed summary) = summary_text summary
-answer_text (Collected counts) = counts_text counts
-answer_text (Help text) = string_bytes text
-
 -- Every move of a solution's line has a text.
 abbrev pub HasLine : Solution → Type 0
 HasLine (Mate c moves) = AllHaveText moves
 HasLine (NoMate c) = Unit {0}
 HasLine (Unknown cause crew) = Unit {0}
-
--- Every move of an answer's line has a text.
-abbrev pub HasTexts : Answer → Type 0
-HasTexts (Solved solution) = HasLine solution
-HasTexts (Judged judgement) = Unit {0}
-HasTexts (Surveyed summary) = Unit {0}
-HasTexts (Collected counts) = Unit {0}
-HasTexts (Help text) = Unit {0}

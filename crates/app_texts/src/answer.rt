@@ -1,5 +1,4 @@
-// What the program answers.
-use crate::{Counts, Summary};
+// What is found out about a problem and about a certificate.
 use board_core::Move;
 use cert_check::Why;
 use cert_text::{Claim, EscapeCertificate, MateCertificate};
@@ -69,19 +68,4 @@ pub enum Judgement {
         /// The first reason against it.
         why: Why,
     },
-}
-
-/// What the program answers.
-#[derive(Drop)]
-pub enum Answer {
-    /// To `solve`.
-    Solved(Solution),
-    /// To `check`.
-    Judged(Judgement),
-    /// To `survey`.
-    Surveyed(Summary),
-    /// To `collection`: what is told behind the reports of its lines.
-    Collected(Counts),
-    /// To a request for help or for the version: the text, as clap made it.
-    Help(String),
 }

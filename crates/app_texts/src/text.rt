@@ -5,13 +5,9 @@ ghost use Rattle.usi_text.specs.MoveText.{move_text};
 ghost use Rattle.usi_text.specs.Lines.{AllHaveText, timeout_text};
 ghost use Rattle.cert_text.specs.Entries.{line};
 ghost use Rattle.cert_text.specs.Text.{claim_word};
-ghost use Rattle.app_texts.specs.Texts.{answer_text, solution_text, judgement_text, why_text, cause_text};
-ghost use Rattle.app_texts.specs.Texts.{HasLine, HasTexts};
-ghost use Rattle.app_texts.specs.Counts.{counts_text};
-ghost use Rattle.app_texts.specs.Survey.{summary_text};
+ghost use Rattle.app_texts.specs.Texts.{HasLine, solution_text, judgement_text, why_text, cause_text};
 
-use crate::tallies::{mates, no_mates, unknowns};
-use crate::{Answer, Counts, Judgement, Solution, Summary};
+use crate::{Judgement, Solution};
 use board_core::Move;
 use cert_check::Why;
 use cert_text::{
@@ -96,7 +92,8 @@ fn append_no_mate(out: &mut Vec<u8>, certificate: &EscapeCertificate) -> Result<
     append_escape_cert(out, certificate)
 }
 
-fn append_counted(out: &mut Vec<u8>, word: &[u8], number: u64) -> Result<(), AllocError>
+/// Writes a word and a number behind it, behind what stands there already. Errors: want of memory alone.
+pub fn append_counted(out: &mut Vec<u8>, word: &[u8], number: u64) -> Result<(), AllocError>
     ensures { OnOk result (out.new.items ≡ out.old.items ++ (word.now ++ decimal number)) }
 {
     out.extend_from_slice(word)?;
@@ -104,8 +101,9 @@ fn append_counted(out: &mut Vec<u8>, word: &[u8], number: u64) -> Result<(), All
     Ok(())
 }
 
-/// Writes what was used up, that it was stopped, or that the certificate would be too long.
-pub(crate) fn append_cause(out: &mut Vec<u8>, cause: Cause) -> Result<(), AllocError>
+/// Writes what was used up, that it was stopped, or that the certificate would be too long, behind what stands there already. Errors: want of
+/// memory alone.
+pub fn append_cause(out: &mut Vec<u8>, cause: Cause) -> Result<(), AllocError>
     ensures { OnOk result (out.new.items ≡ out.old.items ++ cause_text cause) }
 {
     match cause {
@@ -141,59 +139,13 @@ fn append_solution(out: &mut Vec<u8>, solution: &Solution) -> Result<(), AllocEr
     }
 }
 
-fn append_line(out: &mut Vec<u8>, word: &[u8], number: u64) -> Result<(), AllocError>
+/// Writes a line of a word and a number behind it, behind what stands there already. Errors: want of memory alone.
+pub fn append_line(out: &mut Vec<u8>, word: &[u8], number: u64) -> Result<(), AllocError>
     ensures { OnOk result (out.new.items ≡ out.old.items ++ line (word.now ++ decimal number)) }
 {
     append_counted(out, word, number)?;
     out.push(b'\n')?;
     Ok(())
-}
-
-fn append_summary(out: &mut Vec<u8>, summary: &Summary) -> Result<(), AllocError>
-    ensures { OnOk result (out.new.items ≡ out.old.items ++ summary_text summary.now) }
-{
-    let tallies = summary.tallies.in_order();
-    append_counted(out, b"survey ", summary.seed)?;
-    append_line(out, b" ", tallies.len() as u64)?;
-    append_line(out, b"mate ", mates(tallies) as u64)?;
-    append_line(out, b"nomate ", no_mates(tallies) as u64)?;
-    append_line(out, b"unknown ", unknowns(tallies) as u64)
-}
-
-fn append_counts(out: &mut Vec<u8>, counts: &Counts) -> Result<(), AllocError>
-    ensures { OnOk result (out.new.items ≡ out.old.items ++ counts_text counts.now) }
-{
-    append_counted(out, b"problems ", counts.problems())?;
-    append_counted(out, b" mate ", counts.mates)?;
-    append_counted(out, b" nomate ", counts.no_mates)?;
-    append_counted(out, b" unknown ", counts.unknowns)?;
-    append_line(out, b" fault ", counts.faults)
-}
-
-fn append_answer(out: &mut Vec<u8>, answer: &Answer) -> Result<(), AllocError>
-    requires { HasTexts answer.now }
-    ensures { OnOk result (out.new.items ≡ out.old.items ++ answer_text answer.now) }
-{
-    match answer {
-        Answer::Solved(solution) => append_solution(out, solution),
-        Answer::Judged(judgement) => append_judgement(out, judgement),
-        Answer::Surveyed(summary) => append_summary(out, summary),
-        Answer::Collected(counts) => append_counts(out, counts),
-        Answer::Help(text) => {
-            out.extend_from_slice(text.as_bytes())?;
-            Ok(())
-        }
-    }
-}
-
-/// The whole text of an answer, whose moves have texts. Errors: want of memory alone. (USI protocol: `checkmate`.)
-pub fn answer_text(alloc: Global, answer: &Answer) -> Result<Vec<u8>, AllocError>
-    requires { HasTexts answer.now }
-    ensures { IfOk result (λ text. text.items ≡ answer_text answer.now) }
-{
-    let mut text = Vec::new(alloc);
-    append_answer(&mut text, answer)?;
-    Ok(text)
 }
 
 /// The whole text of an answer to `solve`, whose moves have texts. Errors: want of memory alone. (USI protocol: `checkmate`.)

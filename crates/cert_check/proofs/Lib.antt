@@ -1,3 +1,4 @@
 pub mod Listing
 pub mod Entries
 pub mod Verdicts
+pub mod Once

@@ -16,6 +16,8 @@ use Rattle.mate_facts.specs.Entries.{positions_of, IsBorneOut}
 use Rattle.cert_check.specs.Valid.{ValidMate, ValidEscape, IsValid, ShowsMate, Shows}
 use Rattle.cert_text.specs.Kinds.{problem_of, positions_in, IsKeptBy}
 use Rattle.cert_check.specs.Reasons.{MateReason, EscapeReason, IsHeld, RootReason, EntryReason, EntryHolds, HasReason, IsFirstReason, IsSooner, IsVerdict, reason_order}
+use Rattle.cert_check.specs.Hearing.{IsFoundIn}
+use Rattle.cert_check.specs.declared.hearing.Objection.{Objection}
 use Rattle.cert_check.specs.declared.verdict.Why.{Why}
 use Rattle.cert_check.specs.declared.verdict.Why.TheVariants.{RootMissing, NotACheck, EvasionOutside, RankNotLower, CheckUnanswered}
 use Rattle.cert_check.specs.declared.verdict.Verdict.{Verdict}
@@ -184,6 +186,18 @@ accepted (Escape c) p n kept root h below = record {
         record { evasion = into.evasion; is_evasion = into.is_evasion; leads = inl into.leads };
   };
 }
+
+-- nothing is found among all entries
+pub none_found : (c : Certificate) (p : Board) → IsKeptBy c → (problem_of c ≡ p) × Contains (positions_in c) p
+    → IsFoundIn c p.side 0 (length (positions_in c)) None → IsVerdict c p Accepted
+none_found c p kept root none = accepted c p (length (positions_in c)) kept root (omega arith) (λ k low. none k (omega arith) low)
+
+-- an objection is found
+pub one_found : (c : Certificate) (p : Board) (number : ℕ) (found : Objection) → number ≡ suc found.place
+    → (problem_of c ≡ p) × Contains (positions_in c) p
+    → IsFoundIn c p.side 0 (length (positions_in c)) (Some found) → IsVerdict c p (Refused number found.why)
+one_found c p number found e root first =
+    refused_at c p found.place number found.why e root (λ k low. first.sooner k (omega arith) low) first.first
 
 -- 5. A valid certificate has no reason against it.
 

@@ -1,3 +1,4 @@
 -- This project's: docs/formats.md.
+pub mod Hearing
 pub mod Valid
 pub mod Reasons

@@ -1,6 +1,8 @@
 // The reasons against one entry.
 ghost use Rattle.std.specs.Prelude.{◌≡◌, ◌<◌, ◌↔◌, List, length, IsTrue, IfOk, Contains};
 ghost use Rattle.board_core.specs.Board.{Board};
+ghost use Rattle.board_core.specs.Kept.{IsKept};
+ghost use Rattle.board_core.specs.Key.{key_of};
 ghost use Rattle.shogi_rules.specs.Rules.{IsQuiet, after};
 ghost use Rattle.shogi_rules.specs.Tsume.{IsCheck};
 ghost use Rattle.mate_def.specs.Mate.{HasEvasionTo};
@@ -9,30 +11,30 @@ ghost use Rattle.position_places.specs.Places.{ArePlacesOf};
 ghost use Rattle.cert_check.specs.Reasons.{MateReason, EscapeReason, IsHeld, IsFirstReason, IsEvasionJudged};
 
 use crate::verdict::Why;
-use board_core::{Move, Position, order_laws};
+use board_core::{Key, Move, Position, key, order_laws};
 use check_moves::checks_into;
 use evasions::answers_into;
 use mate_facts::{MateEntry, entry_laws};
 use move_lists::Moves;
 use position_places::Places;
-use shogi_rules::{Problem, apply, is_check};
+use shogi_rules::{Problem, apply, is_check, key_after};
 use std::alloc::AllocError;
 
-// What speaks against an evasion that leads to this position, from an entry of this rank.
+// What speaks against an evasion that leads to the position of this key, from an entry of this rank.
 fn evasion_reason(
     entries: &[MateEntry],
     places: &Places,
     rank: u32,
-    next: &Position,
+    next: &Key,
     evasion: Move,
 ) -> Option<Why>
     requires places { ArePlacesOf places.now (positions_of entries.now) }
     requires apart { AreApart (positions_of entries.now) }
-    ensures { IsEvasionJudged entries.now rank next.now evasion result }
+    ensures { (position : Board) → IsKept position → next.now.0 ≡ key_of position → IsEvasionJudged entries.now rank position evasion result }
 {
     // Entries of one position are one entry.
     entry_laws();
-    match places.find(next) {
+    match places.find_key(next) {
         None => Some(Why::EvasionOutside(evasion)),
         Some(place) => {
             if entries[place].rank.number < rank {
@@ -63,9 +65,11 @@ pub(crate) fn mate_reason(
         return Ok(Some(Why::NotACheck(entry.by)));
     }
     let checked = apply(&entry.at, entry.by);
+    let known = key(&checked);
     answers_into(problem, &checked, evasions)?;
     for evasion in evasions.as_slice() {
-        let next = apply(&checked, *evasion);
+        // The position after it isn't made: its key is enough to find it.
+        let next = key_after(&checked, &known, *evasion);
         if let Some(why) = evasion_reason(entries, places, entry.rank.number, &next, *evasion) {
             return Ok(Some(why));
         }
@@ -86,10 +90,11 @@ fn has_evasion_back(
     ensures { IfOk result (λ found. (positions : List Board) → ArePlacesOf places.now positions → IsTrue found ↔ HasEvasionTo problem.now.position.side (Contains positions) position.now check) }
 {
     let checked = apply(position, check);
+    let known = key(&checked);
     answers_into(problem, &checked, evasions)?;
     for evasion in evasions.as_slice() {
-        let next = apply(&checked, *evasion);
-        if places.holds(&next) {
+        let next = key_after(&checked, &known, *evasion);
+        if places.find_key(&next).is_some() {
             return Ok(true);
         }
     }

@@ -10,13 +10,10 @@ ghost use Rattle.cert_check.specs.declared.verdict.Verdict.TheVariants.{Accepted
 ghost use Rattle.cert_text.specs.declared.certificate.Certificate.{Certificate};
 ghost use Rattle.board_core.specs.Board.{Board};
 
-use crate::places::places_of;
-use crate::reasons::{escape_reason, mate_reason};
-use board_core::Move;
+use crate::hearing::Hearing;
+use board_core::{Move, order_laws};
 use cert_text::Certificate;
 use mate_def::escape_is_no_mate;
-use move_lists::Moves;
-use position_places::Places;
 use shogi_rules::Problem;
 use std::alloc::{AllocError, Global};
 
@@ -49,76 +46,21 @@ pub enum Verdict {
     },
 }
 
-// Where each position of the certificate stands.
-fn places_in(alloc: Global, certificate: &Certificate) -> Result<Places, AllocError>
-    ensures places { IfOk result (λ places. ArePlacesOf places (positions_in certificate.now)) }
-    ensures kept { IsKeptBy certificate.now }
-{
-    match certificate {
-        Certificate::Mate(mate) => places_of(alloc, mate),
-        Certificate::Escape(escape) => places_of(alloc, escape),
-    }
+impl Verdict {
+    // The verdict where the certificate is about another problem, or doesn't list its position.
+    pub(crate) const ROOT_MISSING: Verdict = Verdict::Refused {
+        entry: 0,
+        why: Why::RootMissing,
+    };
 }
 
-fn is_about(certificate: &Certificate, problem: &Problem) -> bool
-    ensures { IsTrue result ↔ (problem_of certificate.now ≡ problem.now.position) }
+/// What validity is worth, a law: every verdict on a valid certificate is that it is accepted, and it shows what it says, a
+/// mate or that there is none. (It shows this where it keeps what every [`Certificate`] keeps.)
+pub fn valid_is_accepted()
+    ensures accepted { (c : Certificate) (p : Board) (verdict : Verdict) → IsVerdict c p verdict → IsValid c p → verdict ≡ Accepted }
+    ensures shows { (c : Certificate) (p : Board) → IsKeptBy c → IsValid c p → Shows c p }
 {
-    certificate.problem().position.is_same(&problem.position)
-}
-
-// Lists that are filled again for each entry.
-#[derive(Drop)]
-struct Lists {
-    checks: Moves,
-    evasions: Moves,
-}
-
-// The first reason against the entry at a place, counted from 0.
-fn reason_at(
-    problem: &Problem,
-    certificate: &Certificate,
-    places: &Places,
-    place: usize,
-    lists: &mut Lists,
-) -> Result<Option<Why>, AllocError>
-    requires place { place < length (positions_in certificate.now) }
-    requires places { ArePlacesOf places.now (positions_in certificate.now) }
-    ensures { IfOk result (λ reason. IsFirstReason (EntryHolds certificate.now problem.now.position.side place) (EntryReason certificate.now problem.now.position.side place) reason) }
-{
-    match certificate {
-        Certificate::Mate(mate) => {
-            let entries = mate.entries();
-            mate_reason(
-                problem,
-                entries,
-                places,
-                &entries[place],
-                &mut lists.evasions,
-            )
-        }
-        Certificate::Escape(escape) => {
-            let position = &escape.entries()[place];
-            escape_reason(
-                problem,
-                places,
-                position,
-                &mut lists.checks,
-                &mut lists.evasions,
-            )
-        }
-    }
-}
-
-// Whether the certificate is about the problem and lists its position.
-fn lists_root(certificate: &Certificate, problem: &Problem, places: &Places) -> bool
-    requires { ArePlacesOf places.now (positions_in certificate.now) }
-    ensures yes { IsTrue result → (problem_of certificate.now ≡ problem.now.position) × Contains (positions_in certificate.now) problem.now.position }
-    ensures no { result ≡ false → RootReason certificate.now problem.now.position RootMissing }
-{
-    if !is_about(certificate, problem) {
-        return false;
-    }
-    places.holds(&problem.position)
+    escape_is_no_mate();
 }
 
 fn verdict_on(
@@ -129,35 +71,22 @@ fn verdict_on(
     ensures verdict { IfOk result (λ verdict. IsVerdict certificate.now problem.now.position verdict) }
     ensures kept { IsKeptBy certificate.now }
 {
-    let places = places_in(alloc, certificate)?;
-    if !lists_root(certificate, problem, &places) {
-        return Ok(Verdict::Refused {
-            entry: 0,
-            why: Why::RootMissing,
-        });
+    certificate.laws();
+    let hearing = Hearing::open(alloc, problem, certificate)?;
+    if let Some(verdict) = hearing.root_verdict() {
+        return Ok(verdict);
     }
-    let mut lists = Lists {
-        checks: Moves::new(alloc),
-        evasions: Moves::new(alloc),
-    };
-    for place in 0..certificate.count() {
-        if let Some(why) = reason_at(problem, certificate, &places, place, &mut lists)? {
-            return Ok(Verdict::Refused {
-                entry: place as u64 + 1,
-                why,
-            });
-        }
-    }
-    Ok(Verdict::Accepted)
+    let first = hearing.objection_in(alloc, 0, hearing.count())?;
+    Ok(hearing.verdict(first))
 }
 
-/// What validity is worth, a law: every verdict on a valid certificate is that it is accepted, and it shows what it says, a
-/// mate or that there is none. (It shows this where it keeps what every [`Certificate`] keeps.)
-pub fn valid_is_accepted()
-    ensures accepted { (c : Certificate) (p : Board) (verdict : Verdict) → IsVerdict c p verdict → IsValid c p → verdict ≡ Accepted }
-    ensures shows { (c : Certificate) (p : Board) → IsKeptBy c → IsValid c p → Shows c p }
+/// A law: a certificate has one verdict for a problem, however its entries are heard. Does nothing; whoever compares two verdicts
+/// calls it to know this.
+pub fn verdict_laws()
+    ensures once { (c : Certificate) (p : Board) (one other : Verdict) → IsVerdict c p one → IsVerdict c p other → one ≡ other }
 {
-    escape_is_no_mate();
+    // No two moves have one place in their order.
+    order_laws();
 }
 
 /// Whether the certificate is valid for the problem; else the first reason against it. Errors: want of memory alone.

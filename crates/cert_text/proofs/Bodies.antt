@@ -19,10 +19,12 @@ use Rattle.cert_text.specs.declared.certificate.Certificate.{Certificate}
 use Rattle.cert_text.specs.declared.fault.CertFault.{CertFault}
 use Rattle.cert_text.specs.declared.fault.CertFault.TheVariants as faults
 use Rattle.cert_text.specs.declared.fault.CertEnd.{CertEnd}
-use Rattle.cert_text.specs.declared.fault.CertEnd.TheVariants as ends
 use Rattle.cert_text.specs.declared.head.Claim.{Claim}
-use Rattle.cert_text.specs.Reading.{IsReadCount, IsFrontOrNone, IsHead, Lacks, headed_text, HasBadLine, HasFallingLine, HasNoEnd, Ends, HasLineFault, HasFaultBehind, BeginsWith, IsReadableOf, IsCertificateOutcome}
-use Rattle.cert_text.specs.Scan.{IsEntriesEnd, IsEndFault, HasRead}
+use Rattle.cert_text.specs.Reading.{IsReadCount, IsFrontOrNone, IsHead, Lacks, headed_text, Ends, HasLineFault, HasFaultBehind, BeginsWith, IsReadableOf, IsCertificateOutcome, HasFirstFault}
+use Rattle.cert_text.specs.Scan.{HasRead}
+use Rattle.cert_text.specs.Lines.{StopsAt, AreRead, IsStopAtEnd, fault_of, AreAll}
+use Rattle.cert_text.specs.declared.lines.LinesStop.{LinesStop}
+use Rattle.cert_text.specs.declared.lines.LinesStop.TheVariants as stop
 use Rattle.cert_text.proofs.Cuts.{empty_before, all_push}
 
 -- ---- rising lists
@@ -102,63 +104,87 @@ pub all_take_more : {A : Type 0} (P : A → Type 0) (entries : List A) (k : ℕ)
     → AllByRecursion P (take (k + 1) entries)
 all_take_more P entries k x lt is all p = subst (AllByRecursion P) (sym (take_push entries k x lt is)) (all_push P (take k entries) x all p)
 
--- ---- the faults
+-- ---- where the reading stops
 
-pub bad_line : {A : Type 0} (form : Form A) (bytes : List ℕ) (entries : List A) (rest last text more : List ℕ) → HasRead form bytes entries rest last
+pub stops_bad : {A : Type 0} (form : Form A) (bytes : List ℕ) (entries : List A) (rest last text more : List ℕ) → HasRead form bytes entries rest last
     → rest ≡ text ++ 10 ∷ more → Lacks 10 text → text ≢ codes "end" → ((entry : A) → MayBeListed form entry → form.text_of entry ≡ line text → ⊥)
-    → HasBadLine form (length entries + 1) bytes
-bad_line form bytes entries rest last text more read p lack no_end none = record {
-  entries = entries;
-  good = read.good;
-  number_is = refl;
-  bad = text;
-  is_line = lack;
-  no_end = no_end;
-  no_entry = none;
-  rest = more;
-  text = read.so_far ∙ ap (λ (t : List ℕ). entries_text form entries ++ t) (entry_first rest text more (line text) p refl);
+    → AreRead form bytes entries last stop.BadLine
+stops_bad form bytes entries rest last text more read p lack no_end none = record {
+  rest = rest;
+  read = read;
+  stops = record { bad = text; is_line = lack; no_end = no_end; no_entry = none; more = more; text = entry_first rest text more (line text) p refl };
 }
 
-pub falling_line : {A : Type 0} (form : Form A) (bytes : List ℕ) (entries : List A) (rest last text more : List ℕ) (entry : A) → HasRead form bytes entries rest last
+pub stops_falling : {A : Type 0} (form : Form A) (bytes : List ℕ) (entries : List A) (rest last text more : List ℕ) (entry : A) → HasRead form bytes entries rest last
     → rest ≡ text ++ 10 ∷ more → MayBeListed form entry → form.text_of entry ≡ line text → (slice_cmp nat_cmp last (sfen_of (form.at entry)) ≡ Less → ⊥)
-    → HasFallingLine form (length entries + 1) bytes
-falling_line form bytes entries rest last text more entry read p fits e not_before = record {
-  entries = entries;
-  good = read.good;
-  number_is = refl;
-  next = entry;
-  fits = fits;
-  falls = λ rising. not_before ((read.follows entry).1 rising);
-  rest = more;
-  text = read.so_far ∙ ap (λ (t : List ℕ). entries_text form entries ++ t) (entry_first rest text more (form.text_of entry) p e);
+    → AreRead form bytes entries last stop.NotRising
+stops_falling form bytes entries rest last text more entry read p fits e not_before = record {
+  rest = rest;
+  read = read;
+  stops = record {
+    next = entry;
+    fits = fits;
+    falls = λ rising. not_before ((read.follows entry).1 rising);
+    more = more;
+    text = entry_first rest text more (form.text_of entry) p e;
+  };
 }
 
-pub no_line_left : {A : Type 0} (form : Form A) (bytes : List ℕ) (entries : List A) (rest last : List ℕ) → HasRead form bytes entries rest last → Lacks 10 rest → HasNoEnd form bytes
-no_line_left form bytes entries rest last read lack = record { entries = entries; good = read.good; rest = rest; open_end = inl lack; text = read.so_far }
+pub stops_open : {A : Type 0} (form : Form A) (bytes : List ℕ) (entries : List A) (rest last : List ℕ) → HasRead form bytes entries rest last → Lacks 10 rest → AreRead form bytes entries last stop.NoLine
+stops_open form bytes entries rest last read lack = record { rest = rest; read = read; stops = lack }
 
 at_end : (rest text more : List ℕ) → rest ≡ text ++ 10 ∷ more → text ≡ codes "end" → rest ≡ end_line ++ more
 at_end rest text more p e = p ∙ ap (λ (t : List ℕ). t ++ 10 ∷ more) e
 
-pub ended : {A : Type 0} (form : Form A) (bytes : List ℕ) (entries : List A) (rest last text more : List ℕ) → HasRead form bytes entries rest last
-    → rest ≡ text ++ 10 ∷ more → text ≡ codes "end" → more ≡ [] → Ends form entries bytes
-ended form bytes entries rest last text more read p e none = record {
-  good = read.good;
-  text = read.so_far ∙ ap (λ (t : List ℕ). entries_text form entries ++ t) (at_end rest text more p e ∙ (ap (λ (t : List ℕ). end_line ++ t) none ∙ append-nil end_line));
-}
-
-pub end_fault : {A : Type 0} (form : Form A) (bytes : List ℕ) (entries : List A) (rest last text more : List ℕ) (count : ℕ) (fault : CertFault) → HasRead form bytes entries rest last
-    → rest ≡ text ++ 10 ∷ more → text ≡ codes "end" → IsEndFault (length entries) count more (Err fault) → HasLineFault form count bytes fault
-end_fault form bytes entries rest last text more count faults.NoEnd read p e h = record {
-  entries = entries;
-  good = read.good;
+pub stops_end : {A : Type 0} (form : Form A) (bytes : List ℕ) (entries : List A) (rest last text more : List ℕ) (why : LinesStop) → HasRead form bytes entries rest last
+    → rest ≡ text ++ 10 ∷ more → text ≡ codes "end" → IsStopAtEnd more why → AreRead form bytes entries last why
+stops_end form bytes entries rest last text more stop.End read p e h = record {
   rest = rest;
-  open_end = inr (more, h, at_end rest text more p e);
-  text = read.so_far;
+  read = read;
+  stops = at_end rest text more p e ∙ (ap (λ (t : List ℕ). end_line ++ t) h ∙ append-nil end_line);
 }
-end_fault form bytes entries rest last text more count faults.WrongCount read p e h = (entries, ended form bytes entries rest last text more read p e h.0, h.1)
-end_fault form bytes entries rest last text more count faults.BadHead read p e h = absurd h
-end_fault form bytes entries rest last text more count (faults.BadLine number) read p e h = absurd h
-end_fault form bytes entries rest last text more count (faults.NotRising number) read p e h = absurd h
+stops_end form bytes entries rest last text more stop.Behind read p e h = record { rest = rest; read = read; stops = (more, h, at_end rest text more p e) }
+stops_end form bytes entries rest last text more stop.NoLine read p e h = absurd h
+stops_end form bytes entries rest last text more stop.BadLine read p e h = absurd h
+stops_end form bytes entries rest last text more stop.NotRising read p e h = absurd h
+
+-- ---- the faults
+
+-- What stands behind the entries, by what the rest is.
+rest_is : (bytes entries rest other : List ℕ) → bytes ≡ entries ++ rest → rest ≡ other → bytes ≡ entries ++ other
+rest_is bytes entries rest other p e = p ∙ ap (λ (t : List ℕ). entries ++ t) e
+
+pub all_read : {A : Type 0} (form : Form A) (bytes : List ℕ) (entries : List A) (last : List ℕ) (why : LinesStop) → AreRead form bytes entries last why → why ≡ stop.End → Ends form entries bytes
+all_read form bytes entries last why are is =
+    let at : StopsAt form entries are.rest stop.End = subst (StopsAt form entries are.rest) is are.stops in
+    record { good = are.read.good; text = rest_is bytes (entries_text form entries) are.rest end_line are.read.so_far at }
+
+pub not_all_read : {A : Type 0} (form : Form A) (bytes : List ℕ) (entries : List A) (last : List ℕ) (why : LinesStop) (count : ℕ) → AreRead form bytes entries last why
+    → (AreAll entries why count → ⊥) → HasLineFault form count bytes (fault_of why (length entries + 1))
+not_all_read form bytes entries last stop.NoLine count are not = record { entries = entries; good = are.read.good; rest = are.rest; open_end = inl are.stops; text = are.read.so_far }
+not_all_read form bytes entries last stop.Behind count are not = record { entries = entries; good = are.read.good; rest = are.rest; open_end = inr are.stops; text = are.read.so_far }
+not_all_read form bytes entries last stop.End count are not = (entries, all_read form bytes entries last stop.End are refl, (λ n. not (refl, n)))
+not_all_read form bytes entries last stop.BadLine count are not = record {
+  entries = entries;
+  good = are.read.good;
+  number_is = refl;
+  bad = are.stops.bad;
+  is_line = are.stops.is_line;
+  no_end = are.stops.no_end;
+  no_entry = are.stops.no_entry;
+  rest = are.stops.more;
+  text = rest_is bytes (entries_text form entries) are.rest (line are.stops.bad ++ are.stops.more) are.read.so_far are.stops.text;
+}
+not_all_read form bytes entries last stop.NotRising count are not = record {
+  entries = entries;
+  good = are.read.good;
+  number_is = refl;
+  next = are.stops.next;
+  fits = are.stops.fits;
+  falls = are.stops.falls;
+  rest = are.stops.more;
+  text = rest_is bytes (entries_text form entries) are.rest (form.text_of are.stops.next ++ are.stops.more) are.read.so_far are.stops.text;
+}
 
 -- ---- certificates
 
@@ -183,19 +209,34 @@ listing_read claim form bytes sfen rest count c head s kept is_problem ends n =
     )
 
 -- The fault of the lines behind a head is the text's.
-pub fault_read : {A : Type 0} (claim : Claim) (form : Form A) (count : ℕ) (problem : Board) (rest bytes : List ℕ) (end : CertEnd)
+pub fault_read : {A : Type 0} (claim : Claim) (form : Form A) (count : ℕ) (problem : Board) (rest bytes : List ℕ) (fault : CertFault)
     → ((fault : CertFault) → HasLineFault form count rest fault → HasFaultBehind claim count problem rest fault)
-    → BeginsWith claim count problem rest bytes → IsEntriesEnd form count rest end → IsCertificateOutcome bytes (Err end)
-fault_read claim form count problem rest bytes ends.NoMemory f begins h = tt
-fault_read claim form count problem rest bytes (ends.Fault faults.BadHead) f begins h = absurd h
-fault_read claim form count problem rest bytes (ends.Fault (faults.BadLine n)) f begins h =
+    → BeginsWith claim count problem rest bytes → HasLineFault form count rest fault → HasFirstFault bytes fault
+fault_read claim form count problem rest bytes faults.BadHead f begins h = absurd h
+fault_read claim form count problem rest bytes (faults.BadLine n) f begins h =
     record { claim = claim; count = count; problem = problem; rest = rest; begins = begins; later = f (faults.BadLine n) h }
-fault_read claim form count problem rest bytes (ends.Fault (faults.NotRising n)) f begins h =
+fault_read claim form count problem rest bytes (faults.NotRising n) f begins h =
     record { claim = claim; count = count; problem = problem; rest = rest; begins = begins; later = f (faults.NotRising n) h }
-fault_read claim form count problem rest bytes (ends.Fault faults.WrongCount) f begins h =
+fault_read claim form count problem rest bytes faults.WrongCount f begins h =
     record { claim = claim; count = count; problem = problem; rest = rest; begins = begins; later = f faults.WrongCount h }
-fault_read claim form count problem rest bytes (ends.Fault faults.NoEnd) f begins h =
+fault_read claim form count problem rest bytes faults.NoEnd f begins h =
     record { claim = claim; count = count; problem = problem; rest = rest; begins = begins; later = f faults.NoEnd h }
+
+-- The same of all that was read, where it isn't what the head names.
+pub not_all_found : {A : Type 0} (claim : Claim) (form : Form A) (count : ℕ) (problem : Board) (rest bytes : List ℕ) (entries : List A) (last : List ℕ) (why : LinesStop) (fault : CertFault)
+    → ((fault : CertFault) → HasLineFault form count rest fault → HasFaultBehind claim count problem rest fault)
+    → BeginsWith claim count problem rest bytes → AreRead form rest entries last why → (AreAll entries why count → ⊥) → fault ≡ fault_of why (length entries + 1) → HasFirstFault bytes fault
+not_all_found claim form count problem rest bytes entries last why fault f begins are not is =
+    fault_read claim form count problem rest bytes fault f begins
+    (subst (HasLineFault form count rest) (sym is) (not_all_read form rest entries last why count are not))
+
+-- The certificate of all that was read, where it is what the head names.
+pub all_found : {A : Type 0} (claim : Claim) (form : Form A) (count : ℕ) (problem : Board) (rest bytes : List ℕ) (entries found : List A) (last : List ℕ) (why : LinesStop)
+    → BeginsWith claim count problem rest bytes → AreRead form rest entries last why → found ≡ entries → AreAll found why count
+    → IsReadableOf form (record { problem = problem; entries = found }) × IsListingText claim form (record { problem = problem; entries = found }) bytes
+all_found claim form count problem rest bytes entries found last why begins are same all =
+    listing_read claim form bytes (sfen_of problem) rest count (record { problem = problem; entries = found }) begins.head refl begins.kept begins.is_problem
+    (subst (λ es. Ends form es rest) (sym same) (all_read form rest entries last why are all.0)) all.1
 
 -- What is passed on as it came is the same outcome.
 pub err_read : (bytes : List ℕ) (outcome : Result Certificate CertEnd) (end : CertEnd) → IsErr outcome → IsErrAnd outcome (λ found. found ≡ end) → IsCertificateOutcome bytes (Err end)

@@ -6,4 +6,5 @@ pub mod Text
 pub mod Reading
 pub mod FaultText
 pub mod Scan
+pub mod Lines
 pub mod Laws

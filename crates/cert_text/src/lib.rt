@@ -6,7 +6,8 @@
 //! twice, each is a problem of the same side to move, ranks are from 1 to [`mate_facts::MOST_RANK`], and moves have a text.
 //!
 //! [`CertificateOf`] is a certificate with entries of one kind ([`Entry`]); [`Certificate`] is one of either kind. [`read_cert`] and
-//! [`write_cert`] are its text both ways, and [`cert_laws`] are facts about all of them.
+//! [`write_cert`] are its text both ways, and [`cert_laws`] are facts about all of them. Who wants to read lines in several threads opens
+//! a text ([`OpenText`]), and reads stretches of its lines by themselves ([`read_lines`]).
 #![tactic(auto)]
 
 mod certificate;
@@ -15,6 +16,7 @@ mod fault;
 mod head;
 mod laws;
 mod limits;
+mod lines;
 mod parts;
 mod read;
 mod write;
@@ -25,6 +27,7 @@ pub use fault::{CertEnd, CertFault};
 pub use head::Claim;
 pub use laws::cert_laws;
 pub use limits::MOST_ENTRIES;
+pub use lines::{LinesStop, ReadLines, read_lines};
 pub use parts::{behind, cut, is_before, position_of_text, rank_of_text};
-pub use read::read_cert;
+pub use read::{OpenText, read_cert};
 pub use write::{append_cert, append_escape_cert, append_mate_cert, append_number, write_cert};

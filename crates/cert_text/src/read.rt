@@ -1,92 +1,118 @@
 // Texts as certificates.
-ghost use Rattle.std.specs.Prelude.{◌≡◌, IsTrue, ◌↔◌, codes};
+ghost use Rattle.std.specs.Prelude.{◌≡◌, ◌+◌, ℕ, List, Err, IfOk, IfErr, length};
 ghost use Rattle.cert_text.specs.declared.fault.CertFault.{CertFault};
 ghost use Rattle.cert_text.specs.declared.certificate.Certificate.{Certificate};
-ghost use Rattle.cert_text.specs.Reading.{IsCertificateOutcome, IsReadable, IsTextOf, IsReadAs, HasFirstFault, IsFaultAs};
-ghost use Rattle.cert_text.specs.Scan.{IsEntriesOutcome, IsEndFault};
+ghost use Rattle.cert_text.specs.Reading.{BeginsWith, IsCertificateOutcome, IsReadable, IsTextOf, IsReadAs, HasFirstFault, IsFaultAs};
+ghost use Rattle.cert_text.specs.Certificate.{mate_form, escape_form};
+ghost use Rattle.cert_text.specs.Lines.{IsReadOf, AreAll, fault_of};
+ghost use Rattle.cert_text.specs.declared.head.Claim.TheVariants.{Mate, Escape};
 
 use crate::head::{Claim, head_of};
-use crate::parts::{cut, is_before, problem_of_text};
+use crate::lines::{LinesStop, ReadLines, read_lines};
+use crate::parts::problem_of_text;
 use crate::{CertEnd, CertFault, Certificate, Entry, EscapeCertificate, MateCertificate};
+use board_core::Position;
+use mate_facts::MateEntry;
 use sfen_text::sfen_laws;
 use shogi_rules::Problem;
 use std::alloc::Global;
 use usi_text::move_laws;
 
-fn is_end(line: &[u8]) -> bool
-    ensures { IsTrue result ↔ (line.now ≡ codes "end") }
-{
-    line == b"end".as_slice()
+/// A certificate's text, of which the head and the problem are read, and the lines behind them aren't.
+#[derive(Drop)]
+pub struct OpenText<'a> {
+    /// What the certificate claims of its problem.
+    pub claim: Claim,
+    /// How many entries the head names.
+    pub count: u32,
+    /// The problem that the certificate is about.
+    pub problem: Problem,
+    /// The lines behind the problem's line, and what may stand behind them.
+    pub rest: &'a [u8],
 }
 
-// What is wrong where the line `end` comes behind so many entries.
-fn end_of(behind: &[u8], found: usize, count: u32) -> Result<(), CertFault>
-    ensures { IsEndFault found count behind.now result }
+// The entries of all lines behind a head that names so many, where they end as they have to.
+fn listed<E: Entry>(lines: ReadLines<'_, E>, count: u32) -> Result<Vec<E>, CertFault>
+    ensures all { IfOk result (λ found. AreAll found.items lines.entry.stop count) }
+    ensures same { IfOk result (λ found. found.items ≡ lines.entry.entries.items) }
+    ensures fault { IfErr result (λ fault. fault
+        ≡ fault_of lines.entry.stop (length lines.entry.entries.items + 1)) }
+    ensures not_all { IfErr result (λ _. ¬ AreAll lines.entry.entries.items lines.entry.stop count) }
 {
-    if !behind.is_empty() {
-        return Err(CertFault::NoEnd);
-    }
-    if found != count as usize {
-        return Err(CertFault::WrongCount);
-    }
-    Ok(())
-}
-
-// The entries up to the line `end`, in the lines behind a head that names so many.
-fn entries_of<E: Entry>(
-    alloc: Global,
-    text: &[u8],
-    problem: &Problem,
-    count: u32,
-    spelled: &mut Vec<u8>,
-) -> Result<Vec<E>, CertEnd>
-    ensures { IsEntriesOutcome (λ entries. entries.items) (E.form problem.now.position) count text.now result }
-{
-    // The empty text comes before every text of a position.
-    sfen_laws();
-    let mut entries = Vec::new(alloc);
-    let mut last: &[u8] = b"";
-    let mut rest = text;
-    while let Some((line, more)) = cut(rest, b'\n') {
-        if is_end(line) {
-            end_of(more, entries.len(), count)?;
-            return Ok(entries);
+    let number = lines.entries.len() as u64 + 1;
+    match lines.stop {
+        LinesStop::NoLine | LinesStop::Behind => Err(CertFault::NoEnd),
+        LinesStop::BadLine => Err(CertFault::BadLine(number)),
+        LinesStop::NotRising => Err(CertFault::NotRising(number)),
+        LinesStop::End => {
+            if lines.entries.len() != count as usize {
+                return Err(CertFault::WrongCount);
+            }
+            Ok(lines.entries)
         }
-        let number = entries.len() as u64 + 1;
-        let Some((entry, sfen)) = E::of_line(line, problem, spelled)? else {
-            return Err(CertEnd::Fault(CertFault::BadLine(number)));
+    }
+}
+
+impl<'a> OpenText<'a> {
+    /// Reads the head of a certificate's text, and its problem. Errors: a text without such a head, and want of memory.
+    pub fn open(alloc: Global, bytes: &'a [u8]) -> Result<OpenText<'a>, CertEnd>
+        ensures begins { IfOk result (λ text.
+            BeginsWith text.claim text.count text.problem.position text.rest.now bytes.now) }
+        ensures none { IfErr result (λ end. IsCertificateOutcome bytes.now (Err end)) }
+    {
+        let Some(head) = head_of(bytes) else {
+            return Err(CertEnd::Fault(CertFault::BadHead));
         };
-        if !is_before(last, sfen) {
-            return Err(CertEnd::Fault(CertFault::NotRising(number)));
-        }
-        entries.push(entry)?;
-        last = sfen;
-        rest = more;
+        let mut spelled = Vec::new(alloc);
+        let Some(problem) = problem_of_text(head.sfen, &mut spelled)? else {
+            return Err(CertEnd::Fault(CertFault::BadHead));
+        };
+        Ok(OpenText {
+            claim: head.claim,
+            count: head.count,
+            problem,
+            rest: head.rest,
+        })
     }
-    Err(CertEnd::Fault(CertFault::NoEnd))
+
+    /// The mate's certificate, from what was read of all its lines; else the text's first fault. Takes no memory.
+    pub fn mate(self, lines: ReadLines<'_, MateEntry>) -> Result<Certificate, CertEnd>
+        requires { IsReadOf (mate_form self.problem.position) lines self.rest.now }
+        ensures { (bytes : List ℕ)
+            → BeginsWith Mate self.entry.count self.entry.problem.position self.entry.rest.now bytes
+            → IsCertificateOutcome bytes result }
+    {
+        let entries = listed(lines, self.count)?;
+        Ok(Certificate::Mate(MateCertificate::new(self.problem, entries)))
+    }
+
+    /// The same of an escape's.
+    pub fn escape(self, lines: ReadLines<'_, Position>) -> Result<Certificate, CertEnd>
+        requires { IsReadOf (escape_form self.problem.position) lines self.rest.now }
+        ensures { (bytes : List ℕ)
+            → BeginsWith Escape self.entry.count self.entry.problem.position self.entry.rest.now bytes
+            → IsCertificateOutcome bytes result }
+    {
+        let entries = listed(lines, self.count)?;
+        Ok(Certificate::Escape(EscapeCertificate::new(self.problem, entries)))
+    }
 }
 
-fn certificate_of(
-    alloc: Global,
-    bytes: &[u8],
-    spelled: &mut Vec<u8>,
-) -> Result<Certificate, CertEnd>
+fn certificate_of(alloc: Global, bytes: &[u8]) -> Result<Certificate, CertEnd>
     ensures { IsCertificateOutcome bytes.now result }
 {
-    let Some(head) = head_of(bytes) else {
-        return Err(CertEnd::Fault(CertFault::BadHead));
+    let text = match OpenText::open(alloc, bytes) {
+        Ok(text) => text,
+        Err(end) => return Err(end),
     };
-    let Some(problem) = problem_of_text(head.sfen, spelled)? else {
-        return Err(CertEnd::Fault(CertFault::BadHead));
-    };
-    match head.claim {
+    match text.claim {
         Claim::Mate => {
-            let entries = entries_of(alloc, head.rest, &problem, head.count, spelled)?;
-            Ok(Certificate::Mate(MateCertificate::new(problem, entries)))
+            let lines = read_lines(alloc, text.rest, &text.problem)?;
+            text.mate(lines)
         }
         Claim::Escape => {
-            let entries = entries_of(alloc, head.rest, &problem, head.count, spelled)?;
-            Ok(Certificate::Escape(EscapeCertificate::new(problem, entries)))
+            let lines = read_lines(alloc, text.rest, &text.problem)?;
+            text.escape(lines)
         }
     }
 }
@@ -107,7 +133,5 @@ pub fn read_cert(alloc: Global, bytes: &[u8]) -> Result<Certificate, CertEnd>
     // No two positions, and no two moves, have one text.
     sfen_laws();
     move_laws();
-    // Room for each position's text, in which it is written for the comparison.
-    let mut spelled = Vec::new(alloc);
-    certificate_of(alloc, bytes, &mut spelled)
+    certificate_of(alloc, bytes)
 }

@@ -1,2 +1,3 @@
+pub mod Taken
 pub mod Promises
 pub mod Offered

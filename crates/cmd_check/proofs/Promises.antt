@@ -8,6 +8,9 @@ use Rattle.cert_text.specs.declared.head.Claim.{Claim}
 use Rattle.cert_text.specs.Kinds.{claim_of, positions_in, problem_of}
 use Rattle.cert_text.specs.Reading.{IsTextOf}
 use Rattle.cert_check.specs.Valid.{IsValid}
+use Rattle.cert_check.specs.Reasons.{IsVerdict}
+use Rattle.cert_check.specs.declared.verdict.Verdict.{Verdict}
+use Rattle.cert_check.specs.declared.verdict.Verdict.TheVariants as verdict
 use Rattle.shogi_rules.specs.declared.problem.Problem.{Problem as GivenProblem}
 use Rattle.app_texts.specs.declared.answer.Judgement.{Judgement}
 use Rattle.app_texts.specs.declared.answer.Judgement.TheVariants.{Accepted, Refused}
@@ -20,9 +23,14 @@ use Rattle.one_run.specs.Outside.{Shown, IsUntouched}
 use Rattle.one_run.specs.Run.{IsEnded, IsWellPosed}
 use Rattle.one_run.specs.Stops.{Signals}
 use Rattle.one_run.proofs.Offered.{took_it, unbegun_run}
+use Rattle.cmd_check.specs.Answer.{IsJudged, IsTrueOfCertificate}
 use Rattle.cmd_check.specs.Asked.{IsGivenFault, IsGivenProblem, IsJudgedFor, IsProblemAsked, given_form}
 use Rattle.cmd_check.specs.Headline.{IsBrokenOff, IsCertificateGiven, IsCheckRun, IsValidText}
 use Rattle.cmd_check.specs.Meaning.{check_meaning}
+
+-- a certificate has one verdict for a problem
+abbrev VerdictOnce : Type 0
+VerdictOnce = (c : Certificate) (p : Board) (one other : Verdict) → IsVerdict c p one → IsVerdict c p other → one ≡ other
 
 -- where the words give a problem with a fault, that is what is found
 pub stopped_is : OneReading → (text : Option (List ℕ)) (r : Result (Option GivenProblem) ProblemFault) → MatchResult r (IsGivenProblem text) (IsGivenFault text)
@@ -87,6 +95,43 @@ accepted_of one problem stops source sink input claim entries ended is told whol
   valid_is_accepted one problem stops source sink input claim entries ended is told whole,
 )
 
+-- one judgement is true of a certificate for a problem
+same_judgement : VerdictOnce → (p : Board) (c : Certificate) (one other : Judgement) → IsTrueOfCertificate p c one → IsTrueOfCertificate p c other → one ≡ other
+same_judgement once p c (Accepted claim entries) (Accepted claimed counted) s t =
+    let one_claim : claim ≡ claimed = s.is_claim ∙ sym t.is_claim in
+    let one_count : entries ≡ counted = s.count ∙ sym t.count in
+    cc
+same_judgement once p c (Accepted claim entries) (Refused entry why) s t = absurd (t.invalid s.valid)
+same_judgement once p c (Refused entry why) (Accepted claim entries) s t = absurd (s.invalid t.valid)
+same_judgement once p c (Refused entry why) (Refused number reason) s t =
+    let same = once c p (verdict.Refused entry why) (verdict.Refused number reason) s.first t.first in cc
+
+-- and of a text
+one_judgement : OneReading → VerdictOnce → (problem : Option (List ℕ)) (input : List ℕ) (one other : Judgement) → IsJudged problem input one
+    → IsJudged problem input other → one ≡ other
+one_judgement reading once problem input one other s t =
+    let same = s.only t.certificate t.read.0 t.read.1 in
+    let board = one_judged_for reading problem t.certificate s.certificate t.board s.board same t.judged_for s.judged_for in
+    same_judgement once s.board s.certificate one other s.true_of
+    (subst (λ (c : Certificate). IsTrueOfCertificate s.board c other) same
+    (subst (λ (p : Board). IsTrueOfCertificate p t.certificate other) board t.true_of))
+
+-- where the run wasn't broken off, it ended with the judgement that is true of the text
+pub told_of : OneReading → VerdictOnce → (problem : Option (List ℕ)) (stops : Signals) (source sink : Shown) (input : List ℕ) (judgement : Judgement)
+    (ended : Ended Judgement CertFault) → IsEnded (check_meaning problem) stops source sink ended → source.told ≡ Some input → ¬ IsBrokenOff ended
+    → IsJudged problem input judgement → ended ≡ Answered judgement
+told_of reading once problem stops source sink input judgement (Answered found) ended told whole is =
+    let d = ended.decided in
+    ap Answered (one_judgement reading once problem input found judgement
+    (subst (λ (i : List ℕ). IsJudged problem i found) (took_it source.told source.told_after d.input input told d.read.took) d.true_of) is)
+told_of reading once problem stops source sink input judgement (CutShort a) ended told whole is = absurd (whole tt)
+told_of reading once problem stops source sink input judgement (Failed (Text f) i) ended told whole is =
+    let text = subst (λ (x : List ℕ). IsTextOf is.certificate x) (sym (took_it source.told source.told_after i input told ended.0.0.took)) is.read.1 in
+    absurd (ended.0.1.none is.certificate is.read.0 text)
+told_of reading once problem stops source sink input judgement (Failed TooLong i) ended told whole is = absurd (whole tt)
+told_of reading once problem stops source sink input judgement (Failed Read i) ended told whole is = absurd (whole tt)
+told_of reading once problem stops source sink input judgement (Failed NoMemory i) ended told whole is = absurd (whole tt)
+
 -- what is a certificate's text has no fault
 pub posed_of : (problem : Option (List ℕ)) (left : Option (List ℕ)) → IsCertificateGiven left → IsWellPosed (check_meaning problem) left
 posed_of problem left given = record {
@@ -100,6 +145,7 @@ posed_of problem left given = record {
 pub unbegun_check : (problem : Option (List ℕ)) (source sink : Shown) → IsUntouched source → IsUntouched sink → IsCheckRun problem source sink (Failed NoMemory [])
 unbegun_check problem source sink unread unwritten = record {
   accepted = λ input claim entries told whole. absurd (whole tt);
+  same = λ input judgement told whole. absurd (whole tt);
   run = λ stops unused. unbegun_run (check_meaning problem) stops source sink unused unread unwritten;
   complete = λ given sound kept. inr ([], refl);
 }

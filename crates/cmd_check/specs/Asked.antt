@@ -8,11 +8,11 @@ use Rattle.tsume_words.specs.declared.form.Format.TheVariants.{Sfen}
 use Rattle.tsume_words.specs.declared.form.ProblemForm.{ProblemForm}
 use Rattle.app_texts.specs.declared.fault.ProblemFault.{ProblemFault}
 use Rattle.problem_answers.specs.Reading.{StandsFor}
-use Rattle.cmd_check.specs.declared.asked.Check.{Check}
+use Rattle.cmd_check.specs.declared.words.Check.{Check}
 
 -- The text of the problem that a certificate has to be for, where the words give one.
 abbrev pub check_in : Check → Option (List ℕ)
-check_in asked = option_map string_bytes asked.problem.now
+check_in asked = option_map string_bytes asked.problem
 
 -- The words give a certificate's problem as an SFEN, just as it stands.
 abbrev pub given_form : ProblemForm

@@ -17,6 +17,7 @@ use Rattle.cmd_check.specs.declared.asked.TheConstants.{MOST_CERTIFICATE_BYTES}
 use Rattle.one_run.specs.Outside.{Shown}
 use Rattle.one_run.specs.Run.{IsAnswered, IsRun, WantsMemory}
 use Rattle.one_run.specs.Stops.{Signals, AreUnused}
+use Rattle.cmd_check.specs.Answer.{IsJudged}
 use Rattle.cmd_check.specs.Asked.{IsJudgedFor}
 use Rattle.cmd_check.specs.Meaning.{check_meaning}
 
@@ -55,6 +56,8 @@ pub record IsCertificateGiven (left : Option (List ℕ)) : Type 0 where
 pub record IsCheckRun (problem : Option (List ℕ)) (source sink : Shown) (ended : Ended Judgement CertFault) : Type 0 where
   pub accepted : (input : List ℕ) (claim : Claim) (entries : ℕ) → source.told ≡ Some input → ¬ IsBrokenOff ended
       → ((ended ≡ Answered (Accepted claim entries)) ↔ IsValidText problem input claim entries)
+  pub same : (input : List ℕ) (judgement : Judgement) → source.told ≡ Some input → ¬ IsBrokenOff ended → IsJudged problem input judgement
+      → ended ≡ Answered judgement
   pub run : (stops : Signals) → AreUnused stops → IsRun (check_meaning problem) stops source sink ended
   pub complete : IsCertificateGiven source.told → ¬ Rose source.faults source.faults_after
       → ¬ Rose sink.faults sink.faults_after → IsAnswered ended ⊎ WantsMemory ended

@@ -2,4 +2,6 @@
 pub mod Answer
 pub mod Asked
 pub mod Headline
+pub mod Line
 pub mod Meaning
+pub mod Words

@@ -1,7 +1,8 @@
-// What `check` is asked, and what it is as a command.
+// What `check` is as a command, and the problem that it is asked to check for.
 ghost use Rattle.std.specs.Prelude.{◌≡◌, Err, MatchResult};
 ghost use Rattle.cmd_check.specs.Asked.{IsGivenFault, IsGivenProblem, check_in};
 
+use crate::Check;
 use app_texts::{Judgement, ProblemFault, judgement_text};
 use cert_text::CertFault;
 use one_run::Command;
@@ -13,15 +14,7 @@ use tsume_words::{Format, ProblemForm};
 /// The most bytes that the text of a certificate may have.
 pub const MOST_CERTIFICATE_BYTES: usize = 268_435_456;
 
-/// What `check` is asked.
-#[derive(Clone, Copy, Debug)]
-pub struct Check<'a> {
-    /// The text of the problem that the certificate has to be for, an SFEN, as the words have it;
-    /// none where its own problem is meant.
-    pub problem: &'a Option<String>,
-}
-
-impl<'a> Command for Check<'a> {
+impl Command for Check {
     ghost use Rattle.cmd_check.specs.Asked.{check_in};
     ghost use Rattle.cmd_check.specs.Meaning.{check_meaning};
 
@@ -40,11 +33,11 @@ impl<'a> Command for Check<'a> {
     }
 }
 
-fn problem_in(asked: &Check<'_>) -> Result<Option<Problem>, ProblemFault>
+fn problem_in(asked: &Check) -> Result<Option<Problem>, ProblemFault>
     ensures { MatchResult result (IsGivenProblem (check_in asked.now))
         (IsGivenFault (check_in asked.now)) }
 {
-    let Some(text) = asked.problem else {
+    let Some(text) = &asked.problem else {
         return Ok(None);
     };
     let form = ProblemForm {
@@ -56,7 +49,7 @@ fn problem_in(asked: &Check<'_>) -> Result<Option<Problem>, ProblemFault>
 
 /// The problem that the words give for a certificate, where they give one. Takes no memory. Errors:
 /// the first fault of its text.
-pub fn asked_problem(asked: &Check<'_>) -> Result<Option<Problem>, ProblemFault>
+pub fn asked_problem(asked: &Check) -> Result<Option<Problem>, ProblemFault>
     ensures found { MatchResult result (IsGivenProblem (check_in asked.now))
         (IsGivenFault (check_in asked.now)) }
     // No fault is passed over.

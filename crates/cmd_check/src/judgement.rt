@@ -7,11 +7,15 @@ ghost use Rattle.cmd_check.specs.Asked.{IsGivenProblem, IsJudgedFor};
 ghost use Rattle.cmd_check.specs.Meaning.{check_meaning};
 
 use app_texts::Judgement;
-use cert_check::{Verdict, check};
-use cert_text::{CertEnd, CertFault, Certificate, cert_laws, read_cert};
+use cert_check::Verdict;
+use cert_text::{CertEnd, CertFault, Certificate, cert_laws};
 use one_run::Unanswered;
 use shogi_rules::Problem;
+use side_by_side::MOST_MEMBERS;
 use std::alloc::{AllocError, Global};
+use std::thread::Threads;
+use wide_check::check_wide;
+use wide_read::read_wide;
 
 // The problem for which a certificate is judged: the one that is asked about, else its own.
 fn problem_for<'a>(asked: &'a Option<Problem>, certificate: &'a Certificate) -> &'a Problem
@@ -24,14 +28,25 @@ fn problem_for<'a>(asked: &'a Option<Problem>, certificate: &'a Certificate) -> 
     }
 }
 
-fn judgement_of(
+// How many pieces the lines are read in at a time, and the entries checked: as many as the words say,
+// or else as many as there can be.
+fn pieces(workers: Option<u32>) -> usize {
+    match workers {
+        Some(workers) => workers as usize,
+        None => MOST_MEMBERS,
+    }
+}
+
+fn judgement_of<R: Threads + Sync>(
+    rt: &R,
     alloc: Global,
     problem: &Problem,
     certificate: &Certificate,
+    workers: Option<u32>,
 ) -> Result<Judgement, AllocError>
     ensures { IfOk result (IsTrueOfCertificate problem.now.position certificate.now) }
 {
-    match check(alloc, problem, certificate)? {
+    match check_wide(rt, alloc, problem, certificate, pieces(workers))? {
         Verdict::Accepted => Ok(Judgement::Accepted {
             claim: certificate.claim(),
             entries: certificate.count() as u64,
@@ -41,10 +56,12 @@ fn judgement_of(
 }
 
 /// What is answered to the bytes of a certificate's text: the checker's judgement for the problem
-/// that is asked about, or for its own; or their first fault.
-pub(crate) fn answer(
+/// that is asked about, or for its own; or their first fault. So many workers read and check.
+pub(crate) fn answer<R: Threads + Sync>(
+    rt: &R,
     alloc: Global,
     asked: &Option<Problem>,
+    workers: Option<u32>,
     input: &[u8],
 ) -> Result<Judgement, Unanswered<CertFault>>
     ensures { (text : Option (List ℕ)) (stops : Signals) → IsGivenProblem text asked.now
@@ -52,13 +69,13 @@ pub(crate) fn answer(
 {
     // No text has two first faults.
     cert_laws();
-    let certificate = match read_cert(alloc, input) {
+    let certificate = match read_wide(rt, alloc, input, pieces(workers)) {
         Ok(certificate) => certificate,
         Err(CertEnd::Fault(fault)) => return Err(Unanswered::Text(fault)),
         Err(CertEnd::NoMemory) => return Err(Unanswered::NoMemory),
     };
     let problem = problem_for(asked, &certificate);
-    match judgement_of(alloc, problem, &certificate) {
+    match judgement_of(rt, alloc, problem, &certificate, workers) {
         Ok(judgement) => Ok(judgement),
         Err(_) => Err(Unanswered::NoMemory),
     }

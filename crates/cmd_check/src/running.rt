@@ -5,6 +5,7 @@ ghost use Rattle.tsume_io.specs.Faults.{Rose};
 ghost use Rattle.one_run.specs.Outside.{shown};
 ghost use Rattle.one_run.specs.Run.{IsAnswered, IsRun, WantsMemory};
 ghost use Rattle.one_run.specs.Stops.{Signals, AreUnused};
+ghost use Rattle.cmd_check.specs.Answer.{IsJudged};
 ghost use Rattle.cmd_check.specs.Asked.{IsGivenProblem, check_in};
 ghost use Rattle.cmd_check.specs.Headline.{IsBrokenOff, IsCertificateGiven, IsValidText};
 ghost use Rattle.cmd_check.specs.Meaning.{check_meaning};
@@ -12,17 +13,20 @@ ghost use Rattle.cmd_check.specs.Meaning.{check_meaning};
 use crate::Check;
 use crate::judgement::answer;
 use app_texts::Judgement;
+use cert_check::verdict_laws;
 use cert_text::CertFault;
 use one_run::{Ended, read, tell};
 use problem_answers::problem_laws;
 use shogi_rules::Problem;
 use std::alloc::Global;
+use std::thread::Threads;
 use tsume_io::{Sink, Source};
 
 // Reads the text, answers it and tells the answer.
-fn check_through<S: Source, K: Sink>(
+fn check_through<R: Threads + Sync, S: Source, K: Sink>(
+    rt: &R,
     alloc: Global,
-    asked: &Check<'_>,
+    asked: &Check,
     problem: &Option<Problem>,
     source: &mut S,
     sink: &mut K,
@@ -36,7 +40,7 @@ fn check_through<S: Source, K: Sink>(
         Ok(input) => input,
         Err(ended) => return ended,
     };
-    let answer = answer(alloc, problem, &input);
+    let answer = answer(rt, alloc, problem, asked.workers, &input);
     tell(alloc, asked, input, answer, sink)
 }
 
@@ -45,11 +49,13 @@ fn check_through<S: Source, K: Sink>(
 /// answer: writes to the sink whether it is valid for its own problem, or for the one that the words
 /// give, which was accepted ([`asked_problem`](crate::asked_problem)), or the first reason why it
 /// isn't. A certificate of another problem isn't valid for it. Positions are compared, and not
-/// texts. Errors: a text that is no certificate, with its first fault, or is too long; a source or a
+/// texts. The entries are checked side by side, by as many workers as are asked for, or as there are
+/// processors ([`check_wide`](wide_check::check_wide)). Errors: a text that is no certificate, with its first fault, or is too long; a source or a
 /// sink that failed; want of memory.
-pub fn check<S: Source, K: Sink>(
+pub fn check<R: Threads + Sync, S: Source, K: Sink>(
+    rt: &R,
     alloc: Global,
-    asked: &Check<'_>,
+    asked: &Check,
     problem: &Option<Problem>,
     source: &mut S,
     sink: &mut K,
@@ -62,6 +68,12 @@ pub fn check<S: Source, K: Sink>(
         → S.left source.old ≡ Some input → ¬ IsBrokenOff result
         → ((result ≡ Ended.Answered (Judgement.Accepted claim entries))
         ↔ IsValidText (check_in asked.now) input claim entries) }
+
+    // The number of workers changes no byte: where it wasn't broken off, it ends with whatever
+    // judgement is true of the bytes, for this problem, and there is one at most.
+    ensures same { (input : List ℕ) (judgement : Judgement) → S.left source.old ≡ Some input
+        → ¬ IsBrokenOff result → IsJudged (check_in asked.now) input judgement
+        → result ≡ Ended.Answered judgement }
 
     // In full: what it means by an answer and by each fault; no stop is used; the counts of faults
     // rise only where the run ends for it.
@@ -76,7 +88,8 @@ pub fn check<S: Source, K: Sink>(
         → ¬ Rose (S.faults source.old) (S.faults source.new)
         → ¬ Rose (K.faults sink.old) (K.faults sink.new) → IsAnswered result ⊎ WantsMemory result }
 {
-    // No text stands for two problems.
+    // No text stands for two problems, and no certificate has two verdicts for one.
     problem_laws();
-    check_through(alloc, asked, problem, source, sink)
+    verdict_laws();
+    check_through(rt, alloc, asked, problem, source, sink)
 }

@@ -1,3 +1,4 @@
+pub mod Taken
 pub mod Armed
 pub mod Promises
 pub mod Verdict

@@ -9,15 +9,18 @@ use Rattle.cert_check.specs.Valid.{ValidMate, ValidEscape}
 use Rattle.play_line.specs.Line.{IsMainLine}
 use Rattle.search_limits.specs.declared.cause.Cause.{Cause}
 use Rattle.visit_log.specs.Run.{WorkerView}
+use Rattle.app_texts.specs.declared.answer.Solution.{Solution}
 use Rattle.app_texts.specs.declared.answer.Solution.TheVariants.{Mate, NoMate, Unknown}
+use Rattle.app_texts.specs.declared.fault.ProblemFault.{ProblemFault}
 use Rattle.problem_answers.specs.Answer.{IsAcceptedFor}
 use Rattle.problem_answers.specs.Reading.{OneReading, StandsFor}
+use Rattle.one_run.specs.declared.ended.Ended.{Ended}
 use Rattle.one_run.specs.declared.ended.Ended.TheVariants.{Answered, Failed}
 use Rattle.one_run.specs.declared.ended.Fault.TheVariants.{NoMemory}
 use Rattle.one_run.proofs.Offered.{took_it, unbegun_run}
 use Rattle.one_run.specs.Outside.{Shown, IsUntouched}
-use Rattle.one_run.specs.Run.{IsEnded, IsWellPosed}
-use Rattle.one_run.specs.Stops.{Signals, AreUnused}
+use Rattle.one_run.specs.Run.{IsEnded, IsRun, IsWellPosed}
+use Rattle.one_run.specs.Stops.{Signals, AreUnused, once_armed}
 use Rattle.cmd_solve.specs.Headline.{StandsForMate, StandsForNoMate, StandsForUnknown, NamesMate, NamesNoMate, IsProblemGiven, IsSolveRun}
 use Rattle.cmd_solve.specs.Meaning.{SolveView, solve_meaning}
 
@@ -52,7 +55,7 @@ no_mate_of asked stops source sink input c ended told =
 
 pub unknown_of : (asked : SolveView) (stops : Signals) (source sink : Shown) (input : List ℕ) (cause : Cause) (crew : List WorkerView)
     → IsEnded (solve_meaning asked) stops source sink (Answered (Unknown cause crew)) → source.told ≡ Some input
-    → StandsForUnknown asked.form asked.settings stops input cause crew
+    → StandsForUnknown asked.form asked.settings (once_armed asked.watch.deadline stops) input cause crew
 unknown_of asked stops source sink input cause crew ended told =
     let d = ended.decided in
     record {
@@ -96,6 +99,24 @@ posed_of one asked left given = record {
   short = given.short;
   faultless = λ fault is. let same = one asked.form given.input (Ok given.problem) (Err fault) given.stands_for is in absurd (cc);
 }
+
+-- a run of `solve` keeps all that it promises
+pub solve_run : OneReading → (asked : SolveView) (stops : Signals) (source sink : Shown) (ended : Ended Solution ProblemFault)
+    → IsRun (solve_meaning asked) stops source sink ended → IsSolveRun asked stops source sink ended
+solve_run one asked stops source sink ended run = record {
+  mate = λ input c moves told is. mate_of asked stops source sink input c moves (at is) told;
+  no_mate = λ input c told is. no_mate_of asked stops source sink input c (at is) told;
+  gave_up = λ input cause crew told is. unknown_of asked stops source sink input cause crew (at is) told;
+  own_mate = λ c moves is. own_mate_of asked stops source sink c moves (at is);
+  own_no_mate = λ c is. own_no_mate_of asked stops source sink c (at is);
+  does = run.does;
+  used = run.used;
+  counted = run.counted;
+  complete = λ given sound kept. run.complete (posed_of one asked source.told given) sound kept;
+}
+  where
+    at : {other : Ended Solution ProblemFault} → ended ≡ other → IsEnded (solve_meaning asked) stops source sink other
+    at is = subst (λ (e : Ended Solution ProblemFault). IsEnded (solve_meaning asked) stops source sink e) is run.does
 
 -- a run that wanted memory before it began keeps all that `solve` promises
 pub unbegun_solve : (asked : SolveView) (stops : Signals) (source sink : Shown) → AreUnused stops → IsUntouched source → IsUntouched sink

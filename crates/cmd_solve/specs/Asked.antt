@@ -1,6 +1,6 @@
 -- What `solve` is asked.
 use Rattle.search_limits.specs.Settings.{settings_in}
-use Rattle.tsume_words.specs.Meaning.{watch_in}
+use Rattle.tsume_words.specs.Given.{watch_in}
 use Rattle.cmd_solve.specs.declared.asked.Solve.{Solve}
 use Rattle.cmd_solve.specs.Meaning.{SolveView}
 

@@ -24,7 +24,7 @@ use Rattle.one_run.specs.declared.ended.Ended.{Ended}
 use Rattle.one_run.specs.declared.ended.Ended.TheVariants.{Answered}
 use Rattle.one_run.specs.Outside.{Shown}
 use Rattle.one_run.specs.Run.{IsEnded, AreUsedTill, IsCounted, IsAnswered, WantsMemory}
-use Rattle.one_run.specs.Stops.{Signals}
+use Rattle.one_run.specs.Stops.{Signals, once_armed}
 use Rattle.cmd_solve.specs.Answer.{IsTrueOf}
 use Rattle.cmd_solve.specs.Meaning.{SolveView, solve_meaning}
 
@@ -52,7 +52,7 @@ pub record StandsForNoMate (form : ProblemForm) (input : List ℕ) (c : Escaping
   pub text : IsTextOf (certificates.Escape c) (solution_text (NoMate c))
 
 -- The bytes stand for a problem of which neither is told. It was given up: a search with these
--- settings, alone, ends for the cause, which its worker met: a limit was used up, or a stop was
+-- settings ends for the cause, which a worker of it met: a limit was used up, or its stop
 -- signalled. Or that search found a note that answers it, and a walk through its tree meets more
 -- positions of the attacker than a certificate is read with.
 pub record StandsForUnknown (form : ProblemForm) (settings : SettingsView) (stops : Signals) (input : List ℕ) (cause : Cause) (crew : List WorkerView) : Type 0 where
@@ -94,7 +94,8 @@ pub record IsSolveRun (asked : SolveView) (stops : Signals) (source sink : Shown
   pub no_mate : (input : List ℕ) (c : Escaping) → source.told ≡ Some input
       → ended ≡ Answered (NoMate c) → StandsForNoMate asked.form input c
   pub gave_up : (input : List ℕ) (cause : Cause) (crew : List WorkerView) → source.told ≡ Some input
-      → ended ≡ Answered (Unknown cause crew) → StandsForUnknown asked.form asked.settings stops input cause crew
+      → ended ≡ Answered (Unknown cause crew)
+      → StandsForUnknown asked.form asked.settings (once_armed asked.watch.deadline stops) input cause crew
   pub own_mate : (c : Mating) (moves : List Move) → ended ≡ Answered (Mate c moves)
       → NamesMate c moves
   pub own_no_mate : (c : Escaping) → ended ≡ Answered (NoMate c) → NamesNoMate c

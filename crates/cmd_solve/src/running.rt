@@ -1,5 +1,5 @@
 // A run of `solve`.
-ghost use Rattle.std.specs.Prelude.{◌≡◌, ◌<◌, ◌⊎◌, ℕ, List, Some, length};
+ghost use Rattle.std.specs.Prelude.{◌≡◌, ◌<◌, ◌≤◌, ◌⊎◌, ℕ, List, Some, length};
 ghost use Rattle.board_core.specs.declared.moves.Move.{Move};
 ghost use Rattle.cert_text.specs.Certificate.{Mating, Escaping};
 ghost use Rattle.search_limits.specs.declared.cause.Cause.{Cause};
@@ -7,22 +7,24 @@ ghost use Rattle.visit_log.specs.Run.{WorkerView};
 ghost use Rattle.tsume_io.specs.Faults.{Rose};
 ghost use Rattle.one_run.specs.Outside.{shown};
 ghost use Rattle.one_run.specs.Run.{IsEnded, AreUsedTill, IsCounted, IsAnswered, IsRun, WantsMemory};
-ghost use Rattle.one_run.specs.Stops.{signals};
+ghost use Rattle.one_run.specs.Stops.{once_armed, signals};
 ghost use Rattle.cmd_solve.specs.Asked.{solve_in};
-ghost use Rattle.cmd_solve.specs.Headline.{IsProblemGiven, NamesMate, NamesNoMate, StandsForMate, StandsForNoMate, StandsForUnknown};
+ghost use Rattle.cmd_solve.specs.Headline.{IsProblemGiven, NamesMate, NamesNoMate, StandsForMate, StandsForNoMate, StandsForUnknown, IsSolveRun};
 ghost use Rattle.cmd_solve.specs.Meaning.{solve_meaning};
 
 use crate::Solve;
-use crate::solution::answer;
+use crate::solution::{answer, answer_alone};
 use app_texts::{ProblemFault, Solution};
 use one_run::{Ended, read, tell};
 use problem_answers::problem_laws;
 use search_gate::{Gate, Stop};
 use std::alloc::Global;
+use std::sync::Wait;
+use std::thread::Threads;
 use tsume_io::{Sink, Source};
 
-// Reads the text, answers it and tells the answer.
-fn solve_through<S: Source, K: Sink, G: Gate, T: Stop>(
+// Reads the text, answers it by one worker, and tells the answer.
+fn alone_through<S: Source, K: Sink, G: Gate, T: Stop>(
     alloc: Global,
     asked: &Solve,
     source: &mut S,
@@ -30,7 +32,8 @@ fn solve_through<S: Source, K: Sink, G: Gate, T: Stop>(
     gate: &G,
     stops: &mut [T],
 ) -> Ended<Solution, ProblemFault>
-    requires { 0 < length stops.old }
+    requires alone { asked.now.settings.workers ≡ 1 }
+    requires stops { 0 < length stops.old }
     ensures { IsRun (solve_meaning (solve_in asked.now))
         (signals T.signal stops.old stops.new)
         (shown S.left S.faults source.old source.new)
@@ -40,27 +43,53 @@ fn solve_through<S: Source, K: Sink, G: Gate, T: Stop>(
         Ok(input) => input,
         Err(ended) => return ended,
     };
-    let answer = answer(alloc, asked, &input, gate, stops);
+    let answer = answer_alone(alloc, asked, &input, gate, stops);
+    tell(alloc, asked, input, answer, sink)
+}
+
+// Reads the text, answers it by all workers, and tells the answer.
+fn solve_through<R: Threads + Wait + Sync, S: Source, K: Sink, G: Gate, T: Stop + Drop>(
+    rt: &R,
+    alloc: Global,
+    asked: &Solve,
+    source: &mut S,
+    sink: &mut K,
+    gate: &G,
+    stops: &mut Vec<T>,
+) -> Ended<Solution, ProblemFault>
+    requires { asked.now.settings.workers ≤ length stops.old.items }
+    ensures { IsRun (solve_meaning (solve_in asked.now))
+        (signals T.signal stops.old.items stops.new.items)
+        (shown S.left S.faults source.old source.new)
+        (shown K.kept K.faults sink.old sink.new) result }
+{
+    let input = match read(alloc, asked, source) {
+        Ok(input) => input,
+        Err(ended) => return ended,
+    };
+    let answer = answer(rt, alloc, asked, &input, gate, stops);
     tell(alloc, asked, input, answer, sink)
 }
 
 /// Solves the problem of the text that the source gives, an SFEN or the board diagram of a KIF
 /// file, of at most [`MOST_PROBLEM_BYTES`](problem_lines::MOST_PROBLEM_BYTES): writes to the sink
 /// the USI answer that it is a mate, with a main line, or that it is none, and the certificate; or,
-/// where a limit was used up first, the first stop signalled, or the certificate might have more
+/// where a limit was used up first, a worker's stop signalled, or the certificate might have more
 /// entries than are read, that it is unknown, and why. Errors: a text that is no problem, with its
 /// first fault, or is too long; a source or a sink that failed; want of memory. The gate is passed
-/// for each visit of a position, as worker 1 (no clause says it). (The tsume rule; USI protocol:
+/// for each visit of a position, as the worker that visits it (no clause says it). (The tsume rule; USI protocol:
 /// `checkmate`.)
-pub fn solve<S: Source, K: Sink, G: Gate, T: Stop>(
+pub fn solve<R: Threads + Wait + Sync, S: Source, K: Sink, G: Gate, T: Stop + Drop>(
+    rt: &R,
     alloc: Global,
     asked: &Solve,
     source: &mut S,
     sink: &mut K,
     gate: &G,
-    stops: &mut [T],
+    stops: &mut Vec<T>,
 ) -> Ended<Solution, ProblemFault>
-    requires { 0 < length stops.old }
+    // There is a stop for each worker.
+    requires { asked.now.settings.workers ≤ length stops.old.items }
     // In plain words. Where it ended with a mate, the bytes that the source had left stand for a
     // problem that is a mate, the certificate is valid for it and can be read, and the moves are
     // its main line.
@@ -74,13 +103,14 @@ pub fn solve<S: Source, K: Sink, G: Gate, T: Stop>(
         → result ≡ Ended.Answered (Solution.NoMate c) → StandsForNoMate asked.now.form input c }
 
     // Where neither is told, one of the stated limits was used up: the expansions, the room for
-    // notes, or their height, and the worker that met it is told; or the first stop signalled; or
-    // the note that was found has more positions than a certificate is read with.
+    // notes, or their height, and all workers are told, one of which met it; or a worker's stop
+    // signalled; or the note that was found has more positions than a certificate is read with.
     ensures gave_up { (input : List ℕ) (cause : Cause) (crew : List WorkerView)
         → S.left source.old ≡ Some input
         → result ≡ Ended.Answered (Solution.Unknown cause crew)
         → StandsForUnknown asked.now.form (solve_in asked.now).settings
-        (signals T.signal stops.old stops.new) input cause crew }
+        (once_armed (solve_in asked.now).watch.deadline
+        (signals T.signal stops.old.items stops.new.items)) input cause crew }
 
     // Whatever the source tells of its bytes, as a file tells nothing: what ended with a mate names
     // one, and what ended with no mate a problem that is none; and both can be read.
@@ -91,15 +121,15 @@ pub fn solve<S: Source, K: Sink, G: Gate, T: Stop>(
 
     // In full: what it means by an answer and by each fault.
     ensures ended { IsEnded (solve_meaning (solve_in asked.now))
-        (signals T.signal stops.old stops.new)
+        (signals T.signal stops.old.items stops.new.items)
         (shown S.left S.faults source.old source.new)
         (shown K.kept K.faults sink.old sink.new) result }
 
     // Each stop is armed once, for the deadline or for none, where the text stands for a problem,
-    // the first before it is polled; and only the first is polled. Else no stop is used; where
-    // memory is wanted, either.
+    // before any is polled; and only the workers' are polled, worker w's at place w. Else no stop is
+    // used; where memory is wanted, either.
     ensures used { AreUsedTill (solve_meaning (solve_in asked.now))
-        (signals T.signal stops.old stops.new) result }
+        (signals T.signal stops.old.items stops.new.items) result }
 
     // The source's count of faults rises only where the run ends for it, and the sink's likewise.
     ensures counted { IsCounted (shown S.left S.faults source.old source.new)
@@ -113,5 +143,26 @@ pub fn solve<S: Source, K: Sink, G: Gate, T: Stop>(
 {
     // What stands for a problem has no fault.
     problem_laws();
-    solve_through(alloc, asked, source, sink, gate, stops)
+    solve_through(rt, alloc, asked, source, sink, gate, stops)
+}
+
+/// The same by one worker: it waits for nobody, so it returns where source, sink, gate and stops do.
+pub fn solve_alone<S: Source, K: Sink, G: Gate, T: Stop>(
+    alloc: Global,
+    asked: &Solve,
+    source: &mut S,
+    sink: &mut K,
+    gate: &G,
+    stops: &mut [T],
+) -> Ended<Solution, ProblemFault>
+    requires alone { asked.now.settings.workers ≡ 1 }
+    requires stops { 0 < length stops.old }
+    ensures { IsSolveRun (solve_in asked.now)
+        (signals T.signal stops.old stops.new)
+        (shown S.left S.faults source.old source.new)
+        (shown K.kept K.faults sink.old sink.new) result }
+{
+    // What stands for a problem has no fault.
+    problem_laws();
+    alone_through(alloc, asked, source, sink, gate, stops)
 }

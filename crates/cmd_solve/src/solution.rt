@@ -1,67 +1,117 @@
 // What is found of the problem of a text.
-ghost use Rattle.std.specs.Prelude.{◌<◌, length, IfOk};
-ghost use Rattle.search_limits.specs.Settings.{settings_in};
+ghost use Rattle.std.specs.Prelude.{◌≡◌, ◌<◌, ◌≤◌, length, Ok, Err, IfOk, IfErr};
+ghost use Rattle.search_limits.specs.Sizes.{SettingsView};
+ghost use Rattle.search_pool.specs.End.{IsSolution as IsSolved};
+ghost use Rattle.search_crew.specs.End.{IsSearchEnd};
 ghost use Rattle.app_texts.specs.Texts.{HasLine};
 ghost use Rattle.one_run.specs.Command.{IsAnswer};
-ghost use Rattle.one_run.specs.Stops.{AreUsed, signals};
+ghost use Rattle.one_run.specs.Stops.{Signals, signals};
+ghost use Rattle.one_run.specs.declared.command.Unanswered.TheVariants.{Text, NoMemory};
+ghost use Rattle.problem_answers.specs.Reading.{StandsFor};
 ghost use Rattle.cmd_solve.specs.Answer.{IsTrueOf};
 ghost use Rattle.cmd_solve.specs.Asked.{solve_in};
 ghost use Rattle.cmd_solve.specs.Meaning.{solve_meaning};
 
 use crate::Solve;
-use crate::stops::search_armed;
+use crate::stops::arm_each;
 use app_texts::{ProblemFault, Solution};
 use one_run::Unanswered;
 use problem_answers::{read_problem, verdict};
+use search_crew::{search, search_by_one};
 use search_gate::{Gate, Stop};
-use search_limits::Settings;
 use search_pool::SearchEnd;
 use shogi_rules::Problem;
 use std::alloc::{AllocError, Global};
+use std::sync::Wait;
+use std::thread::Threads;
 
-// What a search of a problem comes to, with these settings, after each stop was armed for the deadline
-// or for none: a verdict, or that it gave up. Errors: want of memory alone.
-fn solution_of<G: Gate, T: Stop>(
-    alloc: Global,
-    problem: &Problem,
-    settings: &Settings,
-    deadline: Option<u64>,
-    gate: &G,
-    stops: &mut [T],
-) -> Result<Solution, AllocError>
-    requires { 0 < length stops.old }
-    ensures true_of { let used = signals T.signal stops.old stops.new in
-        IfOk result (IsTrueOf problem.now.position (settings_in settings.now) used) }
+// What a search of the problem that ended so tells: a verdict, or that it gave up. Errors: want of
+// memory alone.
+fn solution_of(alloc: Global, problem: &Problem, end: SearchEnd) -> Result<Solution, AllocError>
+    requires { IsSolved problem.now.position end }
+    ensures true_of { (s : SettingsView) (stops : Signals)
+        → IsSearchEnd problem.now.position s stops.before stops.after end
+        → IfOk result (IsTrueOf problem.now.position s stops) }
     ensures line { IfOk result HasLine }
-    ensures used { AreUsed deadline (signals T.signal stops.old stops.new) }
 {
-    match search_armed(alloc, problem, settings, deadline, gate, stops)? {
+    match end {
         SearchEnd::Solved(note) => verdict(alloc, problem, &note),
         SearchEnd::Unknown(cause, crew) => Ok(Solution::Unknown(cause, crew)),
     }
 }
 
-/// What is answered to the bytes of a problem's text: a verdict on the problem that they stand for, or
-/// that it was given up; or their first fault.
-pub(crate) fn answer<G: Gate, T: Stop>(
+// The same, or that memory was wanted, here or in the search.
+fn told(
+    alloc: Global,
+    problem: &Problem,
+    end: Result<SearchEnd, AllocError>,
+) -> Result<Solution, Unanswered<ProblemFault>>
+    requires { IfOk end (IsSolved problem.now.position) }
+    ensures true_of { (s : SettingsView) (stops : Signals)
+        → IfOk end (IsSearchEnd problem.now.position s stops.before stops.after)
+        → IfOk result (IsTrueOf problem.now.position s stops) }
+    ensures memory { IfErr result (λ why. why ≡ NoMemory) }
+    ensures line { IfOk result HasLine }
+{
+    let Ok(end) = end else {
+        return Err(Unanswered::NoMemory);
+    };
+    match solution_of(alloc, problem, end) {
+        Ok(solution) => Ok(solution),
+        Err(_) => Err(Unanswered::NoMemory),
+    }
+}
+
+// The problem that the bytes of a text stand for, or the text's first fault.
+fn posed(asked: &Solve, input: &[u8]) -> Result<Problem, Unanswered<ProblemFault>>
+    ensures problem { IfOk result
+        (λ problem. StandsFor asked.now.form input.now (Ok problem.position)) }
+    ensures fault { IfErr result (λ why. (fault : ProblemFault) × (why ≡ Text fault)
+        × StandsFor asked.now.form input.now (Err fault)) }
+{
+    match read_problem(input, asked.form) {
+        Ok(problem) => Ok(problem),
+        Err(fault) => Err(Unanswered::Text(fault)),
+    }
+}
+
+/// What is answered to the bytes of a problem's text by one worker, which polls the first stop: a verdict
+/// on the problem that they stand for, or that it was given up; or their first fault.
+pub(crate) fn answer_alone<G: Gate, T: Stop>(
     alloc: Global,
     asked: &Solve,
     input: &[u8],
     gate: &G,
     stops: &mut [T],
 ) -> Result<Solution, Unanswered<ProblemFault>>
-    requires { 0 < length stops.old }
+    requires alone { asked.now.settings.workers ≡ 1 }
+    requires stops { 0 < length stops.old }
     ensures answer { IsAnswer (solve_meaning (solve_in asked.now))
         (signals T.signal stops.old stops.new) input.now result }
     ensures line { IfOk result HasLine }
 {
-    let problem = match read_problem(input, asked.form) {
-        Ok(problem) => problem,
-        Err(fault) => return Err(Unanswered::Text(fault)),
-    };
-    let (settings, deadline) = (&asked.settings, asked.watch.deadline);
-    match solution_of(alloc, &problem, settings, deadline, gate, stops) {
-        Ok(solution) => Ok(solution),
-        Err(_) => Err(Unanswered::NoMemory),
-    }
+    let problem = posed(asked, input)?;
+    arm_each(stops, asked.watch.deadline);
+    let end = search_by_one(alloc, &problem, &asked.settings, gate, stops);
+    told(alloc, &problem, end)
+}
+
+/// The same by as many workers as the settings say, each of which polls the stop at its place.
+pub(crate) fn answer<R: Threads + Wait + Sync, G: Gate, T: Stop + Drop>(
+    rt: &R,
+    alloc: Global,
+    asked: &Solve,
+    input: &[u8],
+    gate: &G,
+    stops: &mut Vec<T>,
+) -> Result<Solution, Unanswered<ProblemFault>>
+    requires stops { asked.now.settings.workers ≤ length stops.old.items }
+    ensures answer { IsAnswer (solve_meaning (solve_in asked.now))
+        (signals T.signal stops.old.items stops.new.items) input.now result }
+    ensures line { IfOk result HasLine }
+{
+    let problem = posed(asked, input)?;
+    arm_each(stops, asked.watch.deadline);
+    let end = search(rt, alloc, &problem, &asked.settings, gate, stops);
+    told(alloc, &problem, end)
 }

@@ -8,8 +8,9 @@ use search_limits::MOST_WORKERS;
 use std::alloc::{AllocError, Global};
 use std::fs::{self, Files};
 use std::io::{self, BufWriter, Print, Write};
+use std::sync::Wait;
 use std::thread::Threads;
-use tsume_app::run_and_tell;
+use tsume_app::{WordsRead, run_and_tell};
 use tsume_io::{MemSink, MemSource};
 
 const ROOM: usize = 65_536;
@@ -42,7 +43,7 @@ fn write_marked<W: Write>(output: &mut W, mark: &str, text: &[u8]) -> io::Result
     Ok(())
 }
 
-fn tell<R: Threads + AllocGlobal + Sync, W: Write>(
+fn tell<R: Threads + Wait + AllocGlobal + Sync, W: Write>(
     rt: &R,
     output: &mut W,
     text: &str,
@@ -58,7 +59,7 @@ fn tell<R: Threads + AllocGlobal + Sync, W: Write>(
     let status = run_and_tell(
         rt,
         alloc,
-        line.words(alloc)?,
+        WordsRead::new(alloc, line.words(alloc)?),
         &mut source,
         &mut sink,
         &mut errors,
@@ -70,7 +71,7 @@ fn tell<R: Threads + AllocGlobal + Sync, W: Write>(
     write_marked(output, "err ", errors.kept())
 }
 
-pub fn tell_all<R: Print + Files + Threads + AllocGlobal + Sync>(rt: &R) -> io::Result<()> {
+pub fn tell_all<R: Print + Files + Threads + Wait + AllocGlobal + Sync>(rt: &R) -> io::Result<()> {
     let runs = fs::read_to_string(rt, "runs")?;
     let mut output = BufWriter::new(rt.alloc(), io::writer(rt))?;
     for text in runs.as_str().split('\n') {

@@ -1,11 +1,11 @@
-// The checker on certificates whose verdicts are known from elsewhere.
+// The checker on certificates whose verdicts are known from elsewhere, on one thread and on several.
 use crate::same::same;
 use crate::texts::{CHASE, MATE_IN_ONE, TWO_ROOKS};
 use board_core::{Kind, Move, Square};
 use cert_check::{Verdict, Why, check};
-use cert_text::{Certificate, read_cert};
-use std::alloc::Global;
+use cert_text::read_cert;
 use std::test::Fail;
+use wide_check::check_wide;
 
 // The attacker's gold isn't guarded where it is dropped: the king leaves the list.
 const UNGUARDED: &str =
@@ -44,16 +44,6 @@ fn refused(entry: u64, why: Why) -> Verdict {
     Verdict::Refused { entry, why }
 }
 
-// The verdict on a certificate, for its own problem.
-fn verdict_of(alloc: Global, text: &str) -> Result<Verdict, Fail> {
-    let certificate = read_cert(alloc, text.as_bytes())?;
-    let verdict = match &certificate {
-        Certificate::Mate(mate) => check(alloc, mate.problem(), &certificate)?,
-        Certificate::Escape(escape) => check(alloc, escape.problem(), &certificate)?,
-    };
-    Ok(verdict)
-}
-
 #[test]
 fn certificates_are_accepted_or_refused_with_the_first_reason(rt: HostRuntime) -> Result<(), Fail> {
     let gold = Move::Drop {
@@ -80,8 +70,14 @@ fn certificates_are_accepted_or_refused_with_the_first_reason(rt: HostRuntime) -
         (BROKEN_CHASE, refused(2, Why::CheckUnanswered(along))),
     ];
     for (text, expected) in &cases {
-        let verdict = verdict_of(rt.alloc(), *text)?;
+        let certificate = read_cert(rt.alloc(), text.as_bytes())?;
+        let problem = certificate.problem();
+        let verdict = check(rt.alloc(), problem, &certificate)?;
         same(&rt, text, verdict, *expected);
+        for pieces in [1, 2, 7, 64] {
+            let verdict = check_wide(&rt, rt.alloc(), problem, &certificate, pieces)?;
+            same(&rt, (pieces, text), verdict, *expected);
+        }
     }
     Ok(())
 }

@@ -23,6 +23,8 @@ mod main_lines;
 #[cfg(test)]
 mod places;
 #[cfg(test)]
+mod reading;
+#[cfg(test)]
 mod same;
 #[cfg(test)]
 mod texts;

@@ -1,7 +1,8 @@
 // Where positions stand in a list, found by the position and by its board.
 use crate::letters::problem;
 use crate::same::same;
-use position_places::Places;
+use board_core::key;
+use position_places::{BoardPlaces, Places};
 use std::test::Fail;
 
 // Three boards, of which one stands with either side to move, and hands that differ.
@@ -15,8 +16,11 @@ const LISTED: [&str; 7] = [
     "4k4/9/4P4/9/9/9/9/9/4K4 b 2r2b4g4s4n4l17p",
 ];
 
+// On the board of one of them, with another hand.
+const OTHER: &str = "4k4/9/4P4/9/9/9/9/9/4K4 w g";
+
 #[test]
-fn positions_are_found_by_themselves_and_by_their_boards(rt: HostRuntime) -> Result<(), Fail> {
+fn positions_are_found_by_themselves(rt: HostRuntime) -> Result<(), Fail> {
     let mut places = Places::new(rt.alloc());
     // Those that are listed aren't listed again.
     for _ in 0..2 {
@@ -32,13 +36,29 @@ fn positions_are_found_by_themselves_and_by_their_boards(rt: HostRuntime) -> Res
             Some(place),
         );
     }
-    let other = "4k4/9/4P4/9/9/9/9/9/4K4 w g";
-    same(&rt, other, places.find(&problem(&rt, other).position), None);
+    same(&rt, OTHER, places.find(&problem(&rt, OTHER).position), None);
+    same(
+        &rt,
+        OTHER,
+        places.find_key(&key(&problem(&rt, OTHER).position)),
+        None,
+    );
+    Ok(())
+}
+
+#[test]
+fn positions_are_found_by_their_boards(rt: HostRuntime) -> Result<(), Fail> {
+    let mut places = BoardPlaces::new(rt.alloc());
+    for _ in 0..2 {
+        for (place, text) in LISTED.iter().enumerate() {
+            same(&rt, *text, places.add(&problem(&rt, text).position)?, place);
+        }
+    }
     let mut found = Vec::new(rt.alloc());
     let wanted: [(&str, &[usize]); 5] = [
         (LISTED[5], &[0, 3, 5, 6]),
         (LISTED[1], &[1]),
-        (other, &[2]),
+        (OTHER, &[2]),
         ("4k4/9/9/4P4/9/9/9/9/4K4 w -", &[]),
         (LISTED[4], &[4]),
     ];

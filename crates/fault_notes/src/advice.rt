@@ -22,10 +22,14 @@ pub(crate) fn advice_on_problem_look(look: Look) -> Option<&'static str>
         Look::Start => Some(
             "`startpos`, the start of a game, is no tsume problem. Give the position as an\nSFEN.\n",
         ),
+        Look::Collection => Some(ON_COLLECTION),
         Look::ByteOrderMark | Look::Utf16 | Look::Record => advice_on_bytes(look),
         Look::Other => None,
     }
 }
+
+const ON_COLLECTION: &str =
+    "This looks like a collection of problems. `tsume collection` reads a problem in\neach line.\n";
 
 const ON_ANSWER: &str =
     "This looks like an answer of `tsume solve`. `tsume check` reads those; the\nproblem itself stands behind the word `problem`.\n";
@@ -44,6 +48,7 @@ pub(crate) fn advice_on_diagram_look(look: Look) -> Option<&'static str>
         Look::Utf16 => Some("The text looks like UTF-16. Save it as UTF-8.\n"),
         Look::GaveUp => Some(ON_GIVING_UP),
         Look::Answer | Look::AnswerWithReturns => Some(ON_ANSWER),
+        Look::Collection => Some(ON_COLLECTION),
         Look::ByteOrderMark | Look::Record | Look::Quoted | Look::Start | Look::Other => None,
     }
 }
@@ -61,6 +66,9 @@ pub(crate) fn advice_on_certificate_look(look: Look) -> Option<&'static str>
         ),
         Look::AnswerWithReturns => Some(
             "Each line ends with a line feed alone, and here carriage returns stand before\nthem. Take them out: tr -d '\\r' < FILE | tsume check\n",
+        ),
+        Look::Collection => Some(
+            "This looks like a collection of problems. `tsume collection --certificates`\nprints the certificates of its problems, and `tsume check` reads one of them.\n",
         ),
         Look::ByteOrderMark | Look::Utf16 | Look::Record => advice_on_bytes(look),
         Look::Quoted | Look::Start | Look::Answer | Look::Other => None,
@@ -169,6 +177,10 @@ pub(crate) fn advice_on_diagram(fault: KifFault) -> &'static str
 
 /// What is said of an SFEN that is given where a diagram is expected.
 pub(crate) const ON_SFEN_WITH_KIF: &str = "This looks like an SFEN, which is read without --kif.\n";
+
+/// What is said where White is to move, and Black has no king.
+pub(crate) const ON_NO_BLACK_KING: &str =
+    "The side to move attacks, so the other side needs a king. If Black is the\nattacker, the side to move is b.\n";
 
 /// What is said of a position whose side that isn't to move is in check.
 pub(crate) const ON_DEFENDER_IN_CHECK: &str =

@@ -18,6 +18,8 @@ pub(crate) enum Look {
     AnswerWithReturns,
     /// A game record or a diagram (KIF, KI2, BOD, CSA).
     Record,
+    /// A collection that begins with a remark: a problem stands in one of its lines.
+    Collection,
     /// One in quotes.
     Quoted,
     /// The word for the start of a game (USI protocol: `startpos`).
@@ -50,10 +52,31 @@ const WORDS_OF_RECORDS: [&[u8]; 8] = [
     b"\x8e\xe8\x90\x94",
 ];
 
+fn has_words_of_records(text: &[u8]) -> bool {
+    text.starts_with(b"V2") || WORDS_OF_RECORDS.iter().any(|word| holds(text, word))
+}
+
 fn is_record(text: &[u8]) -> bool {
-    text.starts_with(b"#")
-        || text.starts_with(b"V2")
-        || WORDS_OF_RECORDS.iter().any(|word| holds(text, word))
+    text.starts_with(b"#") || has_words_of_records(text)
+}
+
+/// Whether the line may be a problem's: printable ASCII and tabs, with a `/`, as stands between an SFEN's rows.
+pub(crate) fn is_like_problem(line: &[u8]) -> bool {
+    let line = line.trim_ascii_end();
+    holds(line, b"/") && line.iter().all(|byte| matches!(*byte, b'\t' | b' '..=b'~'))
+}
+
+// Whether the line is a remark's, as collections and records have them.
+fn is_remark(line: &[u8]) -> bool {
+    line.starts_with(b"#")
+}
+
+fn is_collection(text: &[u8]) -> bool {
+    is_remark(text)
+        && !has_words_of_records(text)
+        && text
+            .split(|byte| *byte == b'\n')
+            .any(|line| !is_remark(line) && is_like_problem(line))
 }
 
 fn is_quoted(text: &[u8]) -> bool {
@@ -92,6 +115,9 @@ pub(crate) fn look_of(text: &[u8]) -> Look {
     }
     if text.starts_with(b"checkmate") || text.starts_with(b"certificate") {
         return answer_look(text);
+    }
+    if is_collection(text) {
+        return Look::Collection;
     }
     if is_record(text) {
         return Look::Record;

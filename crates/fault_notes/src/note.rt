@@ -3,16 +3,17 @@ ghost use Rattle.std.specs.Prelude.{IfOk, OnOk};
 ghost use Rattle.fault_notes.specs.Shown.{IsPlain, IsHarmless};
 
 use crate::advice::{
-    ON_DEFENDER_IN_CHECK, ON_LENGTH, ON_NO_MEMORY, ON_PROBLEM_TO_CHECK, ON_SEVERAL_LINES, ON_TABS,
-    ON_WRITE, advice_on_certificate, advice_on_certificate_look, advice_on_problem,
-    advice_on_problem_look,
+    ON_DEFENDER_IN_CHECK, ON_LENGTH, ON_NO_BLACK_KING, ON_NO_MEMORY, ON_PROBLEM_TO_CHECK,
+    ON_SEVERAL_LINES, ON_TABS, ON_WRITE, advice_on_certificate, advice_on_certificate_look,
+    advice_on_problem, advice_on_problem_look,
 };
 use crate::diagram::append_diagram_note;
 use crate::line::{append, append_line, append_place, line_of};
-use crate::look::{Look, holds, look_of};
+use crate::look::{Look, holds, is_like_problem, look_of};
 use crate::trouble::Trouble;
+use board_core::BadPosition;
 use cert_text::CertFault;
-use sfen_text::TextFault;
+use sfen_text::{TextFault, read_sfen};
 use std::alloc::{AllocError, Global};
 
 // The byte at which the text stops being a position's; none where it is one's.
@@ -48,7 +49,7 @@ fn is_behind_a_line(text: &[u8], at: usize) -> bool {
 fn is_worth_showing(look: Look) -> bool {
     !matches!(
         look,
-        Look::Blank | Look::Utf16 | Look::Record | Look::GaveUp
+        Look::Blank | Look::Utf16 | Look::Record | Look::Collection | Look::GaveUp
     )
 }
 
@@ -67,6 +68,16 @@ fn advice_at(fault: TextFault, text: &[u8], at: usize) -> &'static str
     advice_on_problem(fault)
 }
 
+// What is said of a text that is well formed and no position's. White is to move where the second field says so.
+fn advice_on_whole(fault: TextFault, text: &[u8]) -> &'static str
+    ensures { IsPlain result.now }
+{
+    if fault == TextFault::BadPosition(BadPosition::NoDefenderKing) && holds(text, b" w ") {
+        return ON_NO_BLACK_KING;
+    }
+    advice_on_problem(fault)
+}
+
 fn append_problem_note(
     alloc: Global,
     out: &mut Vec<u8>,
@@ -77,7 +88,7 @@ fn append_problem_note(
     ensures plain { OnOk result (IsPlain out.new.items) }
 {
     let Some(at) = place_of(fault) else {
-        return append(out, advice_on_problem(fault).as_bytes());
+        return append(out, advice_on_whole(fault, text).as_bytes());
     };
     if is_worth_showing(look_of(text)) {
         append_place(alloc, out, text, at)?;
@@ -93,27 +104,31 @@ fn number_of_claim(text: &[u8]) -> usize {
     1
 }
 
-fn is_claim(line: &[u8]) -> bool {
-    line.starts_with(b"certificate 1 mate ") || line.starts_with(b"certificate 1 escape ")
+// Whether it is a number of entries: digits, of which the first is no zero.
+fn is_number(text: &[u8]) -> bool {
+    !text.is_empty() && !text.starts_with(b"0") && text.iter().all(u8::is_ascii_digit)
 }
 
-// The first line of the head that doesn't begin as it has to; else the first of all.
+fn is_claim(line: &[u8]) -> bool {
+    let behind = line
+        .strip_prefix(b"certificate 1 mate ")
+        .or(line.strip_prefix(b"certificate 1 escape "));
+    behind.is_some_and(is_number)
+}
+
+// The line of the head that isn't as it has to be: the one with the claim; else the problem's, where no line stands before these or it isn't
+// an SFEN's; else the first of all.
 fn number_of_bad_line(text: &[u8]) -> usize {
     let claim = number_of_claim(text);
     if !is_claim(line_of(text, claim).bytes) {
         return claim;
     }
     let problem = claim.saturating_add(1);
-    if !line_of(text, problem).bytes.starts_with(b"problem ") {
+    let sfen = line_of(text, problem).bytes.strip_prefix(b"problem ");
+    if claim == 1 || !sfen.is_some_and(|sfen| read_sfen(sfen).is_ok()) {
         return problem;
     }
     1
-}
-
-// Whether the line may be a problem's: printable ASCII and tabs, with a `/`, as stands between an SFEN's rows.
-fn is_like_problem(line: &[u8]) -> bool {
-    let line = line.trim_ascii_end();
-    holds(line, b"/") && line.iter().all(|byte| matches!(*byte, b'\t' | b' '..=b'~'))
 }
 
 // What is said where the head is none.

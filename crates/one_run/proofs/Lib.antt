@@ -1,2 +1,4 @@
 pub mod Endings
+pub mod SoFar
 pub mod Offered
+pub mod Stating

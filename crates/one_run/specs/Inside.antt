@@ -1,16 +1,12 @@
 -- What the private functions of this crate say of one another; no public clause cites these.
-use Rattle.std.specs.Prelude.{◌≡◌, ℕ, []}
+use Rattle.std.specs.Prelude.{ℕ}
 use Rattle.tsume_io.specs.Faults.{Rose}
 use Rattle.tsume_io.specs.Source.{TookAtMost, TookOneMoreThan, HasMoreThan}
-use Rattle.tsume_io.specs.Sink.{GrewBy, GrewByPrefix}
 use Rattle.tsume_io.specs.declared.source.ReadEnd.{ReadEnd}
 use Rattle.tsume_io.specs.declared.source.ReadEnd.TheVariants as ends
-use Rattle.one_run.specs.declared.ended.Ended.{Ended}
-use Rattle.one_run.specs.declared.ended.Ended.TheVariants.{Answered, CutShort, Failed}
 use Rattle.one_run.specs.declared.ended.Fault.{Fault}
 use Rattle.one_run.specs.declared.ended.Fault.TheVariants.{TooLong, Read, NoMemory}
-use Rattle.one_run.specs.Command.{Meaning}
-use Rattle.one_run.specs.Outside.{Shown, NeverFailed, IsUntouched}
+use Rattle.one_run.specs.Outside.{Shown, NeverFailed}
 
 -- Why a text wasn't read whole: a count of faults that rose, and no more than the limit was taken;
 -- more bytes than the limit, and one more was taken; want of memory, and no more than the limit was
@@ -29,14 +25,3 @@ abbrev pub read_fault : {F : Type 0} → ReadEnd → Fault F
 read_fault ends.Fault = Read
 read_fault ends.TooLong = TooLong
 read_fault ends.NoMemory = NoMemory
-
--- What writing an answer came to: its text written whole; or a part of it, where the sink failed
--- and the answer stands; or nothing, for want of memory.
-abbrev pub HasWritten : {A F : Type 0} → Meaning A F → Shown → A → Ended A F → Type 0
-HasWritten command sink answer (Answered told) =
-    (told ≡ answer) × GrewBy sink.told sink.told_after (command.text_of answer) × NeverFailed sink
-HasWritten command sink answer (CutShort told) =
-    (told ≡ answer) × GrewByPrefix sink.told sink.told_after (command.text_of answer)
-    × Rose sink.faults sink.faults_after
-HasWritten command sink answer (Failed fault input) =
-    (fault ≡ NoMemory) × (input ≡ []) × IsUntouched sink

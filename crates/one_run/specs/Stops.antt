@@ -1,6 +1,7 @@
 -- What became of the stops that a run was given.
-use Rattle.std.specs.Prelude.{◌≡◌, ℕ, List, [], ◌∷◌, Option, None, drop, map}
-use Rattle.search_gate.specs.Stop.{Signal, armed_with, one_more}
+use Rattle.std.specs.Prelude.{◌≡◌, ℕ, List, Option, map}
+use Rattle.search_gate.specs.Polls.{ArePolled}
+use Rattle.search_gate.specs.Stop.{Signal, armed_with}
 
 -- What the stops of a run tell of themselves, before and after.
 pub record Signals : Type 0 where
@@ -11,18 +12,14 @@ pub record Signals : Type 0 where
 abbrev pub signals : {A : Type 0} → (A → Signal) → List A → List A → Signals
 signals signal before after = record { before = map signal before; after = map signal after }
 
--- What the first stop tells, which the first worker polls.
-abbrev pub first_of : List Signal → Signal
-first_of [] = record { polls = 0; raised = 0; last = 0; armed = None; arms = 0; early = 0 }
-first_of (signal ∷ others) = signal
+-- The same from where each has been armed, for this deadline or for none.
+abbrev pub once_armed : Option ℕ → Signals → Signals
+once_armed deadline stops = record { before = map (λ signal. armed_with signal deadline) stops.before; after = stops.after }
 
--- A search with one worker used the stops: each was armed once, for this deadline or for none, the
--- first before it was polled; and only the first was polled.
-pub record AreUsed (deadline : Option ℕ) (stops : Signals) : Type 0 where
-  pub armed : (first_of stops.after).armed ≡ deadline
-  pub arms : (first_of stops.after).arms ≡ one_more (first_of stops.before).arms
-  pub early : (first_of stops.after).early ≡ (first_of stops.before).polls
-  pub others : drop 1 stops.after ≡ map (λ signal. armed_with signal deadline) (drop 1 stops.before)
+-- A search with so many workers used the stops: each was armed once, for this deadline or for none, before any was polled; then only its
+-- workers' were polled, of which there is one for each, from the first on.
+abbrev pub AreUsed : ℕ → Option ℕ → Signals → Type 0
+AreUsed workers deadline stops = ArePolled workers (once_armed deadline stops).before stops.after
 
 -- No stop was armed or polled.
 abbrev pub AreUnused : Signals → Type 0

@@ -1,14 +1,14 @@
 // A run of a command: its text is read, the command answers it, and the answer is told.
 ghost use Rattle.std.specs.Prelude.{◌≡◌, IfOk, IfErr};
 ghost use Rattle.one_run.specs.Command.{IsAnswer};
-ghost use Rattle.one_run.specs.Inside.{HasWritten, IsUnread, read_fault};
+ghost use Rattle.one_run.specs.Inside.{IsUnread, read_fault};
 ghost use Rattle.one_run.specs.Outside.{IsUntouched, Shown, NeverFailed, shown};
-ghost use Rattle.one_run.specs.Run.{IsReadWhole, IsRun};
+ghost use Rattle.one_run.specs.Run.{IsFailed, IsReadWhole, IsRun};
 ghost use Rattle.one_run.specs.Stops.{Signals, AreUnused};
 
-use crate::{Command, Ended, Fault, Input, Unanswered};
+use crate::{Command, Ended, Fault, Input, Unanswered, write};
 use std::alloc::Global;
-use tsume_io::{ReadEnd, Sink, Source, read_all, write_all};
+use tsume_io::{ReadEnd, Sink, Source, read_all};
 
 // All bytes of the source, where there are no more than the limit.
 fn read_text<S: Source>(alloc: Global, limit: usize, source: &mut S) -> Result<Vec<u8>, ReadEnd>
@@ -51,31 +51,12 @@ pub fn read<C: Command, S: Source>(
     ensures ended { let outside = shown S.left S.faults source.old source.new in
         (stops : Signals) (sink : Shown) → AreUnused stops → IsUntouched sink
         → IfErr result (IsRun (C.meaning command.now) stops outside sink) }
+    ensures failed { IfErr result IsFailed }
 {
     match read_text(alloc, command.limit(), source) {
         Ok(input) => Ok(input),
         Err(end) => Err(Ended::Failed(fault_of(end), Input::none(alloc))),
     }
-}
-
-// Writes the whole text of an answer, which is made before the first write.
-fn write_answer<C: Command, K: Sink>(
-    alloc: Global,
-    command: &C,
-    answer: C::Answer,
-    sink: &mut K,
-) -> Ended<C::Answer, C::Fault>
-    requires { (C.meaning command.now).HasText answer }
-    ensures { HasWritten (C.meaning command.now)
-        (shown K.kept K.faults sink.old sink.new) answer result }
-{
-    let Ok(text) = command.text(alloc, &answer) else {
-        return Ended::Failed(Fault::NoMemory, Input::none(alloc));
-    };
-    if write_all(sink, &text).is_err() {
-        return Ended::CutShort(answer);
-    }
-    Ended::Answered(answer)
 }
 
 /// Ends a run whose text, these bytes, was read whole: writes the whole text of the answer, which is
@@ -97,7 +78,10 @@ pub fn tell<C: Command, K: Sink>(
         (shown K.kept K.faults sink.old sink.new) result }
 {
     match answer {
-        Ok(answer) => write_answer(alloc, command, answer, sink),
+        Ok(answer) => {
+            let text = command.text(alloc, &answer);
+            write(answer, text, sink).ended(alloc)
+        }
         Err(Unanswered::Text(fault)) => Ended::Failed(Fault::Text(fault), Input::new(input)),
         Err(Unanswered::NoMemory) => Ended::Failed(Fault::NoMemory, Input::new(input)),
     }

@@ -29,11 +29,11 @@ use Rattle.board_core.specs.Kept.{IsKept}
 use Rattle.board_core.specs.Key.{key_word, hands_word, key_of}
 use Rattle.board_laws.proofs.Keys.{cells_exact, position_exact, hand_small, modest_black, modest_white, key_total}
 use Rattle.list_laws.proofs.Standing.{contained, at_place, from_map, contains_map}
-use Rattle.position_places.specs.declared.places.Places.{Places}
-use Rattle.position_places.specs.Places.{ArePlacesOf}
+use Rattle.position_places.specs.declared.by_board.BoardPlaces.{BoardPlaces}
+use Rattle.position_places.specs.Places.{AreBoardPlacesOf}
 use Rattle.board_core.specs.KeyOrder.{key_cmp}
 use Rattle.position_places.specs.Boards.{IsOnBoardOf, StandsOnBoard, ArePlacesOnBoard, AreBoardKeys, least_hands}
-use Rattle.position_places.proofs.Finding.{same_words}
+use Rattle.position_places.proofs.Finding.{words_at}
 
 -- 1. Lists of words that differ in the last alone.
 
@@ -183,8 +183,8 @@ pub record AreBetween (m : BTreeMap Key ℕ) (least greatest : Key) (entries : L
   pub in_map : (i : ℕ) (k : Key) (place : ℕ) → slice_get entries i ≡ Some (k, place) → IsBetween least greatest k × (get key_cmp m k ≡ Some place)
   pub apart : (i j : ℕ) (e f : Key × ℕ) → i < j → slice_get entries i ≡ Some e → slice_get entries j ≡ Some f → key_cmp e.0 f.0 ≡ Less
 
-right_place : (places : Places) (p : Board) (least greatest : Key) (entries : List (Key × ℕ)) (positions : List Board) → IsKept p
-    → AreBoardKeys p least greatest → AreBetween places.by_key least greatest entries → ArePlacesOf places positions
+right_place : (places : BoardPlaces) (p : Board) (least greatest : Key) (entries : List (Key × ℕ)) (positions : List Board) → IsKept p
+    → AreBoardKeys p least greatest → AreBetween places.by_key least greatest entries → AreBoardPlacesOf places positions
     → (place : ℕ) → Contains (values_of entries) place → StandsOnBoard positions p place
 right_place places p least greatest entries positions kept ends are known place c =
     let e = from_map (λ (e : Key × ℕ). e.1) entries c.0 place (at_place (values_of entries) place c) in
@@ -194,7 +194,7 @@ right_place places p least greatest entries positions kept ends are known place 
     subst (StandsOnBoard positions p) e.2
     (record { other = s.position; there = s.there; same = on_board_if_between p s.position least greatest e.0.0 kept too ends s.has_key found.0 })
 
-listed_key : (places : Places) (positions : List Board) (place : ℕ) (b : Board) → ArePlacesOf places positions → slice_get positions place ≡ Some b
+listed_key : (places : BoardPlaces) (positions : List Board) (place : ℕ) (b : Board) → AreBoardPlacesOf places positions → slice_get positions place ≡ Some b
     → (key : Key) → key_of b ≡ key.0 → (o : Option ℕ) → o ≡ get key_cmp places.by_key key → IsSome o → o ≡ Some place
 listed_key places positions place b known there key words None e some = absurd (cc)
 listed_key places positions place b known there key words (Some other) e some =
@@ -204,8 +204,8 @@ listed_key places positions place b known there key words (Some other) e some =
     let same : s.position ≡ b = position_exact s.position b too kept (s.has_key ∙ sym words) in
     ap Some (known.apart other place b (s.there ∙ ap (λ (x : Board). Some x) same) there)
 
-all_places : (places : Places) (p : Board) (least greatest : Key) (entries : List (Key × ℕ)) (positions : List Board)
-    → AreBoardKeys p least greatest → AreBetween places.by_key least greatest entries → ArePlacesOf places positions
+all_places : (places : BoardPlaces) (p : Board) (least greatest : Key) (entries : List (Key × ℕ)) (positions : List Board)
+    → AreBoardKeys p least greatest → AreBetween places.by_key least greatest entries → AreBoardPlacesOf places positions
     → (place : ℕ) → StandsOnBoard positions p place → Contains (values_of entries) place
 all_places places p least greatest entries positions ends are known place stands =
     let b = stands.other in
@@ -214,14 +214,14 @@ all_places places p least greatest entries positions ends are known place stands
     let too = known.kept b c in
     let at = listed_key places positions place b known stands.there key refl _ refl (known.all key b c refl) in
     let e = place_from_lookup (is_at (key_cmp key)) places.by_key.entries place at in
-    let between = between_if_on_board p b least greatest e.1 too ends (same_words key e.1 e.3) stands.same in
+    let between = between_if_on_board p b least greatest e.1 too ends (words_at key e.1 e.3) stands.same in
     let yes = range_contains-from_IsInRange key_total (Included least) (Included greatest) e.1 between in
     let there = passes (λ (x : Key × ℕ). range_contains key_cmp (Included least) (Included greatest) x.0) places.by_key.entries e.0 (e.1, place) e.2 yes in
     contains_map (λ (x : Key × ℕ). x.1) entries (e.1, place) (subst (λ (es : List (Key × ℕ)). Contains es (e.1, place)) (sym are.are) there)
 
 -- no two of them have one place
-one_key : (places : Places) (least greatest : Key) (entries : List (Key × ℕ)) (positions : List Board)
-    → AreBetween places.by_key least greatest entries → ArePlacesOf places positions
+one_key : (places : BoardPlaces) (least greatest : Key) (entries : List (Key × ℕ)) (positions : List Board)
+    → AreBetween places.by_key least greatest entries → AreBoardPlacesOf places positions
     → (i j : ℕ) (e f : Key × ℕ) → slice_get entries i ≡ Some e → slice_get entries j ≡ Some f → e.1 ≡ f.1 → e.0.0 ≡ f.0.0
 one_key places least greatest entries positions are known i j e f h g same =
     let s = known.right e.0 e.1 ((are.in_map i e.0 e.1 h).1) in
@@ -229,8 +229,8 @@ one_key places least greatest entries positions are known i j e f h g same =
     let one : s.position ≡ t.position = same_Some s.position t.position (sym s.there ∙ (ap (slice_get positions) same ∙ t.there)) in
     sym s.has_key ∙ (ap key_of one ∙ t.has_key)
 
-differ : (places : Places) (least greatest : Key) (entries : List (Key × ℕ)) (positions : List Board)
-    → AreBetween places.by_key least greatest entries → ArePlacesOf places positions
+differ : (places : BoardPlaces) (least greatest : Key) (entries : List (Key × ℕ)) (positions : List Board)
+    → AreBetween places.by_key least greatest entries → AreBoardPlacesOf places positions
     → (i j : ℕ) (e f : Key × ℕ) → i < j → slice_get entries i ≡ Some e → slice_get entries j ≡ Some f → e.1 ≡ f.1 → ⊥
 differ places least greatest entries positions are known i j e f less h g same =
     let words = one_key places least greatest entries positions are known i j e f h g same in
@@ -241,8 +241,8 @@ differ places least greatest entries positions are known i j e f less h g same =
 not_equal : (a b : ℕ) → (a ≡ b → ⊥) → (a == b) ≡ false
 not_equal a b h = elim (cases_Bool (a == b)) [ inl same ↦ absurd (h (exact_unsigned_eq a b same)) | inr other ↦ other ]
 
-all_differ : (places : Places) (least greatest : Key) (entries : List (Key × ℕ)) (positions : List Board)
-    → AreBetween places.by_key least greatest entries → ArePlacesOf places positions → IsDistinct nat_eq (values_of entries)
+all_differ : (places : BoardPlaces) (least greatest : Key) (entries : List (Key × ℕ)) (positions : List Board)
+    → AreBetween places.by_key least greatest entries → AreBoardPlacesOf places positions → IsDistinct nat_eq (values_of entries)
 all_differ places least greatest entries positions are known =
     IsDistinct-from_apart nat_eq (values_of entries) (λ i j d less within.
     let value : (n : ℕ) → n < length (values_of entries) → (e : Key × ℕ) × (slice_get entries n ≡ Some e) × (e.1 ≡ get_or (values_of entries) n d) =
@@ -253,9 +253,9 @@ all_differ places least greatest entries positions are known =
     (λ same. differ places least greatest entries positions are known i j e.0 f.0 less e.1 f.1 (e.2 ∙ (same ∙ sym f.2))))
 
 -- in order they are the places of the board's positions
-pub on_board : (places : Places) (p : Board) (least greatest : Key) (entries : List (Key × ℕ)) (found : List ℕ) (positions : List Board) → IsKept p
+pub on_board : (places : BoardPlaces) (p : Board) (least greatest : Key) (entries : List (Key × ℕ)) (found : List ℕ) (positions : List Board) → IsKept p
     → AreBoardKeys p least greatest → AreBetween places.by_key least greatest entries → IsPermutation (values_of entries) found
-    → IsSorted nat_cmp found → ArePlacesOf places positions → ArePlacesOnBoard positions p found
+    → IsSorted nat_cmp found → AreBoardPlacesOf places positions → ArePlacesOnBoard positions p found
 on_board places p least greatest entries found positions kept ends are moved sorted known = record {
   right = λ place c.
       right_place places p least greatest entries positions kept ends are known place

@@ -1,6 +1,10 @@
 -- Where a position stands in a list, and how it is found there by its key.
-use Rattle.std.specs.Prelude.{◌≡◌, ◌⊎◌, ◌++◌, ℕ, List, [], ◌∷◌, Option, Some, None, IsSome, Contains, length, slice_get}
-use Rattle.std.specs.BTreeMap.{get, btree_map_len}
+use Rattle.std.specs.Prelude.{◌≡◌, ◌⊎◌, ◌++◌, ℕ, Bool, nat_eq, List, [], ◌∷◌, Option, Some, None, IsSome, Contains, length, slice_get}
+use Rattle.std.specs.Cmp.Lexicographic.{pointwise}
+use Rattle.std.specs.BTreeMap.{btree_map_len}
+use Rattle.std.specs.BTreeMap as tree
+use Rattle.std.specs.HashMap.{hash_map_len}
+use Rattle.std.specs.HashMap as table
 use Rattle.board_core.specs.declared.keys.Key.{Key}
 use Rattle.board_core.specs.Board.{Board}
 use Rattle.board_core.specs.Kept.{IsKept}
@@ -8,6 +12,7 @@ use Rattle.board_core.specs.Key.{key_of}
 use Rattle.board_core.specs.KeyOrder.{key_cmp}
 use Rattle.mate_facts.specs.Entries.{AreApart}
 use Rattle.position_places.specs.declared.places.Places.{Places}
+use Rattle.position_places.specs.declared.by_board.BoardPlaces.{BoardPlaces}
 
 -- A position of the list stands at the place, and has the key.
 pub record StandsAt (positions : List Board) (place : ℕ) (key : Key) : Type 0 where
@@ -15,14 +20,27 @@ pub record StandsAt (positions : List Board) (place : ℕ) (key : Key) : Type 0 
   pub there : slice_get positions place ≡ Some position
   pub has_key : key_of position ≡ key.0
 
--- The places are those of the positions of this list, in which none stands twice: each key has the place of a position that has
--- it, the key of each position is there, there are as many keys as positions, and each position keeps what positions keep.
-pub record ArePlacesOf (places : Places) (positions : List Board) : Type 0 where
+-- What is found by keys are the places of the positions of this list, in which none stands twice: each key has the place of a
+-- position that has it, the key of each position is there, there are as many keys as positions, and each position keeps what
+-- positions keep.
+pub record FindsPlaces (found : Key → Option ℕ) (keys : ℕ) (positions : List Board) : Type 0 where
   pub apart : AreApart positions
   pub kept : (position : Board) → Contains positions position → IsKept position
-  pub right : (key : Key) (place : ℕ) → get key_cmp places.by_key key ≡ Some place → StandsAt positions place key
-  pub all : (key : Key) (position : Board) → Contains positions position → key_of position ≡ key.0 → IsSome (get key_cmp places.by_key key)
-  pub count : btree_map_len places.by_key ≡ length positions
+  pub right : (key : Key) (place : ℕ) → found key ≡ Some place → StandsAt positions place key
+  pub all : (key : Key) (position : Board) → Contains positions position → key_of position ≡ key.0 → IsSome (found key)
+  pub count : keys ≡ length positions
+
+-- Two keys have the same words.
+abbrev pub same_words : Key → Key → Bool
+same_words one other = pointwise nat_eq one.0 other.0
+
+-- The places, found by the position, are those of the positions of this list.
+abbrev pub ArePlacesOf : Places → List Board → Type 0
+ArePlacesOf places positions = FindsPlaces (table.get same_words places.by_key) (hash_map_len places.by_key) positions
+
+-- The places, found by the board, are those of the positions of this list.
+abbrev pub AreBoardPlacesOf : BoardPlaces → List Board → Type 0
+AreBoardPlacesOf places positions = FindsPlaces (tree.get key_cmp places.by_key) (btree_map_len places.by_key) positions
 
 -- The list with the position behind it, unless it is in the list already.
 abbrev pub IsWith : List Board → Board → List Board → Type 0

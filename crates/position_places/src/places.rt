@@ -1,19 +1,19 @@
 // Finding a position among those of a list.
-ghost use Rattle.std.specs.Prelude.{◌≡◌, [], ◌↔◌, List, OnOk, IfOk, OnErr, IsTrue, Contains};
+ghost use Rattle.std.specs.Prelude.{◌≡◌, ◌<◌, [], ◌↔◌, List, OnOk, IfOk, IfSome, OnErr, IsTrue, Contains, length};
 ghost use Rattle.board_core.specs.Board.{Board};
 ghost use Rattle.board_core.specs.Kept.{IsKept};
+ghost use Rattle.board_core.specs.Key.{key_of};
 ghost use Rattle.position_places.specs.Places.{ArePlacesOf, IsPlace, IsPlaceOrNext, IsWith};
-ghost use Rattle.position_places.specs.Boards.{ArePlacesOnBoard, AreBoardKeys, least_hands};
 
-use board_core::{Key, Position, Side, key};
+use board_core::{Key, Position, key};
 use std::alloc::{AllocError, Global};
-use std::collections::BTreeMap;
+use std::collections::HashMap;
 
-/// Where each position of a list stands, by its key: found in a time that grows as the logarithm of their number.
-/// The keys of positions with the same cells and side to move stand side by side, so that these are found together.
+/// Where each position of a list stands, by its key: found in a time that doesn't grow with their number, but where somebody chose
+/// the positions so that their keys have few hashes.
 #[derive(Drop)]
 pub struct Places {
-    by_key: BTreeMap<Key, usize>,
+    by_key: HashMap<Key, usize>,
 }
 
 impl Places {
@@ -22,7 +22,7 @@ impl Places {
         ensures { ArePlacesOf result [] }
     {
         Places {
-            by_key: BTreeMap::new(alloc),
+            by_key: HashMap::new(alloc),
         }
     }
 
@@ -49,43 +49,16 @@ impl Places {
     pub fn find(&self, position: &Position) -> Option<usize>
         ensures { (positions : List Board) → ArePlacesOf self.now positions → IsPlace positions position.now result }
     {
-        self.by_key.get(&key(position)).copied()
+        position.laws();
+        self.find_key(&key(position))
     }
 
-    /// Puts the places of all listed positions with this one's cells and side to move, whatever their hands, into the list: each
-    /// once, in rising order. What stood in it is lost. Errors: want of memory alone, and then the list may lack some of them.
-    pub fn on_board(&self, position: &Position, places: &mut Vec<usize>) -> Result<(), AllocError>
-        ensures { OnOk result ((positions : List Board) → ArePlacesOf self.now positions → ArePlacesOnBoard positions position.now places.new.items) }
+    /// The place of the position that has the key, where it is listed; whoever knows its key need not make it.
+    pub fn find_key(&self, key: &Key) -> Option<usize>
+        ensures place { (positions : List Board) (position : Board) → ArePlacesOf self.now positions → IsKept position → key.now.0 ≡ key_of position → IsPlace positions position result }
+        // Also where no position that is kept has the key.
+        ensures within { IfSome result (λ place. (positions : List Board) → ArePlacesOf self.now positions → place < length positions) }
     {
-        let (least, greatest) = board_keys(position);
-        places.clear();
-        for (_, place) in self.by_key.range(least..=greatest) {
-            places.push(*place)?;
-        }
-        places.sort_unstable();
-        Ok(())
+        self.by_key.get(key).copied()
     }
-}
-
-// What the last word of a key is at least where this side is to move.
-fn least_hands(side: Side) -> u64
-    ensures { result ≡ least_hands side }
-{
-    match side {
-        Side::Black => 0,
-        Side::White => 1 << 42,
-    }
-}
-
-// The least and the greatest of what may be keys of positions with this one's cells and side to move: that with no bit of the
-// hands set, and that with all.
-fn board_keys(position: &Position) -> (Key, Key)
-    ensures ends { AreBoardKeys position.now result.0 result.1 }
-    ensures kept { IsKept position.now }
-{
-    let mut least = key(position);
-    let mut greatest = least;
-    least.0[7] = least_hands(position.side());
-    greatest.0[7] = least.0[7] + ((1 << 42) - 1);
-    (least, greatest)
 }

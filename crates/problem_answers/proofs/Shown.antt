@@ -17,11 +17,7 @@ use Rattle.notes.specs.Derivation.{Derivation, conclusion_of}
 use Rattle.cert_extract.specs.Extracted.{claim_by, ComesFrom}
 use Rattle.app_texts.specs.declared.answer.Solution.{Solution}
 use Rattle.app_texts.specs.declared.answer.Solution.TheVariants.{Mate, NoMate, Unknown}
-use Rattle.search_limits.specs.Sizes.{SettingsView}
-use Rattle.search_pool.specs.End.{IsAlone}
-use Rattle.search_pool.specs.declared.end.SearchEnd.TheVariants.{Solved}
 use Rattle.problem_answers.specs.Answer.{IsShown, IsVerdictOf}
-use Rattle.problem_answers.specs.Reports.{IsFoundAlone}
 
 -- The text of a mate's answer is the certificate's, behind the line of its moves, of which there is one at least.
 pub mate_told : (c : Mating) (attacker : Side) (b : Board) (moves : List Move) → IsMainLine c attacker b moves → AllHaveText moves
@@ -46,11 +42,3 @@ pub verdict_of : {E : Type 0} (result : Result Solution E) (p : Board) (note : D
     → claim_of certificate ≡ claim_by (conclusion_of note) → ComesFrom note certificate → IfOk result (IsShown p certificate) → IfOk result (IsVerdictOf p note)
 verdict_of (Ok solution) p note certificate claim from shown = shown_by solution p note certificate claim from shown
 verdict_of (Err error) p note certificate claim from shown = tt
-
--- The same of a search alone that nothing stops.
-pub found_alone_of : {E : Type 0} (result : Result Solution E) (p : Board) (s : SettingsView) (note : Derivation) → IsAlone p s (Solved note)
-    → IfOk result (IsVerdictOf p note) → IfOk result (IsFoundAlone p s)
-found_alone_of (Ok (Mate c moves)) p s note alone verdict = record { note = note; alone = alone; verdict = verdict }
-found_alone_of (Ok (NoMate c)) p s note alone verdict = record { note = note; alone = alone; verdict = verdict }
-found_alone_of (Ok (Unknown cause crew)) p s note alone verdict = inr (record { note = note; alone = alone; verdict = verdict })
-found_alone_of (Err error) p s note alone verdict = tt

@@ -1,6 +1,3 @@
 -- This project's: what a problem's text stands for, and what is found of it.
 pub mod Answer
-pub mod Coming
-pub mod Inside
 pub mod Reading
-pub mod Reports

@@ -1,12 +1,12 @@
 // Collections whose reports are known, over any number of threads.
 use crate::lines::words_of;
 use crate::same::same;
-use app_texts::append_report;
-use problem_answers::Reports;
+use cmd_collection::{Reports, append_report};
+use program_words::{Command, read_words};
 use std::alloc::{AllocError, Global};
+use std::sync::Wait;
 use std::test::Fail;
 use std::thread::Threads;
-use tsume_words::{Command, read_words};
 
 const MATE: &str = "4k4/9/4P4/9/9/9/9/9/9 b G 1";
 
@@ -17,21 +17,25 @@ const NONE: &str = "4k4/9/9/9/9/9/9/9/9 b -\r";
 const FAULT: &str = "4k4/9/4X4/9/9/9/9/9/9 b G";
 
 // What is told of each line of a text, with the words of a command.
-fn told<R: Threads + AllocGlobal + Sync>(rt: &R, line: &str, text: &str) -> Result<String, Fail> {
+fn told<R: Threads + Wait + AllocGlobal + Sync>(
+    rt: &R,
+    line: &str,
+    text: &str,
+) -> Result<String, Fail> {
     let alloc = rt.alloc();
     let words = words_of(alloc, line)?;
     let mut out = Vec::new(alloc);
     let Ok(asked) = read_words(alloc, &words) else {
         return Ok(String::new(alloc));
     };
-    if let Command::Collection { settings, form } = asked.command {
-        let mut reports = Reports::new(rt, alloc, text.as_bytes(), &settings, &form)?;
+    if let Command::Collection(asked) = asked.command {
+        let mut reports = Reports::new(rt, alloc, text.as_bytes(), &asked.settings, &asked.form)?;
         while let Some(reported) = reports.next(rt, alloc)? {
             append_report(
                 &mut out,
                 reported.line.number,
                 &reported.report,
-                form.certificates,
+                asked.form.certificates,
             )?;
         }
     }

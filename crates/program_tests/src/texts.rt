@@ -1,15 +1,13 @@
 // Texts of answers and of reports.
 ghost use Rattle.std.specs.Prelude.{IfOk, IfSome};
 ghost use Rattle.usi_text.specs.Lines.{AllHaveText};
-ghost use Rattle.app_texts.specs.Reports.{HasReportLine};
-ghost use Rattle.app_texts.specs.Texts.{HasTexts};
+ghost use Rattle.cmd_collection.specs.ReportText.{HasReportLine};
 
 use crate::same::same;
-use app_texts::{
-    Answer, Counts, Judgement, LineFault, MainLine, ProblemFault, Report, Solution, Summary,
-    Tallies, answer_text, append_report,
-};
+use app_texts::{Judgement, MainLine, ProblemFault, Solution, judgement_text, solution_text};
 use cert_text::{Certificate, Claim, read_cert};
+use cmd_collection::{Counts, LineFault, Report, append_report, counts_text};
+use cmd_survey::{Summary, Tallies, summary_text};
 use search_limits::Cause;
 use search_pool::{Crew, Tally};
 use sfen_text::TextFault;
@@ -24,20 +22,14 @@ const ROOKS: &str =
 const NONE: &str =
     "certificate 1 escape 3\nproblem 4k4/9/4P4/9/9/9/9/9/9 b P\n4k4/9/4P4/9/9/9/9/9/9 b P\n9/4k4/9/9/9/9/9/9/9 b Pp\n9/9/4k4/9/9/9/9/9/9 b 2p\nend\n";
 
-fn text_of(alloc: Global, answer: &Answer) -> Result<String, Fail>
-    requires { HasTexts answer.now }
-{
-    Ok(String::from_utf8(answer_text(alloc, answer)?)?)
-}
-
 #[test]
 fn an_accepted_mate_and_each_cause_have_their_texts(rt: HostRuntime) -> Result<(), Fail> {
     let alloc = rt.alloc();
-    let accepted = Answer::Judged(Judgement::Accepted {
+    let accepted = Judgement::Accepted {
         claim: Claim::Mate,
         entries: 4,
-    });
-    let text = text_of(alloc, &accepted)?;
+    };
+    let text = String::from_utf8(judgement_text(alloc, &accepted)?)?;
     same(&rt, "accepted", text.as_str(), "accepted mate 4\n");
     let table = [
         (
@@ -57,8 +49,8 @@ fn an_accepted_mate_and_each_cause_have_their_texts(rt: HostRuntime) -> Result<(
     ];
     for (cause, wanted) in table {
         let crew = Crew::new(Vec::new(alloc));
-        let answer = Answer::Solved(Solution::Unknown(cause, crew));
-        let text = text_of(alloc, &answer)?;
+        let solution = Solution::Unknown(cause, crew);
+        let text = String::from_utf8(solution_text(alloc, &solution)?)?;
         same(&rt, cause, text.as_str(), wanted);
     }
     Ok(())
@@ -80,14 +72,14 @@ fn a_survey_counts_how_its_problems_ended(rt: HostRuntime) -> Result<(), Fail> {
         seed: 0,
         tallies: Tallies::new(one),
     };
-    let text = text_of(alloc, &Answer::Surveyed(one))?;
+    let text = String::from_utf8(summary_text(alloc, &one)?)?;
     let wanted = "survey 0 1\nmate 1\nnomate 0\nunknown 0\n";
     same(&rt, "of one", text.as_str(), wanted);
     let six = Summary {
         seed: 1_000_000_000,
         tallies: Tallies::new(six),
     };
-    let text = text_of(alloc, &Answer::Surveyed(six))?;
+    let text = String::from_utf8(summary_text(alloc, &six)?)?;
     let wanted = "survey 1000000000 6\nmate 1\nnomate 3\nunknown 2\n";
     same(&rt, "of six", text.as_str(), wanted);
     Ok(())
@@ -171,21 +163,21 @@ fn a_line_without_a_verdict_says_why(rt: HostRuntime) -> Result<(), Fail> {
 fn a_collection_counts_its_reports(rt: HostRuntime) -> Result<(), Fail> {
     let alloc = rt.alloc();
     let mut counts = Counts::none();
-    let text = text_of(alloc, &Answer::Collected(counts))?;
+    let text = String::from_utf8(counts_text(alloc, &counts)?)?;
     let wanted = "problems 0 mate 0 nomate 0 unknown 0 fault 0\n";
     same(&rt, "no report", text.as_str(), wanted);
     let mate = verdict(alloc, ROOKS)?.expect(&rt, "a certificate");
     counts.add(&mate);
     counts.add(&mate);
     counts.add(&Report::Fault(LineFault::TooLong));
-    let text = text_of(alloc, &Answer::Collected(counts))?;
+    let text = String::from_utf8(counts_text(alloc, &counts)?)?;
     let wanted = "problems 3 mate 2 nomate 0 unknown 0 fault 1\n";
     same(&rt, "three reports", text.as_str(), wanted);
     let none = verdict(alloc, NONE)?.expect(&rt, "a certificate");
     counts.add(&none);
     let crew = Crew::new(Vec::new(alloc));
     counts.add(&Report::Solved(Solution::Unknown(Cause::Room(1), crew)));
-    let text = text_of(alloc, &Answer::Collected(counts))?;
+    let text = String::from_utf8(counts_text(alloc, &counts)?)?;
     let wanted = "problems 5 mate 2 nomate 1 unknown 1 fault 1\n";
     same(&rt, "five reports", text.as_str(), wanted);
     Ok(())

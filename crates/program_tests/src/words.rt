@@ -1,13 +1,18 @@
 // What is asked for by lines of words, and what the texts of refusals and of help say.
 use crate::lines::words_of;
 use crate::same::same;
+use cmd_check::Check;
+use cmd_collection::Collection;
+use cmd_solve::Solve;
+use cmd_survey::SurveyRange;
+use program_words::{Asked, Command, read_words};
 use search_limits::Settings;
 use std::alloc::{AllocError, Global};
 use std::test::Fail;
-use tsume_words::{Asked, CollectionForm, Command, Format, SurveyRange, WordsEnd, read_words};
+use tsume_words::{Format, WordsEnd};
 
 // A line, and what it asks for: the numbers in the order of the settings, whether `--rest` stands, `kif` where
-// `--kif` does, `until` the deadline, and `telling` where `--progress` stands; or the workers; and the file. Of
+// `--kif` does, `until` the deadline, and `telling` where `--progress` stands; or the problem, and `by` the workers; and the file. Of
 // the commands over many problems the seed, the count and the expansions; or the settings, whether `--rest`
 // stands, `told` where `--certificates` does, and `by` the threads.
 static ASKED: [(&str, &str); 59] = [
@@ -75,13 +80,13 @@ static ASKED: [(&str, &str); 59] = [
         "solve --progress --deadline 86400000",
         "solve 1 1000000 1000000000 65536 64 false until 86400000 telling",
     ),
-    ("check", "check 1"),
-    ("check --workers 3", "check 3"),
-    ("check --problem 4k4/9 --workers 2", "check 2 4k4/9"),
-    ("check a.cert", "check 1 of a.cert"),
-    ("check ../a --workers 2", "check 2 of ../a"),
-    ("check -", "check 1"),
-    ("check -- --help", "check 1 of --help"),
+    ("check", "check"),
+    ("check --workers 3", "check by 3"),
+    ("check --problem 4k4/9 --workers 2", "check 4k4/9 by 2"),
+    ("check a.cert", "check of a.cert"),
+    ("check ../a --workers 2", "check by 2 of ../a"),
+    ("check -", "check"),
+    ("check -- --help", "check of --help"),
     (
         "solve --rest a/b.sfen",
         "solve 1 1000000 1000000000 65536 64 true of a/b.sfen",
@@ -313,7 +318,7 @@ static REFUSED: [(&str, &str); 39] = [
 ];
 
 // A request for help or for the version, and a part of its text.
-static HELPED: [(&str, &str); 27] = [
+static HELPED: [(&str, &str); 28] = [
     ("--version", "tsume 0.1.0\n"),
     ("-V --help", "tsume 0.1.0\n"),
     ("--help", "Usage: tsume <COMMAND>\n"),
@@ -361,6 +366,10 @@ static HELPED: [(&str, &str); 27] = [
     ),
     ("check --help", " Default: the certificate's own problem."),
     (
+        "check -h",
+        "\n      --workers <N>     Threads that judge the entries side by side, 1 to 64;\n                        where nothing is said, as many as there are processors.\n",
+    ),
+    (
         "-h",
         "\n  collection  Tells of every problem of a text, an SFEN a line",
     ),
@@ -397,74 +406,76 @@ static HELPED: [(&str, &str); 27] = [
     ("check --help", "-h, --help            Print help\n"),
 ];
 
-// What has no effect yet, and isn't shown.
+// What help shows for some commands alone: workers solve and check, and parts matter to workers that solve.
 static HIDDEN: [&str; 2] = ["--workers", "--shards"];
 
 fn command_text(alloc: Global, command: &Command) -> Result<String, AllocError> {
     match command {
-        Command::Solve {
-            settings,
-            form,
-            watch,
-        } => {
-            let Settings {
-                workers,
-                expansions,
-                room,
-                rows,
-                shards,
-            } = *settings;
-            let rest = form.rest;
-            let kif = match form.format {
-                Format::Sfen => "",
-                Format::Kif => " kif",
-            };
-            let telling = if watch.progress { " telling" } else { "" };
-            let solve = format!(in alloc;
-                "solve {workers} {expansions} {room} {rows} {shards} {rest}{kif}"
-            )?;
-            match watch.deadline {
-                Some(end) => format!(in alloc; "{solve} until {end}{telling}"),
-                None => format!(in alloc; "{solve}{telling}"),
-            }
-        }
-        Command::Check { workers, problem } => match problem {
-            Some(problem) => format!(in alloc; "check {workers} {problem}"),
-            None => format!(in alloc; "check {workers}"),
-        },
-        Command::Survey { range } => survey_text(alloc, range),
-        Command::Collection { settings, form } => collection_text(alloc, settings, form),
+        Command::Solve(asked) => solve_text(alloc, asked),
+        Command::Check(asked) => check_text(alloc, asked),
+        Command::Survey(asked) => survey_text(alloc, asked),
+        Command::Collection(asked) => collection_text(alloc, asked),
     }
 }
 
-fn survey_text(alloc: Global, range: &SurveyRange) -> Result<String, AllocError> {
-    let SurveyRange {
-        seed,
-        count,
-        expansions,
-    } = *range;
-    let expansions = expansions.count;
-    format!(in alloc; "survey {seed} {count} {expansions}")
-}
-
-fn collection_text(
-    alloc: Global,
-    settings: &Settings,
-    form: &CollectionForm,
-) -> Result<String, AllocError> {
+fn solve_text(alloc: Global, asked: &Solve) -> Result<String, AllocError> {
     let Settings {
         workers,
         expansions,
         room,
         rows,
         shards,
-    } = *settings;
-    let rest = form.rest;
-    let told = if form.certificates { " told" } else { "" };
+    } = asked.settings;
+    let rest = asked.form.rest;
+    let kif = match asked.form.format {
+        Format::Sfen => "",
+        Format::Kif => " kif",
+    };
+    let telling = if asked.watch.progress { " telling" } else { "" };
+    let solve = format!(in alloc;
+        "solve {workers} {expansions} {room} {rows} {shards} {rest}{kif}"
+    )?;
+    match asked.watch.deadline {
+        Some(end) => format!(in alloc; "{solve} until {end}{telling}"),
+        None => format!(in alloc; "{solve}{telling}"),
+    }
+}
+
+fn check_text(alloc: Global, asked: &Check) -> Result<String, AllocError> {
+    let check = match &asked.problem {
+        Some(problem) => format!(in alloc; "check {problem}")?,
+        None => String::from_str(alloc, "check")?,
+    };
+    match asked.workers {
+        Some(workers) => format!(in alloc; "{check} by {workers}"),
+        None => Ok(check),
+    }
+}
+
+fn survey_text(alloc: Global, asked: &SurveyRange) -> Result<String, AllocError> {
+    let SurveyRange {
+        seed,
+        count,
+        expansions,
+    } = *asked;
+    let expansions = expansions.count;
+    format!(in alloc; "survey {seed} {count} {expansions}")
+}
+
+fn collection_text(alloc: Global, asked: &Collection) -> Result<String, AllocError> {
+    let Settings {
+        workers,
+        expansions,
+        room,
+        rows,
+        shards,
+    } = asked.settings;
+    let rest = asked.form.rest;
+    let told = if asked.form.certificates { " told" } else { "" };
     let collection = format!(in alloc;
         "collection {workers} {expansions} {room} {rows} {shards} {rest}{told}"
     )?;
-    match form.threads {
+    match asked.form.threads {
         Some(threads) => format!(in alloc; "{collection} by {threads}"),
         None => Ok(collection),
     }
@@ -517,7 +528,8 @@ fn help_teaches_each_option_in_narrow_lines(rt: HostRuntime) -> Result<(), Fail>
             same(&rt, (line, row), row.chars().count() < 80, true);
         }
         for option in HIDDEN {
-            same(&rt, (line, option), text.contains(option), false);
+            let shown = line.contains("solve") || (option == "--workers" && line.contains("check"));
+            same(&rt, (line, option), text.contains(option), shown);
         }
     }
     Ok(())

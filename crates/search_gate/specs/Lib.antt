@@ -2,3 +2,4 @@
 pub mod Stop
 pub mod Mem
 pub mod Deadline
+pub mod Polls

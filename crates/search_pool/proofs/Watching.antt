@@ -57,7 +57,8 @@ goes_on : (task : Task) (s t : State) (x : Exchange) → Goes task s x t → end
 goes_on task s t (q, Some a) h = fits_going task s s.stage s.frames a h.1
 goes_on task s t (q, None) h = looking_going s.stage s.frames h.1
 
-leads_by : (task : Task) (log : List Exchange) (s t : State) (x : Exchange) → Goes task s x t → Leads task log s → Leads task (log ++ x ∷ []) t
+-- Where one request leads, its log leads.
+pub leads_by : (task : Task) (log : List Exchange) (s t : State) (x : Exchange) → Goes task s x t → Leads task log s → Leads task (log ++ x ∷ []) t
 leads_by task log s t (q, Some a) h leads = leads_on task log s t (Told q a) leads h
 leads_by task log s t (q, None) h leads = leads_on task log s t (Dark q) leads h
 
@@ -205,7 +206,7 @@ watched_on problem s before mid after port next task from to x way watches goes 
     )
 
 -- A worker that waits for nothing is its task and its state.
-as_it_is : (worker : WorkerView) (task : Task) → worker.waiting ≡ false → worker.task ≡ task → worker ≡ worker_in task worker.state
+pub as_it_is : (worker : WorkerView) (task : Task) → worker.waiting ≡ false → worker.task ≡ task → worker ≡ worker_in task worker.state
 as_it_is worker task idle is =
     subst (λ (w : Bool). record { task = worker.task; state = worker.state; waiting = w } ≡ worker_in task worker.state) (sym idle)
     (ap (λ (t : Task). worker_in t worker.state) is)

@@ -129,7 +129,8 @@ never_polled : (mid : Signal) (stops b : Bool) → (b ≡ true → ⊥) → (if 
 never_polled mid stops true not = absurd (not refl)
 never_polled mid stops false not = refl
 
-polls_push : (log : List Exchange) (x : Exchange) (n : ℕ) → polls_after (log ++ x ∷ []) n ≡ (if is_poll x.0 then one_more (polls_after log n) else polls_after log n)
+-- How often a stop was polled behind one exchange more.
+pub polls_push : (log : List Exchange) (x : Exchange) (n : ℕ) → polls_after (log ++ x ∷ []) n ≡ (if is_poll x.0 then one_more (polls_after log n) else polls_after log n)
 polls_push [] x n = refl
 polls_push (y ∷ log) x n = polls_push log x (if is_poll y.0 then one_more n else n)
 

@@ -53,7 +53,7 @@ told_posted task s (Posting posted) t h = ap (λ (z : State). z.stage) h
 told_posted task s (Winding end) t h = absurd h
 
 -- That the worker is to stop leads to its winding up.
-winds_stopped : (task : Task) (s t : State) (x : Exchange) → Goes task s x t → says_stop x ≡ true → t.stage ≡ Winding Stopped
+pub winds_stopped : (task : Task) (s t : State) (x : Exchange) → Goes task s x t → says_stop x ≡ true → t.stage ≡ Winding Stopped
 winds_stopped task s t (q, None) g e = absurd (false≢true e)
 winds_stopped task s t (q, Some (Polled true)) g e = told_stop task s s.stage t g.2
 winds_stopped task s t (q, Some (Polled false)) g e = absurd (false≢true e)
@@ -77,7 +77,7 @@ winds_posted task s t (q, Some (Entered kept)) g e = absurd (false≢true e)
 winds_posted task s t (q, Some LeftIt) g e = absurd (false≢true e)
 winds_posted task s t (q, Some PostedIt) g e = told_posted task s s.stage t g.2
 
-stays_winding : (task : Task) (s t : State) (x : Exchange) (end : WorkEnd) → Goes task s x t → s.stage ≡ Winding end → t.stage ≡ Winding end
+pub stays_winding : (task : Task) (s t : State) (x : Exchange) (end : WorkEnd) → Goes task s x t → s.stage ≡ Winding end → t.stage ≡ Winding end
 stays_winding task s t (q, None) end g w = absurd (subst IsLooking w g.1)
 stays_winding task s t (q, Some a) end g w = still_winds task s end a t (subst (λ (stage : Stage). LeadsAt task s stage a t) w g.2)
 

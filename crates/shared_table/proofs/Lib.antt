@@ -1,3 +1,4 @@
 mod Notes
 mod Sizes
-mod Seats
+pub mod Seats
+pub mod Offered

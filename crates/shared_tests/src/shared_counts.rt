@@ -11,7 +11,8 @@ fn visit(counts: &WorkerCounts, seat: &mut CountSeat, word: usize) -> (u64, u64,
     requires word { word < counts.now.words }
     requires room { length seat.old.view.added < 100 }
     ensures counts { seat.new.counts ≡ counts.now }
-    ensures view { (seat.new.view.parts ≡ seat.old.view.parts) × (seat.new.view.added ≡ seat.old.view.added) }
+    ensures view { (seat.new.view.parts ≡ seat.old.view.parts)
+        × (seat.new.view.added ≡ seat.old.view.added) }
 {
     let before = counts.add(seat, word);
     let during = counts.load(seat, word);

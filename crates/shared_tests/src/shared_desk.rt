@@ -26,7 +26,8 @@ fn new_seats(
     requires desk { first.old.desk ≡ desk.now }
     requires goes_on { (first.old.draw_ends ≡ 0) × (first.old.claim_ends ≡ 0) }
     requires parts { count < first.old.parts }
-    ensures first { IfOk result (λ seats. first.new ≡ record first.old { parts = first.old.parts - count }) }
+    ensures first { IfOk result (λ seats. first.new
+        ≡ record first.old { parts = first.old.parts - count }) }
     ensures seats { IfOk result (λ seats. All (λ seat. seat ≡ unused desk.now 1) seats.items) }
     ensures count { IfOk result (λ seats. length seats.items ≡ count) }
 {
@@ -59,7 +60,8 @@ fn draw_in_turn(
     mut waiting: VecDeque<DeskSeat>,
 ) -> Result<(VecDeque<DeskSeat>, Vec<u64>), AllocError>
     requires { All (λ seat. seat ≡ unused desk.now 1) waiting.items }
-    ensures seats { IfOk result (λ r. All (λ seat. (seat.desk ≡ desk.now) × (seat.parts ≡ 1)) r.0.items) }
+    ensures seats { IfOk result (λ r. All (λ seat. (seat.desk ≡ desk.now)
+        × (seat.parts ≡ 1)) r.0.items) }
     ensures count { IfOk result (λ r. length r.0.items ≡ length waiting.items) }
 {
     let mut ended = VecDeque::new(alloc);
@@ -100,7 +102,8 @@ fn together(
 ) -> Result<(VecDeque<DeskSeat>, Vec<u64>), AllocError>
     requires seats { All (λ seat. (seat.desk ≡ desk.now) × (seat.parts ≡ 1)) seats.items }
     requires others { All (λ seat. (seat.desk ≡ desk.now) × (seat.parts ≡ 1)) others.items }
-    ensures seats { IfOk result (λ r. All (λ seat. (seat.desk ≡ desk.now) × (seat.parts ≡ 1)) r.0.items) }
+    ensures seats { IfOk result (λ r. All (λ seat. (seat.desk ≡ desk.now)
+        × (seat.parts ≡ 1)) r.0.items) }
     ensures count { IfOk result (λ r. length r.0.items ≡ length seats.items + length others.items) }
 {
     seats.append(&mut others)?;
@@ -118,7 +121,8 @@ fn both_draw<R: Threads + Sync>(
 ) -> Result<(VecDeque<DeskSeat>, Vec<u64>), AllocError>
     requires one { All (λ seat. seat ≡ unused desk.now 1) one.items }
     requires two { All (λ seat. seat ≡ unused desk.now 1) two.items }
-    ensures seats { IfOk result (λ r. All (λ seat. (seat.desk ≡ desk.now) × (seat.parts ≡ 1)) r.0.items) }
+    ensures seats { IfOk result (λ r. All (λ seat. (seat.desk ≡ desk.now)
+        × (seat.parts ≡ 1)) r.0.items) }
     ensures count { IfOk result (λ r. length r.0.items ≡ length one.items + length two.items) }
 {
     let (low, high) = join(
@@ -198,7 +202,8 @@ fn four_threads_draw_each_unit_once(rt: HostRuntime) -> Result<(), Fail> {
 
 // Whether the attacker has no check.
 fn has_no_check(alloc: Global, problem: &Problem) -> Result<bool, AllocError>
-    ensures { IfOk result (λ none. IsTrue none → EndsInEscape problem.now.position.side problem.now.position) }
+    ensures { IfOk result (λ none. IsTrue none
+        → EndsInEscape problem.now.position.side problem.now.position) }
 {
     let checks = trial_checks(alloc, problem, &problem.position)?;
     if checks.len() > 0 {

@@ -58,8 +58,10 @@ fn entered_and_left<P: Port>(
 ) -> Result<Option<(u32, u32, u64)>, AllocError>
     requires few { (P.book one.old).size < MOST_EXPANSIONS }
     requires sound { IsSoundUpdate (P.book one.old).problem.side key.now update }
-    ensures size { ((P.book one.new).size ≡ (P.book one.old).size) × ((P.book two.new).size ≡ (P.book two.old).size) }
-    ensures problem { ((P.book one.new).problem ≡ (P.book one.old).problem) × ((P.book two.new).problem ≡ (P.book two.old).problem) }
+    ensures size { ((P.book one.new).size ≡ (P.book one.old).size)
+        × ((P.book two.new).size ≡ (P.book two.old).size) }
+    ensures problem { ((P.book one.new).problem ≡ (P.book one.old).problem)
+        × ((P.book two.new).problem ≡ (P.book two.old).problem) }
 {
     let kept = one.enter(key, Numbers::ONE);
     let seen = looked(alloc, two, key);
@@ -78,15 +80,25 @@ fn port_of<'a, R: Wait>(
     number: u32,
 ) -> BlackPort<'a, R>
     requires seat { (seat.old.counts ≡ table.now.words) × (1 < seat.old.view.parts) }
-    requires desk_seat { (desk_seat.old.desk ≡ desk.now) × (1 < desk_seat.old.parts) × (desk_seat.old.draw_ends ≡ 0) × (desk_seat.old.claim_ends ≡ 0) }
+    requires desk_seat { (desk_seat.old.desk ≡ desk.now) × (1 < desk_seat.old.parts)
+        × (desk_seat.old.draw_ends ≡ 0) × (desk_seat.old.claim_ends ≡ 0) }
     requires black { desk.now.position.side ≡ Black }
-    ensures seat { (seat.new.counts ≡ seat.old.counts) × (seat.new.view.parts + 1 ≡ seat.old.view.parts) }
-    ensures desk_seat { (desk_seat.new.desk ≡ desk_seat.old.desk) × (desk_seat.new.parts + 1 ≡ desk_seat.old.parts) × (desk_seat.new.draw_ends ≡ 0) × (desk_seat.new.claim_ends ≡ 0) }
+    ensures seat { (seat.new.counts ≡ seat.old.counts)
+        × (seat.new.view.parts + 1 ≡ seat.old.view.parts) }
+    ensures desk_seat { (desk_seat.new.desk ≡ desk_seat.old.desk)
+        × (desk_seat.new.parts + 1 ≡ desk_seat.old.parts) × (desk_seat.new.draw_ends ≡ 0)
+        × (desk_seat.new.claim_ends ≡ 0) }
     ensures size { result.seats.row.seat.view.added ≡ [] }
     ensures desk { result.seats.desk_seat.desk ≡ desk.now }
     ensures at { result.seats.desk.now ≡ desk.now }
     ensures suits { (number : ℕ) → Suits (worker_at_first desk.now.position number)
-        (book_of (record { cut = result.cut; shards = None; seat = result.seats.row; desk = result.seats.desk_seat })) }
+        (book_of (record {
+          cut = result.cut;
+          shards = None;
+          seat = result.seats.row;
+          desk =
+              result.seats.desk_seat;
+        })) }
 {
     table.laws();
     let cut = Cut {
@@ -159,7 +171,13 @@ fn worked<R: Wait>(
     number: u32,
 ) -> (WorkEnd, u64)
     requires { Suits (worker_at_first problem.now.position number)
-        (book_of (record { cut = port.cut; shards = None; seat = port.seats.row; desk = port.seats.desk_seat })) }
+        (book_of (record {
+          cut = port.cut;
+          shards = None;
+          seat = port.seats.row;
+          desk =
+              port.seats.desk_seat;
+        })) }
 {
     let mut worker = Worker::make(alloc, problem, number);
     let end = work(alloc, &mut worker, &mut port);

@@ -71,6 +71,14 @@ const PROBLEMS: &[(&[u8], &str)] = &[
         "This looks like a game record or a diagram. `tsume solve --kif` reads the board\ndiagram of a KIF file in UTF-8; of any other, copy the position as SFEN.\n",
     ),
     (
+        b"# Two problems\n9/4k4/8R/9/9/9/9/9/9 b R\n\n9/4k4/8R/9/9/9/9/9/9 b G\n",
+        "This looks like a collection of problems. `tsume collection` reads a problem in\neach line.\n",
+    ),
+    (
+        b"# Kifu, 2020/01/01\n",
+        "This looks like a game record or a diagram. `tsume solve --kif` reads the board\ndiagram of a KIF file in UTF-8; of any other, copy the position as SFEN.\n",
+    ),
+    (
         b"\xe5\xbe\x8c\xe6\x89\x8b\xe3\x81\xae\xe6\x8c\x81\xe9\xa7\x92\n",
         "This looks like a game record or a diagram. `tsume solve --kif` reads the board\ndiagram of a KIF file in UTF-8; of any other, copy the position as SFEN.\n",
     ),
@@ -105,6 +113,10 @@ const PROBLEMS: &[(&[u8], &str)] = &[
     (
         b"9/9/4K4/9/9/9/9/9/9 b -",
         "The side to move attacks, so the other side needs a king. If White is the\nattacker, the side to move is w.\n",
+    ),
+    (
+        b"9/9/4k4/9/9/9/9/9/9 w -",
+        "The side to move attacks, so the other side needs a king. If Black is the\nattacker, the side to move is b.\n",
     ),
     (
         b"4k4/9/4k4/9/9/9/9/9/9 b -",
@@ -248,6 +260,22 @@ const CERTIFICATES: &[(&[u8], &str)] = &[
     (
         b"certificate 1 escape 1\n4k4/9/4P4/9/9/9/9/9/9 b P\nend\n",
         "line 2:\n    4k4/9/4P4/9/9/9/9/9/9 b P\nExpected: `certificate 1 mate N` or `certificate 1 escape N`, then `problem`\nand an SFEN as `tsume solve` writes it; at most `checkmate ..` before these.\n",
+    ),
+    (
+        b"certificate 1 escape 01\nproblem 4k4/9/4P4/9/9/9/9/9/9 b P\nend\n",
+        "line 1:\n    certificate 1 escape 01\nExpected: `certificate 1 mate N` or `certificate 1 escape N`, then `problem`\nand an SFEN as `tsume solve` writes it; at most `checkmate ..` before these.\n",
+    ),
+    (
+        b"certificate 1 escape 1\nproblem 4k4/9/4P4/9/9/9/9/9/9 b P 1\nend\n",
+        "line 2:\n    problem 4k4/9/4P4/9/9/9/9/9/9 b P 1\nExpected: `certificate 1 mate N` or `certificate 1 escape N`, then `problem`\nand an SFEN as `tsume solve` writes it; at most `checkmate ..` before these.\n",
+    ),
+    (
+        b"checkmate nomate\ncertificate 1 escape 1\nproblem 4k4/9/4X4/9/9/9/9/9/9 b P\nend\n",
+        "line 3:\n    problem 4k4/9/4X4/9/9/9/9/9/9 b P\nExpected: `certificate 1 mate N` or `certificate 1 escape N`, then `problem`\nand an SFEN as `tsume solve` writes it; at most `checkmate ..` before these.\n",
+    ),
+    (
+        b"# Two problems\n9/4k4/8R/9/9/9/9/9/9 b R\n",
+        "This looks like a collection of problems. `tsume collection --certificates`\nprints the certificates of its problems, and `tsume check` reads one of them.\n",
     ),
     (
         b"checkmate nomate\ncertificate 1 escape 1\nproblem 4k4/9/4P4/9/9/9/9/9/9 b P\n4k4/9/4P4/9/9/9/9/9/9 b P 1\nend\n",

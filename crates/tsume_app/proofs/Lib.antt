@@ -1,7 +1,1 @@
-pub mod Running
-pub mod Complete
-pub mod Promises
-pub mod Armed
-pub mod SoFar
-pub mod Solving
-pub mod Checking
+pub mod Words

@@ -1,13 +1,4 @@
--- This project's; the USI protocol for the answer.
-pub mod Checked
+-- This project's.
 pub mod Exit
-pub mod EndedText
-pub mod Headline
-pub mod Input
-pub mod Inside
-pub mod Reports
 pub mod Run
-pub mod Solved
-pub mod Status
-pub mod Stops
 pub mod Told

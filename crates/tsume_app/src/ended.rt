@@ -1,71 +1,75 @@
 // How a run ended.
-ghost use Rattle.std.specs.Prelude.{◌≡◌, Some};
-ghost use Rattle.tsume_app.specs.Status.{solution_status, judgement_status, counts_status, answer_status, fault_status, status_of, is_answered};
+ghost use Rattle.std.specs.Prelude.{◌≡◌, IfOk};
+ghost use Rattle.run_telling.specs.Telling.{BeginsAsTold};
+ghost use Rattle.tsume_app.specs.Told.{refusal_status, refusal_telling, status_of, telling_of};
 
-use app_texts::{Answer, Counts, Fault, Judgement, Solution};
-use one_run::Input;
-use std::fmt::{self, Write};
+use app_texts::{Judgement, ProblemFault, Solution};
+use cert_text::CertFault;
+use cmd_collection::{Counts, NoFault};
+use cmd_survey::Summary;
+use fault_notes::Trouble;
+use one_run::Written;
+use run_telling::{Status, told_line, told_of, told_of_written};
+use std::alloc::{AllocError, Global};
+use tsume_words::WordFault;
 
-/// How a run ended. It prints as what the user is told of it beside the answer: nothing where it was answered, `write fault` where
-/// the sink failed, else its fault.
+/// Why no command was begun. Nothing was read or written.
+#[derive(Drop)]
+pub enum Refusal {
+    /// A word of the command line is no UTF-8. The program's run takes text alone: whoever makes the words tells this.
+    NotUtf8,
+    /// The words of the command line are refused.
+    Words(WordFault),
+    /// The text that the words give for a certificate's problem is none: its first fault.
+    Asked(ProblemFault),
+    /// Memory was wanted and not there.
+    NoMemory,
+}
+
+/// How a run ended: as the command did that the words asked for, or before one was begun.
 #[derive(Drop)]
 pub enum Ended {
-    /// With an answer, whose text was written whole.
-    Answered(Answer),
-    /// With an answer that stands, though the sink failed: it kept a part of the answer's text. Of a collection these are the counts of the lines that were decided,
-    /// and a part of their reports and counts.
-    CutShort(Answer),
-    /// Without an answer: its fault, and the bytes of the input, all of them where its text is at fault. Where the input wasn't read
-    /// whole there are none; for want of memory all or none. Nothing was written, but of a collection, for want of memory, whole reports.
-    Failed(Fault, Input),
+    /// As `solve`.
+    Solve(one_run::Ended<Solution, ProblemFault>),
+    /// As `check`.
+    Check(one_run::Ended<Judgement, CertFault>),
+    /// As `survey`.
+    Survey(Written<Summary>),
+    /// As `collection`.
+    Collection(one_run::Ended<Counts, NoFault>),
+    /// With help, or with the version, as clap made it.
+    Help(Written<String>),
+    /// No command was begun.
+    Refused(Refusal),
 }
 
-fn solution_status(solution: &Solution) -> u8
-    ensures { result ≡ solution_status solution.now }
-{
-    match solution {
-        Solution::Mate(..) | Solution::NoMate(_) => 0,
-        Solution::Unknown(..) => 1,
+impl Refusal {
+    /// The exit status: 2 where the words are refused, 6 for want of memory.
+    pub fn status(&self) -> u8
+        ensures { result ≡ refusal_status self.now }
+    {
+        match self {
+            Refusal::NotUtf8 | Refusal::Words(_) | Refusal::Asked(_) => 2,
+            Refusal::NoMemory => 6,
+        }
     }
-}
 
-fn judgement_status(judgement: &Judgement) -> u8
-    ensures { result ≡ judgement_status judgement.now }
-{
-    match judgement {
-        Judgement::Accepted { .. } => 0,
-        Judgement::Refused { .. } => 7,
-    }
-}
-
-fn counts_status(counts: &Counts) -> u8
-    ensures { result ≡ counts_status counts.now }
-{
-    if counts.faults > 0 {
-        return 3;
-    }
-    if counts.unknowns > 0 { 1 } else { 0 }
-}
-
-fn answer_status(answer: &Answer) -> u8
-    ensures { result ≡ answer_status answer.now }
-{
-    match answer {
-        Answer::Solved(solution) => solution_status(solution),
-        Answer::Judged(judgement) => judgement_status(judgement),
-        Answer::Collected(counts) => counts_status(counts),
-        Answer::Surveyed(_) | Answer::Help(_) => 0,
-    }
-}
-
-fn fault_status(fault: &Fault) -> u8
-    ensures { result ≡ fault_status fault.now }
-{
-    match fault {
-        Fault::NotUtf8 | Fault::Words(_) | Fault::Asked(_) => 2,
-        Fault::TooLong | Fault::Problem(_) | Fault::Cert(_) => 3,
-        Fault::Read => 4,
-        Fault::NoMemory => 6,
+    /// What the user is told of it. Errors: want of memory for the line.
+    pub fn told(&self, alloc: Global) -> Result<Vec<u8>, AllocError>
+        ensures { IfOk result (λ text. BeginsAsTold (refusal_telling self.now) text.items) }
+    {
+        match self {
+            Refusal::NotUtf8 => told_line(alloc, "a word is not UTF-8", None, &[]),
+            Refusal::Words(fault) => {
+                let words = format!(in alloc; "{fault}")?;
+                told_line(alloc, words.as_str(), None, &[])
+            }
+            Refusal::Asked(fault) => {
+                let words = format!(in alloc; "{fault}")?;
+                told_line(alloc, words.as_str(), None, &[])
+            }
+            Refusal::NoMemory => told_line(alloc, "out of memory", Some(Trouble::NoMemory), &[]),
+        }
     }
 }
 
@@ -76,33 +80,27 @@ impl Ended {
         ensures { result ≡ status_of self.now }
     {
         match self {
-            Ended::Answered(answer) => answer_status(answer),
-            Ended::CutShort(_) => 5,
-            Ended::Failed(fault, _) => fault_status(fault),
+            Ended::Solve(ended) => ended.status(),
+            Ended::Check(ended) => ended.status(),
+            Ended::Survey(ended) => ended.status(),
+            Ended::Collection(ended) => ended.status(),
+            Ended::Help(ended) => ended.status(),
+            Ended::Refused(refusal) => refusal.status(),
         }
     }
 
-    /// Whether it was answered, so that the user is told nothing beside the answer.
-    pub fn is_answered(&self) -> bool
-        ensures { result ≡ is_answered self.now }
+    /// What the user is told of the run beside its answer: nothing where it was answered; else a line, and behind it what is at fault, what was
+    /// expected, and what to do. Errors: want of memory for the line.
+    pub fn told(&self, alloc: Global) -> Result<Vec<u8>, AllocError>
+        ensures { IfOk result (λ text. BeginsAsTold (telling_of self.now) text.items) }
     {
         match self {
-            Ended::Answered(_) => true,
-            Ended::CutShort(_) | Ended::Failed(..) => false,
-        }
-    }
-}
-
-impl fmt::Display for Ended {
-    ghost use Rattle.tsume_app.specs.EndedText.{ended_text};
-
-    ghost output = { λ ended. Some (ended_text ended) };
-
-    fn fmt<W: Write>(&self, f: &mut fmt::Formatter<W>) -> fmt::Result {
-        match self {
-            Ended::Answered(_) => Ok(()),
-            Ended::CutShort(_) => write!(f, "write fault"),
-            Ended::Failed(fault, _) => write!(f, "{fault}"),
+            Ended::Solve(ended) => told_of(alloc, ended),
+            Ended::Check(ended) => told_of(alloc, ended),
+            Ended::Survey(ended) => told_of_written(alloc, ended),
+            Ended::Collection(ended) => told_of(alloc, ended),
+            Ended::Help(ended) => told_of_written(alloc, ended),
+            Ended::Refused(refusal) => refusal.told(alloc),
         }
     }
 }

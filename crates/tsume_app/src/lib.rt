@@ -1,25 +1,22 @@
-//! The program `tsume` as a library: [`run`] takes the words of the command line, a source, a sink, a gate, stops and the handle
-//! for threads, and does the rest.
+//! The program `tsume` as a library: [`run`] takes the words of the command line, read once ([`WordsRead`]), a source, a sink, a gate, stops and the handle
+//! for threads, and hands them on to the command that the words ask for.
 //!
-//! Its contract carries what the program promises: a printed mate is one, a printed "no mate" means that there is none, each with a
-//! certificate that the checker accepts; and every answer that is no verdict comes only for its stated cause, but for want of memory, which needs none.
+//! Its contract is the commands' own: whatever command ended the run is the one that the words asked for, and kept all that it promises. How a run
+//! ended is an [`Ended`], a sum of the commands' endings, with the status and what the user is told as each command has them. So a further
+//! command is a variant of it, and an arm.
 #![tactic(auto)]
 
-mod checked;
 mod ended;
 mod exit;
-mod input;
-mod many;
-mod note;
 mod program;
 mod progress;
-mod solved;
 mod telling;
 
 pub use cmd_check::MOST_CERTIFICATE_BYTES;
-pub use ended::Ended;
+pub use cmd_collection::MOST_COLLECTION_BYTES;
+pub use ended::{Ended, Refusal};
 pub use exit::Exit;
-pub use input::MOST_COLLECTION_BYTES;
 pub use one_run::Input;
 pub use program::{named_file, run, told_limit};
+pub use program_words::WordsRead;
 pub use telling::{Told, run_and_tell, start, tell};

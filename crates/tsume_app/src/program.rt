@@ -1,182 +1,159 @@
 // The run of the program.
-ghost use Rattle.std.specs.Prelude.{◌≡◌, ◌<◌, ◌⊎◌, ◌↔◌, ℕ, List, [], Option, Some, None, IfOk, IfErr, MatchResult, option_map, string_bytes, length};
-ghost use Rattle.board_core.specs.declared.moves.Move.{Move};
-ghost use Rattle.cert_text.specs.Certificate.{Mating, Escaping};
+ghost use Rattle.std.specs.Prelude.{◌≡◌, ◌<◌, ◌⊎◌, List, Option, Some, None, Err, IfOk, IfErr, option_map, string_bytes, length};
 ghost use Rattle.tsume_io.specs.Faults.{Rose};
-ghost use Rattle.cert_text.specs.declared.head.Claim.{Claim};
-ghost use Rattle.tsume_words.specs.Given.{Wish, WatchView, SurveyView, CollectionView, AsksForHelp, file_of};
-ghost use Rattle.search_limits.specs.Sizes.{SettingsView};
-ghost use Rattle.tsume_words.specs.Given.Wish.{to_solve, to_survey, to_collect};
-ghost use Rattle.tsume_words.specs.Meaning.{FailsFirst, command_of, texts_of, wish_of};
+ghost use Rattle.program_words.specs.Meaning.{AsksForHelp, FailsFirst, Wish, command_of, file_of, wish_of};
+ghost use Rattle.program_words.specs.Meaning.Wish.{to_check};
 ghost use Rattle.tsume_words.specs.declared.faults.WordFault.{WordFault};
-ghost use Rattle.tsume_words.specs.declared.form.ProblemForm.{ProblemForm};
 ghost use Rattle.clap.specs.Words.{Text as Word};
-ghost use Rattle.app_texts.specs.declared.counts.Counts.{Counts};
-ghost use Rattle.app_texts.specs.declared.tallies.Summary.{Summary};
-ghost use Rattle.search_limits.specs.declared.cause.Cause.{Cause};
-ghost use Rattle.visit_log.specs.Run.{WorkerView};
-ghost use Rattle.app_texts.specs.declared.fault.ProblemFault.{ProblemFault};
-ghost use Rattle.tsume_app.specs.Headline.{AsksToSolve, AsksToCheck, IsAccepted, IsBrokenOff};
-ghost use Rattle.cmd_check.specs.Headline.{IsValidText};
-ghost use Rattle.cmd_solve.specs.Headline.{StandsForMate, StandsForNoMate, StandsForUnknown, NamesMate, NamesNoMate};
-ghost use Rattle.app_texts.specs.Texts.{HasTexts};
-ghost use Rattle.tsume_app.specs.Inside.{HasWritten, IsReadCounted, IsReadFault};
-ghost use Rattle.tsume_app.specs.Input.{limit_of, IsAskedFault};
-ghost use Rattle.one_run.specs.Outside.{shown, NeverFailed};
-ghost use Rattle.tsume_app.specs.Stops.{AreUsedTill, deadline_in};
-ghost use Rattle.one_run.specs.Stops.{signals};
 ghost use Rattle.search_limits.specs.declared.settings.TheConstants.{MOST_WORKERS};
+ghost use Rattle.app_texts.specs.declared.fault.ProblemFault.{ProblemFault};
+ghost use Rattle.one_run.specs.Outside.{shown};
+ghost use Rattle.one_run.specs.Stops.{AreUnused, Signals, signals};
+ghost use Rattle.one_run.specs.Written.{IsStatedRun};
+ghost use Rattle.cmd_check.specs.Asked.{IsGivenFault, check_in};
+ghost use Rattle.cmd_check.specs.Words.{check_view};
+ghost use Rattle.tsume_app.specs.Run.{IsKept, GivesFault, GivesHelp, WantsMemory, help_meaning};
 ghost use Rattle.tsume_app.specs.Told.{limit_told};
-ghost use Rattle.tsume_app.specs.Run.{IsReadWhole, HasCause, IsEnded, IsCollected, IsSurvey, IsCounted, IsEndedUnasked, GivesHelp, IsWellPosed, IsAnswered, WantsMemory};
 
-use crate::checked::check_ended;
-use crate::ended::Ended;
-use crate::many::{collection_ended, survey_ended};
-use crate::solved::solve_ended;
-use app_texts::{Answer, Fault, Judgement, ProblemFault, Solution, answer_text};
-use cmd_check::{Check, asked_problem};
-use cmd_solve::Solve;
-use one_run::Input;
+use crate::ended::{Ended, Refusal};
+use app_texts::ProblemFault;
+use cmd_check::{Check, asked_problem, check};
+use cmd_collection::collection;
+use cmd_solve::solve;
+use cmd_survey::survey;
+use one_run::{Written, write};
 use problem_answers::problem_laws;
+use program_words::{Command, WordsRead};
 use search_gate::{Gate, Stop};
 use std::alloc::{AllocError, Global};
+use std::sync::Wait;
 use std::thread::Threads;
-use tsume_io::{ReadEnd, Sink, Source, read_all, write_all};
-use tsume_words::{Command, WordsEnd, read_words};
+use tsume_io::{Sink, Source};
+use tsume_words::WordsEnd;
 
 // Whether the problem that the words give for a certificate, where they give one, is one: else its
 // text's first fault.
 fn asked(command: &Command) -> Result<(), ProblemFault>
-    ensures fault { IfErr result (IsAskedFault (wish_of command.now)) }
-    ensures stopped { (fault : ProblemFault) → IsAskedFault (wish_of command.now) fault → result ≡ Err fault }
+    ensures fault { IfErr result (GivesFault (Some (wish_of command.now))) }
+    ensures stopped { (fault : ProblemFault) → GivesFault (Some (wish_of command.now)) fault → result ≡ Err fault }
 {
     match command {
-        Command::Check { problem, .. } => {
-            asked_problem(&Check { problem })?;
+        Command::Check(asked) => {
+            asked_problem(asked)?;
             Ok(())
         }
-        Command::Solve { .. } | Command::Survey { .. } | Command::Collection { .. } => Ok(()),
+        Command::Solve(_) | Command::Survey(_) | Command::Collection(_) => Ok(()),
     }
 }
 
-/// All bytes of the source, where there are no more than the limit, which is a command's.
-pub(crate) fn read_input<S: Source>(
+// Checks, where the words give no problem that is none.
+fn check_ended<R: Threads + Sync, S: Source, K: Sink>(
+    rt: &R,
     alloc: Global,
-    limit: usize,
+    asked: &Check,
     source: &mut S,
-) -> Result<Vec<u8>, Fault>
-    ensures read { (wish : Wish) → limit_of wish ≡ limit → IfOk result (λ input. IsReadWhole wish (shown S.left S.faults source.old source.new) input.items) }
-    ensures cause { (wish : Wish) → limit_of wish ≡ limit → IfErr result (λ fault. IsReadFault fault × HasCause wish (shown S.left S.faults source.old source.new) fault []) }
-    ensures counted { MatchResult result (λ input. NeverFailed (shown S.left S.faults source.old source.new)) (IsReadCounted (shown S.left S.faults source.old source.new)) }
+    sink: &mut K,
+) -> Ended
+    ensures kept { (words : List Word) (stops : Signals) → AreUnused stops
+        → IsKept result (Some (to_check (check_view asked.now))) words stops
+        (shown S.left S.faults source.old source.new) (shown K.kept K.faults sink.old sink.new) }
+    ensures asked { (fault : ProblemFault) → IsGivenFault (check_in asked.now) fault
+        → result ≡ Ended.Refused (Refusal.Asked fault) }
 {
-    match read_all(alloc, source, limit) {
-        Ok(input) => Ok(input),
-        Err(ReadEnd::Fault) => Err(Fault::Read),
-        Err(ReadEnd::TooLong) => Err(Fault::TooLong),
-        Err(ReadEnd::NoMemory) => Err(Fault::NoMemory),
+    // No text stands for two problems.
+    problem_laws();
+    match asked_problem(asked) {
+        Ok(problem) => Ended::Check(check(rt, alloc, asked, &problem, source, sink)),
+        Err(fault) => Ended::Refused(Refusal::Asked(fault)),
     }
 }
 
-/// Writes the whole text of an answer, which is made before the first write.
-pub(crate) fn write_answer<K: Sink>(alloc: Global, sink: &mut K, answer: Answer) -> Ended
-    requires { HasTexts answer }
-    ensures { HasWritten (shown K.kept K.faults sink.old sink.new) answer result }
+// Writes help, or the version.
+fn help<K: Sink>(alloc: Global, text: String, sink: &mut K) -> Written<String>
+    ensures { IsStatedRun help_meaning (shown K.kept K.faults sink.old sink.new) result }
 {
-    let Ok(text) = answer_text(alloc, &answer) else {
-        return Ended::Failed(Fault::NoMemory, Input::none(alloc));
-    };
-    if write_all(sink, &text).is_err() {
-        return Ended::CutShort(answer);
-    }
-    Ended::Answered(answer)
+    let bytes = Vec::from_slice(alloc, text.as_bytes());
+    write(text, bytes, sink)
 }
 
-fn command_ended<R: Threads + Sync, S: Source, K: Sink, G: Gate, T: Stop>(
+fn command_ended<R: Threads + Wait + Sync, S: Source, K: Sink, G: Gate, T: Stop + Drop>(
     rt: &R,
     alloc: Global,
     command: &Command,
     source: &mut S,
     sink: &mut K,
     gate: &G,
-    stops: &mut [T],
+    stops: &mut Vec<T>,
 ) -> Ended
-    requires { 0 < length stops.old }
-    ensures used { AreUsedTill (deadline_in (Some (wish_of command.now))) (signals T.signal stops.old stops.new) result }
-    ensures ended { IsEnded (wish_of command.now) (signals T.signal stops.old stops.new) (shown S.left S.faults source.old source.new) (shown K.kept K.faults sink.old sink.new) result }
-    ensures counted { IsCounted (shown S.left S.faults source.old source.new) (shown K.kept K.faults sink.old sink.new) result }
-    ensures asked { (fault : ProblemFault) → IsAskedFault (wish_of command.now) fault → result ≡ Ended.Failed (Fault.Asked fault) [] }
+    requires { length stops.old.items ≡ MOST_WORKERS }
+    ensures kept { (words : List Word) → IsKept result (Some (wish_of command.now)) words (signals T.signal stops.old.items stops.new.items)
+        (shown S.left S.faults source.old source.new) (shown K.kept K.faults sink.old sink.new) }
+    ensures asked { (fault : ProblemFault) → GivesFault (Some (wish_of command.now)) fault → result ≡ Ended.Refused (Refusal.Asked fault) }
 {
     match command {
-        Command::Solve {
-            settings,
-            form,
-            watch,
-        } => {
-            let asked = Solve {
-                settings: *settings,
-                form: *form,
-                watch: *watch,
-            };
-            solve_ended(alloc, &asked, source, sink, gate, stops)
-        }
-        Command::Check { problem, .. } => check_ended(alloc, &Check { problem }, source, sink),
-        Command::Survey { range } => survey_ended(rt, alloc, range, sink),
-        Command::Collection { settings, form } => {
-            collection_ended(rt, alloc, settings, form, source, sink)
-        }
+        Command::Solve(asked) => Ended::Solve(solve(rt, alloc, asked, source, sink, gate, stops)),
+        Command::Check(asked) => check_ended(rt, alloc, asked, source, sink),
+        Command::Survey(range) => Ended::Survey(survey(rt, alloc, range, sink)),
+        Command::Collection(asked) => Ended::Collection(collection(rt, alloc, asked, source, sink)),
     }
 }
 
-fn words_ended<R: Threads + Sync, S: Source, K: Sink, G: Gate, T: Stop>(
+fn words_ended<R: Threads + Wait + Sync, S: Source, K: Sink, G: Gate, T: Stop + Drop>(
     rt: &R,
     alloc: Global,
-    words: Vec<String>,
+    words: WordsRead,
     source: &mut S,
     sink: &mut K,
     gate: &G,
-    stops: &mut [T],
+    stops: &mut Vec<T>,
 ) -> Ended
-    requires { 0 < length stops.old }
-    ensures used { AreUsedTill (deadline_in (command_of (texts_of words.items))) (signals T.signal stops.old stops.new) result }
-    ensures ended { (wish : Wish) → command_of (texts_of words.items) ≡ Some wish
-        → IsEnded wish (signals T.signal stops.old stops.new) (shown S.left S.faults source.old source.new) (shown K.kept K.faults sink.old sink.new) result }
-    ensures counted { IsCounted (shown S.left S.faults source.old source.new) (shown K.kept K.faults sink.old sink.new) result }
-    ensures words { command_of (texts_of words.items) ≡ None
-        → IsEndedUnasked (texts_of words.items) (shown S.left S.faults source.old source.new) (shown K.kept K.faults sink.old sink.new) result }
-    ensures help { AsksForHelp (texts_of words.items) → ¬ Rose (K.faults sink.old) (K.faults sink.new) → GivesHelp result ⊎ WantsMemory result }
-    ensures stopped { (fault : WordFault) → FailsFirst (texts_of words.items) fault
-        → (result ≡ Ended.Failed (Fault.Words fault) []) ⊎ (result ≡ Ended.Failed Fault.NoMemory []) }
-    ensures asked { (wish : Wish) (fault : ProblemFault) → command_of (texts_of words.items) ≡ Some wish → IsAskedFault wish fault
-        → (result ≡ Ended.Failed (Fault.Asked fault) []) ⊎ (result ≡ Ended.Failed Fault.NoMemory []) }
+    requires { length stops.old.items ≡ MOST_WORKERS }
+    ensures kept { IsKept result (command_of words) words (signals T.signal stops.old.items stops.new.items)
+        (shown S.left S.faults source.old source.new) (shown K.kept K.faults sink.old sink.new) }
+    ensures help { AsksForHelp words → ¬ Rose (K.faults sink.old) (K.faults sink.new) → GivesHelp result ⊎ WantsMemory result }
+    ensures stopped { (fault : WordFault) → FailsFirst words fault
+        → (result ≡ Ended.Refused (Refusal.Words fault)) ⊎ (result ≡ Ended.Refused Refusal.NoMemory) }
+    ensures asked { (fault : ProblemFault) → GivesFault (command_of words) fault
+        → (result ≡ Ended.Refused (Refusal.Asked fault)) ⊎ (result ≡ Ended.Refused Refusal.NoMemory) }
 {
-    match read_words(alloc, &words) {
+    match words.into_reading() {
         Ok(asked) => command_ended(rt, alloc, &asked.command, source, sink, gate, stops),
-        Err(WordsEnd::Help(text)) => write_answer(alloc, sink, Answer::Help(text)),
-        Err(WordsEnd::Fault(fault)) => Ended::Failed(Fault::Words(fault), Input::none(alloc)),
-        Err(WordsEnd::NoMemory) => Ended::Failed(Fault::NoMemory, Input::none(alloc)),
+        Err(WordsEnd::Help(text)) => Ended::Help(help(alloc, text, sink)),
+        Err(WordsEnd::Fault(fault)) => Ended::Refused(Refusal::Words(fault)),
+        Err(WordsEnd::NoMemory) => Ended::Refused(Refusal::NoMemory),
+    }
+}
+
+// The same text once more. Errors: want of memory alone.
+fn copied(alloc: Global, text: &Option<String>) -> Result<Option<String>, AllocError>
+    ensures { IfOk result (λ copy. option_map string_bytes copy ≡ option_map string_bytes text.now) }
+{
+    match text {
+        Some(text) => Ok(Some(String::from_str(alloc, text.as_str())?)),
+        None => Ok(None),
     }
 }
 
 /// The file that the words name for their command to read, as they have its path: the word FILE, unless it is `-`. None where the standard
 /// input is to be read, and where the words are refused, ask for help, or give a problem that is none, so that nothing is opened then. Whoever calls [`run`] makes the
 /// source of it: one whose first read fails, where the file can't be opened. Errors: want of memory alone.
-pub fn named_file(alloc: Global, words: &[String]) -> Result<Option<String>, AllocError>
+pub fn named_file(alloc: Global, words: &WordsRead) -> Result<Option<String>, AllocError>
     // The file of a command whose problem, where the words give one, has no fault.
-    ensures named { (wish : Wish) → command_of (texts_of words.now) ≡ Some wish → ((fault : ProblemFault) → ¬ IsAskedFault wish fault)
-        → IfOk result (λ file. option_map string_bytes file ≡ file_of (texts_of words.now)) }
+    ensures named { (wish : Wish) → command_of words.now ≡ Some wish → ((fault : ProblemFault) → ¬ GivesFault (Some wish) fault)
+        → IfOk result (λ file. option_map string_bytes file ≡ file_of words.now) }
 
     // None where the words ask for no command, or give a problem that is none.
-    ensures unasked { command_of (texts_of words.now) ≡ None → IfOk result (λ file. file ≡ None) }
-    ensures asked { (wish : Wish) (fault : ProblemFault) → command_of (texts_of words.now) ≡ Some wish → IsAskedFault wish fault
-        → IfOk result (λ file. file ≡ None) }
+    ensures unasked { command_of words.now ≡ None → IfOk result (λ file. file ≡ None) }
+    ensures asked { (fault : ProblemFault) → GivesFault (command_of words.now) fault → IfOk result (λ file. file ≡ None) }
 {
-    match read_words(alloc, words) {
+    match words.reading() {
         Ok(asking) => match asked(&asking.command) {
-            Ok(()) => Ok(asking.file),
+            Ok(()) => copied(alloc, &asking.file),
             Err(_) => Ok(None),
         },
         Err(WordsEnd::NoMemory) => Err(AllocError),
-        Err(WordsEnd::Help(_) | WordsEnd::Fault(_)) => Ok(None),
+        Err(WordsEnd::Help(_)) => Ok(None),
+        Err(WordsEnd::Fault(_)) => Ok(None),
     }
 }
 
@@ -185,35 +162,32 @@ fn limit_told(command: &Command) -> Option<u64>
     ensures { result ≡ limit_told (wish_of command.now) }
 {
     match command {
-        Command::Solve {
-            settings,
-            watch,
-            ..
-        } => {
-            if watch.progress {
-                Some(settings.expansions)
+        Command::Solve(asked) => {
+            if asked.watch.progress {
+                Some(asked.settings.expansions)
             } else {
                 None
             }
         }
-        Command::Check { .. } | Command::Survey { .. } | Command::Collection { .. } => None,
+        Command::Check(_) | Command::Survey(_) | Command::Collection(_) => None,
     }
 }
 
 /// How many expansions the search has of which the words ask that its progress be told; none where they don't ask for it. Whoever calls [`run`] makes
 /// a gate that tells it. Errors: want of memory alone.
-pub fn told_limit(alloc: Global, words: &[String]) -> Result<Option<u64>, AllocError>
-    ensures told { (wish : Wish) → command_of (texts_of words.now) ≡ Some wish → IfOk result (λ limit. limit ≡ limit_told wish) }
-    ensures unasked { command_of (texts_of words.now) ≡ None → IfOk result (λ limit. limit ≡ None) }
+pub fn told_limit(words: &WordsRead) -> Result<Option<u64>, AllocError>
+    ensures told { (wish : Wish) → command_of words.now ≡ Some wish → IfOk result (λ limit. limit ≡ limit_told wish) }
+    ensures unasked { command_of words.now ≡ None → IfOk result (λ limit. limit ≡ None) }
 {
-    match read_words(alloc, words) {
+    match words.reading() {
         Ok(asked) => Ok(limit_told(&asked.command)),
         Err(WordsEnd::NoMemory) => Err(AllocError),
-        Err(WordsEnd::Help(_) | WordsEnd::Fault(_)) => Ok(None),
+        Err(WordsEnd::Help(_)) => Ok(None),
+        Err(WordsEnd::Fault(_)) => Ok(None),
     }
 }
 
-/// Runs the program on the words of the command line, those behind the program's name. What they ask for is what clap says
+/// Runs the program on the words of the command line, those behind the program's name, which were read ([`WordsRead::new`](program_words::WordsRead::new)). What they ask for is what clap says
 /// of them, and three tests after it; words that are refused end the run before anything is read. So does a request for help or for the
 /// version, whose text is written to the sink.
 ///
@@ -234,90 +208,35 @@ pub fn told_limit(alloc: Global, words: &[String]) -> Result<Option<u64>, AllocE
 /// [`MOST_COLLECTION_BYTES`](crate::MOST_COLLECTION_BYTES) of a collection or [`MOST_CERTIFICATE_BYTES`](crate::MOST_CERTIFICATE_BYTES) of a certificate; a text that is no problem or no certificate, with its first fault; a source or a
 /// sink whose count of faults rose; want of memory. The whole text is made before the first write, but for a collection, whose reports are written
 /// one by one. `solve` passes the gate for each
-/// unit, one visit of a position, as worker 1 (no clause says it), and no other command does. The stops, one for each worker that there may be, are armed once, with the deadline that the words
-/// give or with none, when `solve` has accepted its problem, and before that they aren't used; then worker 1 polls the first. (The tsume rule; USI protocol: `checkmate`.)
-pub fn run<R: Threads + Sync, S: Source, K: Sink, G: Gate, T: Stop>(
+/// unit, one visit of a position, as the worker that visits it (no clause says it), and no other command does. The stops, one for each worker that there may be, are armed once, with the deadline that the words
+/// give or with none, when `solve` has accepted its problem, and before that they aren't used; then each worker polls the one at its place. Only `solve` with several workers waits, for them: who
+/// asks for another command may call it in its own crate, without the handle for waiting. (The tsume rule; USI protocol: `checkmate`.)
+pub fn run<R: Threads + Wait + Sync, S: Source, K: Sink, G: Gate, T: Stop + Drop>(
     rt: &R,
     alloc: Global,
-    words: Vec<String>,
+    words: WordsRead,
     source: &mut S,
     sink: &mut K,
     gate: &G,
-    stops: &mut [T],
+    stops: &mut Vec<T>,
 ) -> Ended
-    requires { length stops.old ≡ MOST_WORKERS }
-    // In plain words. Where `solve` ended with a mate, the bytes that the source had left stand for a problem that is a mate, the
-    // certificate is valid for it and can be read, and the moves are its main line.
-    ensures mate { (form : ProblemForm) (input : List ℕ) (c : Mating) (moves : List Move)
-        → AsksToSolve form (texts_of words.items) → S.left source.old ≡ Some input
-        → result ≡ Ended.Answered (Answer.Solved (Solution.Mate c moves)) → StandsForMate form input c moves }
-
-    // Where it ended with no mate, the problem is none, and the certificate is valid for it and can be read.
-    ensures no_mate { (form : ProblemForm) (input : List ℕ) (c : Escaping)
-        → AsksToSolve form (texts_of words.items) → S.left source.old ≡ Some input
-        → result ≡ Ended.Answered (Answer.Solved (Solution.NoMate c)) → StandsForNoMate form input c }
-
-    // Where neither is told, one of the stated limits was used up: the expansions, the room for notes, or their height, and the worker
-    // that met it is told; or the first stop signalled; or the note that was found has more positions than a certificate is read with.
-    ensures gave_up { (settings : SettingsView) (form : ProblemForm) (watch : WatchView) (input : List ℕ) (cause : Cause) (crew : List WorkerView)
-        → command_of (texts_of words.items) ≡ Some (to_solve settings form watch) → S.left source.old ≡ Some input
-        → result ≡ Ended.Answered (Answer.Solved (Solution.Unknown cause crew)) → StandsForUnknown form settings (signals T.signal stops.old stops.new) input cause crew }
-
-    // Whatever the source tells of its bytes, as a file tells nothing: what ended with a mate names one, and what ended with no mate a
-    // problem that is none; and both can be read.
-    ensures own_mate { (c : Mating) (moves : List Move) → result ≡ Ended.Answered (Answer.Solved (Solution.Mate c moves)) → NamesMate c moves }
-    ensures own_no_mate { (c : Escaping) → result ≡ Ended.Answered (Answer.Solved (Solution.NoMate c)) → NamesNoMate c }
-
-    // Where `check` wasn't broken off, it accepts exactly where the bytes are the text of a certificate that is valid for the problem
-    // whose text the words give, or for its own where they give none, with its claim and the number of its entries.
-    ensures accepted { (problem : Option Word) (input : List ℕ) (claim : Claim) (entries : ℕ) → AsksToCheck problem (texts_of words.items)
-        → S.left source.old ≡ Some input
-        → ¬ IsBrokenOff result → (IsAccepted result claim entries ↔ IsValidText problem input claim entries) }
-
-    // Where `survey` ended with a summary, its tallies are those of the problems of the numbers that were asked for, in their order.
-    ensures surveyed { (range : SurveyView) (summary : Summary) → command_of (texts_of words.items) ≡ Some (to_survey range)
-        → result ≡ Ended.Answered (Answer.Surveyed summary) → IsSurvey range summary }
-
-    // Where `collection` was answered, each line that holds a problem was told by a true report, in their order, and the counts behind them.
-    ensures collected { (settings : SettingsView) (form : CollectionView) (counts : Counts) → command_of (texts_of words.items) ≡ Some (to_collect settings form)
-        → result ≡ Ended.Answered (Answer.Collected counts)
-        → IsCollected settings form (shown S.left S.faults source.old source.new) (shown K.kept K.faults sink.old sink.new) counts }
-
-    // In full. What a command did: a printed mate is one, a printed "no mate" means that there is none, each with a certificate that
-    // the checker accepts; an accepted certificate is valid; each refusal has its cause.
-    ensures ended { (wish : Wish) → command_of (texts_of words.items) ≡ Some wish
-        → IsEnded wish (signals T.signal stops.old stops.new) (shown S.left S.faults source.old source.new) (shown K.kept K.faults sink.old sink.new) result }
-
-    // Each stop is armed once, for the deadline that the words give or for none, where `solve` accepted its problem, the first before it is polled; and only the
-    // first is polled. Else no stop is used; where memory is wanted, either.
-    ensures used { AreUsedTill (deadline_in (command_of (texts_of words.items))) (signals T.signal stops.old stops.new) result }
-
-    // The source's count of faults rises only where the run ends for it, and the sink's likewise.
-    ensures counted { IsCounted (shown S.left S.faults source.old source.new) (shown K.kept K.faults sink.old sink.new) result }
-
-    // Words that ask for no command end before anything is read: in help or the version, where they may ask for it, or refused with the
-    // cause, or for want of memory.
-    ensures words { command_of (texts_of words.items) ≡ None
-        → IsEndedUnasked (texts_of words.items) (shown S.left S.faults source.old source.new) (shown K.kept K.faults sink.old sink.new) result }
+    requires { length stops.old.items ≡ MOST_WORKERS }
+    // Whatever command ended the run is the one that the words asked for, and it kept all that it promises, clause by clause: see `solve`, `check`,
+    // `survey` and `collection` of their crates. Where none was begun, the words asked for none, and help was written, where they may ask for it, or
+    // they are refused with the cause; or they gave a problem that is none; or memory was wanted. Nothing was read then, and no stop used.
+    ensures kept { IsKept result (command_of words) words (signals T.signal stops.old.items stops.new.items)
+        (shown S.left S.faults source.old source.new) (shown K.kept K.faults sink.old sink.new) }
 
     // A request for help or for the version is answered, unless the sink fails or memory is wanted.
-    ensures help { AsksForHelp (texts_of words.items) → ¬ Rose (K.faults sink.old) (K.faults sink.new) → GivesHelp result ⊎ WantsMemory result }
+    ensures help { AsksForHelp words → ¬ Rose (K.faults sink.old) (K.faults sink.new) → GivesHelp result ⊎ WantsMemory result }
 
     // Each of the three tests after clap is named where it is the first to fail, unless memory is wanted.
-    ensures stopped { (fault : WordFault) → FailsFirst (texts_of words.items) fault
-        → (result ≡ Ended.Failed (Fault.Words fault) []) ⊎ (result ≡ Ended.Failed Fault.NoMemory []) }
+    ensures stopped { (fault : WordFault) → FailsFirst words fault
+        → (result ≡ Ended.Refused (Refusal.Words fault)) ⊎ (result ≡ Ended.Refused Refusal.NoMemory) }
 
     // A problem that the words give for a certificate, and that is none, is named with its first fault, before anything is read, unless memory is wanted.
-    ensures asked { (wish : Wish) (fault : ProblemFault) → command_of (texts_of words.items) ≡ Some wish → IsAskedFault wish fault
-        → (result ≡ Ended.Failed (Fault.Asked fault) []) ⊎ (result ≡ Ended.Failed Fault.NoMemory []) }
-
-    // A survey is answered, and of a source that tells its bytes, none too many, the text of a problem, of a certificate (for a problem that is one, where the words
-    // give it) and of a collection, unless the outside fails or memory is wanted.
-    ensures complete { (wish : Wish) → command_of (texts_of words.items) ≡ Some wish → IsWellPosed wish (S.left source.old)
-        → ¬ Rose (S.faults source.old) (S.faults source.new) → ¬ Rose (K.faults sink.old) (K.faults sink.new)
-        → IsAnswered result ⊎ WantsMemory result }
+    ensures asked { (fault : ProblemFault) → GivesFault (command_of words) fault
+        → (result ≡ Ended.Refused (Refusal.Asked fault)) ⊎ (result ≡ Ended.Refused Refusal.NoMemory) }
 {
-    // No text stands for two problems.
-    problem_laws();
     words_ended(rt, alloc, words, source, sink, gate, stops)
 }

@@ -1,18 +1,15 @@
 // What the user is told beside the answer, and the program as a whole.
-ghost use Rattle.std.specs.Prelude.{◌≡◌, length, vec_len, ◌++◌, OnOk, IfOk};
-ghost use Rattle.tsume_words.specs.Meaning.{texts_of};
+ghost use Rattle.std.specs.Prelude.{◌≡◌, length, vec_len, IfOk};
 ghost use Rattle.one_run.specs.Outside.{shown};
 ghost use Rattle.search_limits.specs.declared.settings.TheConstants.{MOST_WORKERS};
 ghost use Rattle.one_run.specs.Stops.{signals};
-ghost use Rattle.tsume_app.specs.Told.{told_text, BeginsAsTold, IsTold, IsToldRun};
+ghost use Rattle.tsume_app.specs.Told.{IsTold, IsToldRun};
 
-use crate::ended::Ended;
+use crate::ended::{Ended, Refusal};
 use crate::exit::Exit;
-use crate::note::note_of;
 use crate::program::{named_file, run, told_limit};
 use crate::progress::{Clearing, Progress};
-use app_texts::Fault;
-use one_run::Input;
+use program_words::WordsRead;
 use search_gate::{DeadlineStop, Gate, Stop};
 use search_limits::MOST_WORKERS;
 use std::alloc::{AllocError, Global};
@@ -20,6 +17,7 @@ use std::env::{self, Env};
 use std::fmt;
 use std::fs::{self, Files};
 use std::io::{self, Eprint, Print};
+use std::sync::Wait;
 use std::thread::Threads;
 use std::time::Clock;
 use tsume_io::{Noted, Opened, Sink, Source, StdClock, StdSink, StdSource, write_all};
@@ -35,39 +33,13 @@ pub enum Told {
     Nothing,
 }
 
-fn append_told(alloc: Global, out: &mut Vec<u8>, ended: &Ended) -> Result<(), AllocError>
-    ensures { OnOk result (out.new.items ≡ out.old.items ++ told_text ended.now) }
-{
-    if ended.is_answered() {
-        return Ok(());
-    }
-    let line = format!(in alloc; "tsume: {ended}\n")?;
-    out.extend_from_slice(line.as_bytes())?;
-    Ok(())
-}
-
-// The line for the user, and what stands behind it; where memory for that is wanted, the line alone.
-fn text_of(alloc: Global, ended: &Ended) -> Result<Vec<u8>, AllocError>
-    ensures { IfOk result (λ text. BeginsAsTold ended.now text.items) }
-{
-    let mut text = Vec::new(alloc);
-    append_told(alloc, &mut text, ended)?;
-    if ended.is_answered() {
-        return Ok(text);
-    }
-    if let Ok(note) = note_of(alloc, ended) {
-        text.extend_from_slice(&note).ok();
-    }
-    Ok(text)
-}
-
 /// Tells the user how a run ended, on a sink beside that of the answer: nothing where it was answered, else a line with `tsume: ` and
-/// what the ending prints. Behind it lines may stand for a reader: what is at fault, what was expected, and what to do. No clause
+/// why it wasn't. Behind it lines may stand for a reader: what is at fault, what was expected, and what to do. No clause
 /// says which, but that they are of printable ASCII, and of a diagram's fault of the characters of Japanese texts too.
 pub fn tell<K: Sink>(alloc: Global, ended: &Ended, errors: &mut K) -> Told
     ensures { IsTold (shown K.kept K.faults errors.old errors.new) ended.now result }
 {
-    let Ok(text) = text_of(alloc, ended) else {
+    let Ok(text) = ended.told(alloc) else {
         return Told::Nothing;
     };
     if write_all(errors, &text).is_err() {
@@ -77,18 +49,18 @@ pub fn tell<K: Sink>(alloc: Global, ended: &Ended, errors: &mut K) -> Told
 }
 
 /// Runs the program as [`run`] does, and tells the user how it ended: see [`tell`]. What comes back is the exit status.
-pub fn run_and_tell<R: Threads + Sync, S: Source, K: Sink, E: Sink, G: Gate, T: Stop>(
+pub fn run_and_tell<R: Threads + Wait + Sync, S: Source, K: Sink, E: Sink, G: Gate, T: Stop + Drop>(
     rt: &R,
     alloc: Global,
-    words: Vec<String>,
+    words: WordsRead,
     source: &mut S,
     sink: &mut K,
     errors: &mut E,
     gate: &G,
-    stops: &mut [T],
+    stops: &mut Vec<T>,
 ) -> u8
-    requires { length stops.old ≡ MOST_WORKERS }
-    ensures { IsToldRun (texts_of words.items) (signals T.signal stops.old stops.new) (shown S.left S.faults source.old source.new) (shown K.kept K.faults sink.old sink.new)
+    requires { length stops.old.items ≡ MOST_WORKERS }
+    ensures { IsToldRun words (signals T.signal stops.old.items stops.new.items) (shown S.left S.faults source.old source.new) (shown K.kept K.faults sink.old sink.new)
         (shown E.kept E.faults errors.old errors.new) result }
 {
     let ended = run(rt, alloc, words, source, sink, gate, stops);
@@ -106,11 +78,11 @@ fn words<R: Env + AllocGlobal>(rt: &R) -> io::Result<Vec<String>> {
 }
 
 // Why there are no words.
-fn fault_of(error: &io::Error) -> Fault {
+fn refusal_of(error: &io::Error) -> Refusal {
     if error.kind() == io::ErrorKind::InvalidData {
-        Fault::NotUtf8
+        Refusal::NotUtf8
     } else {
-        Fault::NoMemory
+        Refusal::NoMemory
     }
 }
 
@@ -162,8 +134,8 @@ fn tell_reason<K: Sink>(
 }
 
 // Tells the user of a run that couldn't begin. What comes back is the exit status.
-fn fail<W: io::Write + Drop>(alloc: Global, fault: Fault, errors: W) -> u8 {
-    let ended = Ended::Failed(fault, Input::none(alloc));
+fn fail<W: io::Write + Drop>(alloc: Global, refusal: Refusal, errors: W) -> u8 {
+    let ended = Ended::Refused(refusal);
     tell(alloc, &ended, &mut StdSink::new(errors));
     ended.status()
 }
@@ -183,18 +155,19 @@ fn stops_by<R: Clock + AllocGlobal + Sync>(
 
 // The program over the file that the words name, or over the standard input. What comes back is the exit status.
 fn run_on_file<
-    R: io::Input + Print + Eprint + Files + Clock + AllocGlobal + Threads + Sync,
+    R: io::Input + Print + Eprint + Files + Clock + AllocGlobal + Threads + Wait + Sync,
     W: io::Write + Drop,
 >(rt: &R, words: Vec<String>, errors: W) -> u8 {
     let alloc = rt.alloc();
+    let words = WordsRead::new(alloc, words);
     let Ok(file) = named_file(alloc, &words) else {
-        return fail(alloc, Fault::NoMemory, errors);
+        return fail(alloc, Refusal::NoMemory, errors);
     };
     let Ok(mut stops) = stops_by(rt) else {
-        return fail(alloc, Fault::NoMemory, errors);
+        return fail(alloc, Refusal::NoMemory, errors);
     };
-    let Ok(limit) = told_limit(alloc, &words) else {
-        return fail(alloc, Fault::NoMemory, errors);
+    let Ok(limit) = told_limit(&words) else {
+        return fail(alloc, Refusal::NoMemory, errors);
     };
     let progress = Progress::new(rt, limit);
     let mut errors = StdSink::new(Clearing::new(&progress, errors));
@@ -224,12 +197,12 @@ fn run_on_file<
 /// tells what was read and what the system said. Where the words ask for progress, a line of how many visits were used is written a few times a second,
 /// each over the one before, and cleared when the answer is written or the user is told of a fault; behind a verdict a line tells how many it took. What comes back ends the process with the exit status.
 pub fn start<
-    R: Env + io::Input + Print + Eprint + Files + Clock + AllocGlobal + Threads + Sync,
+    R: Env + io::Input + Print + Eprint + Files + Clock + AllocGlobal + Threads + Wait + Sync,
     W: io::Write + Drop,
 >(rt: &R, errors: W) -> Exit {
     let status = match words(rt) {
         Ok(words) => run_on_file(rt, words, errors),
-        Err(error) => fail(rt.alloc(), fault_of(&error), errors),
+        Err(error) => fail(rt.alloc(), refusal_of(&error), errors),
     };
     Exit { status }
 }

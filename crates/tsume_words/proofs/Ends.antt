@@ -1,6 +1,7 @@
 -- From what clap gives, and the tests after it, to what the reading of the words promises.
-use Rattle.std.proofs.Common.{◌≡◌, ◌∙◌, ◌<◌, ◌⊎◌, ◌&&◌, inl, inr, Bool, true, false, List, [], ◌∷◌, Option, Some, None, Result, Ok, Err, refl, sym, ap, subst, arith, IfOk, IfErr, nat_le}
+use Rattle.std.proofs.Common.{◌≡◌, ◌∙◌, ◌<◌, ◌⊎◌, ◌&&◌, inl, inr, Bool, true, false, List, [], ◌∷◌, Option, Some, None, Result, Ok, Err, String, refl, sym, ap, subst, arith, IfOk, IfErr, nat_le}
 use Rattle.std.specs.Prelude.{IsOkAnd, IsSomeAnd, option_and_then, if◌then◌else◌}
+use Rattle.std.specs.Global.{Global}
 use Rattle.std.specs.Int.{IsPowerOfTwo, is_power_of_two}
 use Rattle.std.proofs.lemmas.Bool.{leb-true}
 use Rattle.clap.specs.Walk.{Row, Text}
@@ -9,37 +10,19 @@ use Rattle.search_limits.specs.Sizes.{SettingsView}
 use Rattle.clap.specs.Kinds.{IsAmong, Kinds}
 use Rattle.clap.specs.declared.error.kind.ErrorKind.{ErrorKind}
 use Rattle.clap.specs.Simple.{subcommand_of}
-use Rattle.tsume_words.specs.Given.{AsksForHelp, IsForCommand, IsTakenByClap, Wish, all_words, clap_faults, given_of, unless_faulty, wish_named}
-use Rattle.tsume_words.specs.Given.Wish.{to_solve, to_check, to_survey, to_collect}
-use Rattle.tsume_words.specs.Line.{tsume_line}
-use Rattle.tsume_words.specs.Meaning.{IsOutcomeFor, FailFirst, FailsFirst, IsClapsEnd, IsEndFor, IsHelp, IsStoppedBy, IsRefusalOf, are_sound, command_of, sound_wish, wish_of}
-use Rattle.tsume_words.specs.declared.command.Asked.{Asked}
+use Rattle.tsume_words.specs.Meaning.{Asks, CommandMeaning, FailFirst, HasTestLaws, IsClapsEnd, IsEnd, IsHelp, IsOutcome, IsReading, IsRefused, IsStopped, IsTakenByClap, ProgramMeaning, Tests}
+use Rattle.tsume_words.specs.Meaning.{all_words, are_sound, asked_by, clap_faults, file_by, given_by, if_sound, no_tests, search_tests, unless_faulty}
 use Rattle.search_limits.specs.declared.faults.Size.TheVariants.{Rows, Shards}
 use Rattle.tsume_words.specs.declared.faults.WordFault.{WordFault}
 use Rattle.tsume_words.specs.declared.faults.WordFault.TheVariants.{Clap, NotPowerOfTwo, MoreShardsThanRows}
 use Rattle.tsume_words.specs.declared.faults.WordsEnd.{WordsEnd}
 use Rattle.tsume_words.specs.declared.faults.WordsEnd.TheVariants.{Help, Fault, NoMemory}
-use Rattle.tsume_words.proofs.Taken.{taken_gives}
 
--- where clap takes the words it gives what `given_of` says
-pub given_where_taken : (words : List Text) (o : Option (Text × List Row)) (r : Result Asked WordsEnd) → IsTakenByClap words
-    → o ≡ subcommand_of tsume_line (all_words words) → IsSomeAnd (option_and_then wish_named o) (λ wish. IsOutcomeFor wish r)
-    → IsSomeAnd (given_of words) (λ wish. IsOutcomeFor wish r)
-given_where_taken words o r taken is h =
-    let all : given_of words ≡ option_and_then wish_named o = ap (λ k. unless_faulty k (option_and_then wish_named (subcommand_of tsume_line (all_words words)))) taken
-    ∙ ap (option_and_then wish_named) (sym is) in
-    subst (λ (w : Option Wish). IsSomeAnd w (λ wish. IsOutcomeFor wish r)) (sym all) h
+-- ---- the tests of commands
 
-pub command_where_taken : (words : List Text) (o : Option (Text × List Row)) → IsTakenByClap words
-    → o ≡ subcommand_of tsume_line (all_words words) → IsSomeAnd o IsForCommand
-command_where_taken words o taken is =
-    let got = taken_gives words taken in
-    subst (λ (q : Option (Text × List Row)). IsSomeAnd q IsForCommand) (sym (is ∙ got.1)) got.2
-
--- an error of clap's says that clap finds a fault
-pub fault_there : (kinds : Kinds) (k : ErrorKind) → IsAmong k kinds → kinds ≡ [] → ⊥
-fault_there [] k among e = among
-fault_there (x ∷ xs) k among e = absurd cc
+-- where there are no tests, they have their laws
+pub no_test_laws : {View : Type 0} → HasTestLaws (no_tests {View = View})
+no_test_laws = record { unsound = λ f v stopped sound. stopped; one = λ f g v a b. absurd a; own = λ text v stopped. stopped }
 
 -- sound numbers pass each test
 sound_parts : PowersHaveOneBit → (n : SettingsView) → are_sound n ≡ true → IsPowerOfTwo n.rows × IsPowerOfTwo n.shards × (n.rows < n.shards → ⊥)
@@ -58,21 +41,6 @@ unsound law (NotPowerOfTwo Shards) n fails sound = fails.1 (sound_parts law n so
 unsound law MoreShardsThanRows n fails sound = (sound_parts law n sound).2 fails.2
 unsound law (Clap text) n fails sound = fails
 
--- nothing is asked for with numbers that a test stops
-unsound_none : PowersHaveOneBit → (f : WordFault) (n : SettingsView) (w v : Wish) → FailFirst f n → (if are_sound n then Some w else None) ≡ Some v → ⊥
-unsound_none law f n w v fails e = go (are_sound n) refl e
-  where
-    go : (b : Bool) → are_sound n ≡ b → (if b then Some w else None) ≡ Some v → ⊥
-    go true is e = unsound law f n fails is
-    go false is e = absurd cc
-
--- a wish that a test stops asks for nothing
-stopped_none : PowersHaveOneBit → (f : WordFault) (w : Wish) (v : Wish) → IsStoppedBy f w → sound_wish w ≡ Some v → ⊥
-stopped_none law f (to_check n p) v stopped e = stopped
-stopped_none law f (to_survey range) v stopped e = stopped
-stopped_none law f (to_solve n form watch) v stopped e = unsound_none law f n (to_solve n form watch) v stopped e
-stopped_none law f (to_collect n form) v stopped e = unsound_none law f n (to_collect n form) v stopped e
-
 -- only one test is the first to fail
 one_first : (f g : WordFault) (n : SettingsView) → FailFirst f n → FailFirst g n → g ≡ f
 one_first (Clap text) g n a b = absurd a
@@ -87,97 +55,126 @@ one_first (NotPowerOfTwo Shards) MoreShardsThanRows n a b = absurd (a.1 b.1)
 one_first MoreShardsThanRows (NotPowerOfTwo Rows) n a b = absurd (b a.0)
 one_first MoreShardsThanRows (NotPowerOfTwo Shards) n a b = absurd (b.1 a.1)
 
-one_stop : (f g : WordFault) (w : Wish) → IsStoppedBy f w → IsStoppedBy g w → g ≡ f
-one_stop f g (to_check n p) a b = absurd a
-one_stop f g (to_survey range) a b = absurd a
-one_stop f g (to_solve n form watch) a b = one_first f g n a b
-one_stop f g (to_collect n form) a b = one_first f g n a b
-
--- all that the reading of the words promises
-pub record Promises (words : List Text) (r : Result Asked WordsEnd) : Type 0 where
-  pub command : IfOk r (λ asked. command_of words ≡ Some (wish_of asked.command))
-  pub ended : IfErr r (IsEndFor words)
-  pub help : AsksForHelp words → IsHelp r ⊎ (r ≡ Err NoMemory)
-  pub stopped : (fault : WordFault) → FailsFirst words fault → (r ≡ Err (Fault fault)) ⊎ (r ≡ Err NoMemory)
-  pub complete : (wish : Wish) → command_of words ≡ Some wish → IsOkAnd r (λ asked. wish_of asked.command ≡ wish) ⊎ (r ≡ Err NoMemory)
-
--- want of memory keeps them
-pub promised_by_memory : (words : List Text) → Promises words (Err NoMemory)
-promised_by_memory words = record { command = tt; ended = tt; help = λ asks. inr refl; stopped = λ f h. inr refl; complete = λ w e. inr refl }
-
-same_wish : (a b : Wish) → Some a ≡ Some b → a ≡ b
-same_wish a b e = cc
-
--- words that clap takes ask for no help
-asks_nothing : (words : List Text) → IsTakenByClap words → AsksForHelp words → ⊥
-asks_nothing words taken asks = fault_there (clap_faults words) asks.may.0 asks.may.1 taken
-
--- an outcome for what clap gave keeps them
-pub promised_by_outcome : PowersHaveOneBit → (words : List Text) (r : Result Asked WordsEnd) → IsTakenByClap words → IsSomeAnd (given_of words) (λ wish. IsOutcomeFor wish r) → Promises words r
-promised_by_outcome law words r taken h = go (given_of words) refl h
-  where
-    with : (w : Wish) (r : Result Asked WordsEnd) → given_of words ≡ Some w → IsOutcomeFor w r → Promises words r
-    with w (Ok c) is a =
-        let means : command_of words ≡ Some (wish_of c.command) = ap (option_and_then sound_wish) is ∙ a in
-        record {
-          command = means;
-          ended = tt;
-          help = λ asks. absurd (asks_nothing words taken asks);
-          stopped = λ f fails. absurd (stopped_none law f w (wish_of c.command) (subst (λ (o : Option Wish). IsSomeAnd o (IsStoppedBy f)) is fails) a);
-          complete = λ v e. inl (same_wish _ _ (sym means ∙ e));
-        }
-    with w (Err NoMemory) is a = promised_by_memory words
-    with w (Err (Help text)) is a = absurd a
-    with w (Err (Fault g)) is a = record {
-      command = tt;
-      help = λ asks. absurd (asks_nothing words taken asks);
-      ended = refuses g (subst (λ (o : Option Wish). IsSomeAnd o (IsStoppedBy g)) (sym is) a);
-      stopped = λ f fails. inl (ap (λ x. Err (Fault x)) (one_stop f g w (subst (λ (o : Option Wish). IsSomeAnd o (IsStoppedBy f)) is fails) a));
-      complete = λ v e. absurd (stopped_none law g w v a (sym (ap (option_and_then sound_wish) is) ∙ e));
-    }
-      where
-        refuses : (g : WordFault) → FailsFirst words g → IsRefusalOf words g
-        refuses (Clap text) fails = absurd (by_clap (given_of words) fails)
-          where
-            by_clap : (o : Option Wish) → IsSomeAnd o (IsStoppedBy (Clap text)) → ⊥
-            by_clap None x = x
-            by_clap (Some (to_solve n form watch)) x = x
-            by_clap (Some (to_check n p)) x = x
-            by_clap (Some (to_survey range)) x = x
-            by_clap (Some (to_collect n form)) x = x
-        refuses (NotPowerOfTwo size) fails = fails
-        refuses MoreShardsThanRows fails = fails
-
-    go : (o : Option Wish) → given_of words ≡ o → IsSomeAnd o (λ wish. IsOutcomeFor wish r) → Promises words r
-    go None is h = absurd h
-    go (Some w) is h = with w r is h
-
--- words that clap doesn't take ask for no command
-no_command : (words : List Text) (P : Option Wish → Type 0) → (IsTakenByClap words → ⊥) → (P None → ⊥) → P (given_of words) → ⊥
-no_command words P untaken bare p = go (clap_faults words) refl p
-  where
-    go : (k : Kinds) → clap_faults words ≡ k → P (unless_faulty k (option_and_then wish_named (subcommand_of tsume_line (all_words words)))) → ⊥
-    go [] is p = untaken is
-    go (x ∷ xs) is p = bare p
-
--- an end that clap's error became keeps them
-pub promised_by_clap : (words : List Text) (e : WordsEnd) (kind : ErrorKind) → IsClapsEnd kind e → (e ≡ NoMemory) ⊎ IsAmong kind (clap_faults words)
-    → Promises words (Err e)
-promised_by_clap words e kind claps (inl is) = subst (λ (x : WordsEnd). Promises words (Err x)) (sym is) (promised_by_memory words)
-promised_by_clap words NoMemory kind claps (inr among) = promised_by_memory words
-promised_by_clap words (Fault (NotPowerOfTwo size)) kind claps (inr among) = absurd claps
-promised_by_clap words (Fault MoreShardsThanRows) kind claps (inr among) = absurd claps
-promised_by_clap words (Fault (Clap text)) kind claps (inr among) = record {
-  command = tt;
-  ended = (kind, among, claps);
-  help = λ asks. absurd (asks.not_refused (kind, among, claps));
-  stopped = λ f fails. absurd (no_command words (λ o. IsSomeAnd o (IsStoppedBy f)) (fault_there _ _ among) (λ x. x) fails);
-  complete = λ v e. absurd (no_command words (λ o. option_and_then sound_wish o ≡ Some v) (fault_there _ _ among) (λ x. absurd cc) e);
+-- the tests of a search have their laws
+pub search_test_laws : {View : Type 0} → PowersHaveOneBit → (numbers : View → SettingsView) → HasTestLaws (search_tests numbers)
+search_test_laws law numbers = record {
+  unsound = λ f v stopped sound. unsound law f (numbers v) stopped sound;
+  one = λ f g v a b. one_first f g (numbers v) a b;
+  own = λ text v stopped. stopped;
 }
-promised_by_clap words (Help text) kind claps (inr among) = record {
-  command = tt;
-  ended = (kind, among, claps);
-  help = λ asks. inl tt;
-  stopped = λ f fails. absurd (no_command words (λ o. IsSomeAnd o (IsStoppedBy f)) (fault_there _ _ among) (λ x. x) fails);
-  complete = λ v e. absurd (no_command words (λ o. option_and_then sound_wish o ≡ Some v) (fault_there _ _ among) (λ x. absurd cc) e);
-}
+
+-- ---- the reading of a program's words
+
+module _ {Wish Answer : Type 0} (program : ProgramMeaning Wish) (view : Answer → Wish) (file : Answer → Option Text) where
+  -- where clap takes the words it gives what `given_by` says
+  pub given_where_taken : (words : List Text) (o : Option (Text × List Row)) (r : Result Answer WordsEnd) → IsTakenByClap program.line words
+      → o ≡ subcommand_of program.line (all_words words) → IsSomeAnd (option_and_then program.named o) (λ wish. IsOutcome program.tests view wish r)
+      → IsSomeAnd (given_by program words) (λ wish. IsOutcome program.tests view wish r)
+  given_where_taken words o r taken is h =
+      let all : given_by program words ≡ option_and_then program.named o =
+      ap (λ k. unless_faulty k (option_and_then program.named (subcommand_of program.line (all_words words)))) taken
+      ∙ ap (option_and_then program.named) (sym is) in
+      subst (λ (w : Option Wish). IsSomeAnd w (λ wish. IsOutcome program.tests view wish r)) (sym all) h
+
+  -- an error of clap's says that clap finds a fault
+  fault_there : (kinds : Kinds) (k : ErrorKind) → IsAmong k kinds → kinds ≡ [] → ⊥
+  fault_there [] k among e = among
+  fault_there (x ∷ xs) k among e = absurd cc
+
+  -- a wish that a test stops asks for nothing
+  stopped_none : HasTestLaws program.tests → (f : WordFault) (w v : Wish) → program.tests.IsStoppedBy f w → if_sound program.tests w ≡ Some v → ⊥
+  stopped_none laws f w v stopped e = go (program.tests.is_sound w) refl e
+    where
+      go : (b : Bool) → program.tests.is_sound w ≡ b → (if b then Some w else None) ≡ Some v → ⊥
+      go true is e = laws.unsound f w stopped is
+      go false is e = absurd cc
+
+  -- want of memory keeps them
+  promised_by_memory : (words : List Text) → IsReading program view file words (Err NoMemory)
+  promised_by_memory words = record {
+    command = tt;
+    file = tt;
+    ended = tt;
+    help = λ asks. inr refl;
+    stopped = λ f h. inr refl;
+    complete = λ w e. inr refl;
+  }
+
+  same_wish : (a b : Wish) → Some a ≡ Some b → a ≡ b
+  same_wish a b e = cc
+
+  -- words that clap takes ask for no help
+  asks_nothing : (words : List Text) → IsTakenByClap program.line words → Asks program.line words → ⊥
+  asks_nothing words taken asks = fault_there (clap_faults program.line words) asks.may.0 asks.may.1 taken
+
+  -- an outcome for what clap gave keeps them
+  pub promised_by_outcome : HasTestLaws program.tests → (words : List Text) (r : Result Answer WordsEnd) → IsTakenByClap program.line words
+      → IsSomeAnd (given_by program words) (λ wish. IsOutcome program.tests view wish r) → IfOk r (λ answer. file answer ≡ file_by program words)
+      → IsReading program view file words r
+  promised_by_outcome laws words r taken h names = go (given_by program words) refl h
+    where
+      with : (w : Wish) (r : Result Answer WordsEnd) → given_by program words ≡ Some w → IsOutcome program.tests view w r
+          → IfOk r (λ answer. file answer ≡ file_by program words) → IsReading program view file words r
+      with w (Ok c) is a names =
+          let sound : if_sound program.tests w ≡ Some w = ap (λ (b : Bool). if b then Some w else None) a.1 in
+          let means : asked_by program words ≡ Some (view c) = ap (option_and_then (if_sound program.tests)) is ∙ (sound ∙ ap Some (sym a.0)) in
+          record {
+            command = means;
+            file = names;
+            ended = tt;
+            help = λ asks. absurd (asks_nothing words taken asks);
+            stopped = λ f fails. absurd (stopped_none laws f w w (subst (λ (o : Option Wish). IsSomeAnd o (program.tests.IsStoppedBy f)) is fails) sound);
+            complete = λ v e. inl (same_wish _ _ (sym means ∙ e));
+          }
+      with w (Err NoMemory) is a names = promised_by_memory words
+      with w (Err (Help text)) is a names = absurd a
+      with w (Err (Fault g)) is a names = record {
+        command = tt;
+        file = tt;
+        help = λ asks. absurd (asks_nothing words taken asks);
+        ended = refuses g a (subst (λ (o : Option Wish). IsSomeAnd o (program.tests.IsStoppedBy g)) (sym is) a);
+        stopped = λ f fails. inl (ap (λ x. Err (Fault x)) (laws.one f g w (subst (λ (o : Option Wish). IsSomeAnd o (program.tests.IsStoppedBy f)) is fails) a));
+        complete = λ v e. absurd (stopped_none laws g w v a (sym (ap (option_and_then (if_sound program.tests)) is) ∙ e));
+      }
+        where
+          refuses : (g : WordFault) → program.tests.IsStoppedBy g w → IsStopped program words g → IsRefused program words g
+          refuses (Clap text) by fails = absurd (laws.own text w by)
+          refuses (NotPowerOfTwo size) by fails = fails
+          refuses MoreShardsThanRows by fails = fails
+
+      go : (o : Option Wish) → given_by program words ≡ o → IsSomeAnd o (λ wish. IsOutcome program.tests view wish r) → IsReading program view file words r
+      go None is h = absurd h
+      go (Some w) is h = with w r is h names
+
+  -- words that clap doesn't take ask for no command
+  no_command : (words : List Text) (P : Option Wish → Type 0) → (IsTakenByClap program.line words → ⊥) → (P None → ⊥) → P (given_by program words) → ⊥
+  no_command words P untaken bare p = go (clap_faults program.line words) refl p
+    where
+      go : (k : Kinds) → clap_faults program.line words ≡ k
+          → P (unless_faulty k (option_and_then program.named (subcommand_of program.line (all_words words)))) → ⊥
+      go [] is p = untaken is
+      go (x ∷ xs) is p = bare p
+
+  -- an end that clap's error became keeps them
+  pub promised_by_clap : (words : List Text) (e : WordsEnd) (kind : ErrorKind) → IsClapsEnd kind e → (e ≡ NoMemory) ⊎ IsAmong kind (clap_faults program.line words)
+      → IsReading program view file words (Err e)
+  promised_by_clap words e kind claps (inl is) = subst (λ (x : WordsEnd). IsReading program view file words (Err x)) (sym is) (promised_by_memory words)
+  promised_by_clap words NoMemory kind claps (inr among) = promised_by_memory words
+  promised_by_clap words (Fault (NotPowerOfTwo size)) kind claps (inr among) = absurd claps
+  promised_by_clap words (Fault MoreShardsThanRows) kind claps (inr among) = absurd claps
+  promised_by_clap words (Fault (Clap text)) kind claps (inr among) = record {
+    command = tt;
+    file = tt;
+    ended = (kind, among, claps);
+    help = λ asks. absurd (asks.not_refused (kind, among, claps));
+    stopped = λ f fails. absurd (no_command words (λ o. IsSomeAnd o (program.tests.IsStoppedBy f)) (fault_there _ _ among) (λ x. x) fails);
+    complete = λ v e. absurd (no_command words (λ o. option_and_then (if_sound program.tests) o ≡ Some v) (fault_there _ _ among) (λ x. absurd cc) e);
+  }
+  promised_by_clap words (Help text) kind claps (inr among) = record {
+    command = tt;
+    file = tt;
+    ended = (kind, among, claps);
+    help = λ asks. inl tt;
+    stopped = λ f fails. absurd (no_command words (λ o. IsSomeAnd o (program.tests.IsStoppedBy f)) (fault_there _ _ among) (λ x. x) fails);
+    complete = λ v e. absurd (no_command words (λ o. option_and_then (if_sound program.tests) o ≡ Some v) (fault_there _ _ among) (λ x. absurd cc) e);
+  }

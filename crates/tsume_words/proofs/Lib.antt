@@ -4,3 +4,4 @@ pub mod NoHelp
 pub mod Rows
 pub mod Taken
 pub mod Texts
+pub mod Offered

@@ -1,5 +1,5 @@
 -- This project's; clap for the meaning of words.
+pub mod Options
 pub mod Given
-pub mod Line
 pub mod Meaning
 pub mod FaultText

@@ -1,72 +1,36 @@
--- What the words of the command line mean: what clap gives for them, where it passes the three tests after it.
-use Rattle.std.specs.Prelude.{◌≡◌, ℕ, Result, Ok, Err, String, map, string_bytes, ◌&&◌, Bool, true, false, List, Option, Some, None, option_and_then, option_map}
-use Rattle.std.specs.Prelude.{if◌then◌else◌, nat_le, IsSomeAnd, ⊤}
+-- What words mean, of any command and of any program of commands: what clap gives for them, where it passes the tests after it.
+use Rattle.std.specs.Prelude.{◌≡◌, ℕ, Result, Ok, Err, String, map, string_bytes, ◌&&◌, Bool, true, false, List, [], ◌∷◌, Option, Some, None, option_and_then}
+use Rattle.std.specs.Prelude.{◌⊎◌, if◌then◌else◌, nat_le, IfOk, IfErr, IsOkAnd, IsSomeAnd, ⊤, codes}
+use Rattle.std.specs.Global.{Global}
 use Rattle.std.specs.Int.{is_power_of_two}
-use Rattle.clap.specs.Words.{Text}
+use Rattle.clap.specs.Words.{App, IsAmong, Kinds, Row, Shape, Text, fault_of, subcommand_of}
+use Rattle.clap.specs.Faults.{level_fault}
+use Rattle.clap.specs.Simple.{built_leaf}
+use Rattle.clap.specs.Walk.{nothing_held, rows_after}
+use Rattle.clap.specs.declared.error.kind.ErrorKind.{ErrorKind}
+use Rattle.clap.specs.declared.error.kind.ErrorKind.TheVariants.{DisplayHelp, DisplayVersion}
 use Rattle.search_limits.specs.Settings.{IsFirstOdd, HaveMoreShards, settings_in}
 use Rattle.search_limits.specs.Sizes.{SettingsView}
-use Rattle.tsume_words.specs.Given.{CollectionView, SurveyView, WatchView, Wish, given_of, is_help, MayAskForHelp, MayBeRefused}
-use Rattle.tsume_words.specs.Given.Wish.{to_solve, to_check, to_survey, to_collect}
-use Rattle.tsume_words.specs.declared.command.Command.{Command}
-use Rattle.tsume_words.specs.declared.command.Asked.{Asked}
-use Rattle.tsume_words.specs.declared.command.Command.TheVariants.{Solve, Check, Survey, Collection}
+use Rattle.search_limits.specs.declared.settings.Settings.{Settings}
 use Rattle.tsume_words.specs.declared.faults.WordFault.{WordFault}
 use Rattle.tsume_words.specs.declared.faults.WordFault.TheVariants.{Clap, NotPowerOfTwo, MoreShardsThanRows}
 use Rattle.tsume_words.specs.declared.faults.WordsEnd.{WordsEnd}
 use Rattle.tsume_words.specs.declared.faults.WordsEnd.TheVariants.{Help, Fault, NoMemory}
-use Rattle.clap.specs.declared.error.kind.ErrorKind.{ErrorKind}
-use Rattle.tsume_words.specs.declared.many.CollectionForm.{CollectionForm}
-use Rattle.tsume_words.specs.declared.many.SurveyRange.{SurveyRange}
-use Rattle.search_limits.specs.declared.settings.Settings.{Settings}
-use Rattle.tsume_words.specs.declared.watch.Watch.{Watch}
+
+-- ---- the tests after clap
+
+-- The tests of what words ask for, after clap's: whether it passes them all, and which is the first that it fails.
+pub record Tests (View : Type 0) : Type 1 where
+  pub is_sound : View → Bool
+  pub IsStoppedBy : WordFault → View → Type 0
+
+-- There are no tests but clap's.
+abbrev pub no_tests : {View : Type 0} → Tests View
+no_tests = record { is_sound = λ view. true; IsStoppedBy = λ fault view. ⊥ }
 
 -- The rows and the shards are powers of two, and there are no more shards than rows.
 abbrev pub are_sound : SettingsView → Bool
 are_sound n = is_power_of_two n.rows && (is_power_of_two n.shards && nat_le n.shards n.rows)
-
--- A wish to solve or to decide a collection stands where its numbers are sound, a wish to check or to survey always.
-abbrev pub sound_wish : Wish → Option Wish
-sound_wish (to_solve settings form watch) = if are_sound settings then Some (to_solve settings form watch) else None
-sound_wish (to_check workers problem) = Some (to_check workers problem)
-sound_wish (to_survey range) = Some (to_survey range)
-sound_wish (to_collect settings form) = if are_sound settings then Some (to_collect settings form) else None
-
--- What the words ask for: none where clap refuses them or one of the three tests after it fails.
-abbrev pub command_of : List Text → Option Wish
-command_of words = option_and_then sound_wish (given_of words)
-
--- How a search is watched.
-abbrev pub watch_in : Watch → WatchView
-watch_in w = record { deadline = w.deadline; progress = w.progress }
-
--- Which problems are surveyed.
-abbrev pub survey_in : SurveyRange → SurveyView
-survey_in r = record { seed = r.seed; count = r.count; expansions = r.expansions.count }
-
--- How the problems of a collection are decided.
-abbrev pub collection_in : CollectionForm → CollectionView
-collection_in f = record { rest = f.rest; certificates = f.certificates; threads = f.threads }
-
--- What a command asks for.
-abbrev pub wish_of : Command → Wish
-wish_of (Solve settings form watch) = to_solve (settings_in settings) form (watch_in watch)
-wish_of (Check workers problem) = to_check workers (option_map string_bytes problem)
-wish_of (Survey range) = to_survey (survey_in range)
-wish_of (Collection settings form) = to_collect (settings_in settings) (collection_in form)
-
--- By how many workers a command is to be done, or each of its searches.
-abbrev pub workers_of : Command → ℕ
-workers_of (Solve settings form watch) = settings.workers
-workers_of (Check workers problem) = workers
-workers_of (Survey range) = 1
-workers_of (Collection settings form) = settings.workers
-
--- A collection's searches have one worker each.
-abbrev pub HasLoneSearches : Command → Type 0
-HasLoneSearches (Collection settings form) = settings.workers ≡ 1
-HasLoneSearches (Solve settings form watch) = ⊤
-HasLoneSearches (Check workers problem) = ⊤
-HasLoneSearches (Survey range) = ⊤
 
 -- The numbers fail this test and pass those before it: the rows are a power of two, then the shards, and then there are
 -- no more shards than rows.
@@ -75,29 +39,123 @@ FailFirst (NotPowerOfTwo size) n = IsFirstOdd size n
 FailFirst MoreShardsThanRows n = HaveMoreShards n
 FailFirst (Clap text) n = ⊥
 
--- The wish is to solve, or to decide a collection, with numbers of which this test is the first to fail.
-abbrev pub IsStoppedBy : WordFault → Wish → Type 0
-IsStoppedBy fault (to_solve settings form watch) = FailFirst fault settings
-IsStoppedBy fault (to_check workers problem) = ⊥
-IsStoppedBy fault (to_survey range) = ⊥
-IsStoppedBy fault (to_collect settings form) = FailFirst fault settings
+-- The tests of the numbers of a search.
+abbrev pub search_tests : {View : Type 0} → (View → SettingsView) → Tests View
+search_tests numbers = record {
+  is_sound = λ view. are_sound (numbers view);
+  IsStoppedBy = λ fault view. FailFirst fault (numbers view);
+}
 
--- The outcome of the tests after clap, on these numbers: they are sound and stand in the settings, or else the first test that fails.
+-- The outcome of the tests of a search, on these numbers: they are sound and stand in the settings, or else the first test that fails.
 abbrev pub AreTested : SettingsView → Result Settings WordFault → Type 0
 AreTested n (Ok settings) = (settings_in settings ≡ n) × (are_sound n ≡ true)
 AreTested n (Err fault) = FailFirst fault n
 
--- Clap takes the words, and this test after it is the first to fail.
-abbrev pub FailsFirst : List Text → WordFault → Type 0
-FailsFirst words fault = IsSomeAnd (given_of words) (IsStoppedBy fault)
+-- The laws of tests: what a test stops isn't sound; only one test is the first to fail; and none of them is clap's.
+pub record HasTestLaws {View : Type 0} (tests : Tests View) : Type 0 where
+  pub unsound : (fault : WordFault) (view : View) → tests.IsStoppedBy fault view → ¬ (tests.is_sound view ≡ true)
+  pub one : (fault other : WordFault) (view : View) → tests.IsStoppedBy fault view → tests.IsStoppedBy other view → other ≡ fault
+  pub own : (text : String Global) (view : View) → ¬ tests.IsStoppedBy (Clap text) view
 
--- The outcome for a wish that clap gave: its command, where its numbers are sound, or else the first test that fails. Want of
--- memory is free.
-abbrev pub IsOutcomeFor : Wish → Result Asked WordsEnd → Type 0
-IsOutcomeFor wish (Ok asked) = sound_wish wish ≡ Some (wish_of asked.command)
-IsOutcomeFor wish (Err (Help text)) = ⊥
-IsOutcomeFor wish (Err (Fault fault)) = IsStoppedBy fault wish
-IsOutcomeFor wish (Err NoMemory) = ⊤
+-- The outcome of what words ask for, before the tests: it passes them and stands in the answer, or else the first test that it fails. Want of memory is free.
+abbrev pub IsOutcome : {View Answer : Type 0} → Tests View → (Answer → View) → View → Result Answer WordsEnd → Type 0
+IsOutcome tests view given (Ok answer) = (view answer ≡ given) × (tests.is_sound given ≡ true)
+IsOutcome tests view given (Err (Help text)) = ⊥
+IsOutcome tests view given (Err (Fault fault)) = tests.IsStoppedBy fault given
+IsOutcome tests view given (Err NoMemory) = ⊤
+
+-- ---- the words of a command
+
+-- What the words of a command mean: its clap line; what clap gives for it; what is asked for then, before its tests; the tests; and the
+-- file that it reads, none for the standard input or where it reads nothing.
+pub record CommandMeaning (View : Type 0) : Type 1 where
+  pub line : App
+  pub IsGiven : List Row → Type 0
+  pub given : List Row → View
+  pub tests : Tests View
+  pub file : List Row → Option Text
+
+-- A command's line as clap builds it.
+abbrev pub shape_of : App → Shape
+shape_of line = built_leaf line.top
+
+-- A law of a command: where clap finds no fault in the words behind its name, it gives for it what the command wants of it.
+abbrev pub IsGivenWhereTaken : {View : Type 0} → CommandMeaning View → Type 0
+IsGivenWhereTaken words = (behind : List Text) → level_fault (shape_of words.line) [] nothing_held behind false [] ≡ []
+    → words.IsGiven (rows_after (shape_of words.line).rules [] behind)
+
+-- ---- the words of a program
+
+-- What the words of a program mean: its clap line; what clap gives for a command of a name; what is asked for then, before the tests, none where
+-- there is no such command; the tests; and the file that is read.
+pub record ProgramMeaning (Wish : Type 0) : Type 1 where
+  pub line : App
+  pub IsGiven : Text × List Row → Type 0
+  pub named : Text × List Row → Option Wish
+  pub tests : Tests Wish
+  pub file : Text × List Row → Option Text
+
+-- The texts of the words.
+abbrev pub texts_of : {A : Type 0} → List (String A) → List Text
+texts_of words = map string_bytes words
+
+-- The words that clap reads are the program's name and then the user's.
+abbrev pub all_words : List Text → List Text
+all_words words = codes "tsume" ∷ words
+
+-- The faults that clap finds in the words: none where it takes them.
+abbrev pub clap_faults : App → List Text → Kinds
+clap_faults line words = fault_of line (all_words words)
+
+-- Clap takes the words.
+abbrev pub IsTakenByClap : App → List Text → Type 0
+IsTakenByClap line words = clap_faults line words ≡ []
+
+-- A kind of clap's fault is a request: for help, or for the version.
+abbrev pub is_help : ErrorKind → Bool
+is_help DisplayHelp = true
+is_help DisplayVersion = true
+is_help other = false
+
+-- Clap's first fault may be a request for help or for the version: one of the kinds that clap names for it is. (For the command
+-- `help` clap names two: that request, and that what follows is no command.)
+abbrev pub MayAsk : App → List Text → Type 0
+MayAsk line words = (kind : ErrorKind) × IsAmong kind (clap_faults line words) × (is_help kind ≡ true)
+
+-- Clap's first fault may be another: one of the kinds that clap names for it is no request.
+abbrev pub MayFail : App → List Text → Type 0
+MayFail line words = (kind : ErrorKind) × IsAmong kind (clap_faults line words) × (is_help kind ≡ false)
+
+-- Clap's first fault is a request for help or for the version.
+pub record Asks (line : App) (words : List Text) : Type 0 where
+  pub may : MayAsk line words
+  pub not_refused : ¬ MayFail line words
+
+-- A wish stands where clap found no fault.
+abbrev pub unless_faulty : {Wish : Type 0} → Kinds → Option Wish → Option Wish
+unless_faulty [] wish = wish
+unless_faulty (fault ∷ faults) wish = None
+
+-- What the words ask for, before the tests after clap: none where clap refuses them.
+abbrev pub given_by : {Wish : Type 0} → ProgramMeaning Wish → List Text → Option Wish
+given_by program words =
+    unless_faulty (clap_faults program.line words) (option_and_then program.named (subcommand_of program.line (all_words words)))
+
+-- A wish stands where it passes the tests.
+abbrev pub if_sound : {Wish : Type 0} → Tests Wish → Wish → Option Wish
+if_sound tests wish = if tests.is_sound wish then Some wish else None
+
+-- What the words ask for: none where clap refuses them or a test after it fails.
+abbrev pub asked_by : {Wish : Type 0} → ProgramMeaning Wish → List Text → Option Wish
+asked_by program words = option_and_then (if_sound program.tests) (given_by program words)
+
+-- The file that the words name: none for the standard input, or where nothing is read.
+abbrev pub file_by : {Wish : Type 0} → ProgramMeaning Wish → List Text → Option Text
+file_by program words = option_and_then program.file (subcommand_of program.line (all_words words))
+
+-- Clap takes the words, and this test after it is the first to fail.
+abbrev pub IsStopped : {Wish : Type 0} → ProgramMeaning Wish → List Text → WordFault → Type 0
+IsStopped program words fault = IsSomeAnd (given_by program words) (program.tests.IsStoppedBy fault)
 
 -- What an error of clap of this kind becomes: help, where it is a request, or else a refusal; or want of memory.
 abbrev pub IsClapsEnd : ErrorKind → WordsEnd → Type 0
@@ -107,21 +165,17 @@ IsClapsEnd kind (Fault (NotPowerOfTwo size)) = ⊥
 IsClapsEnd kind (Fault MoreShardsThanRows) = ⊥
 IsClapsEnd kind NoMemory = ⊤
 
--- The texts of the words.
-abbrev pub texts_of : {A : Type 0} → List (String A) → List Text
-texts_of words = map string_bytes words
-
 -- Why the words are refused: clap's first fault is no request, or this test after clap is the first to fail.
-abbrev pub IsRefusalOf : List Text → WordFault → Type 0
-IsRefusalOf words (Clap text) = MayBeRefused words
-IsRefusalOf words fault = FailsFirst words fault
+abbrev pub IsRefused : {Wish : Type 0} → ProgramMeaning Wish → List Text → WordFault → Type 0
+IsRefused program words (Clap text) = MayFail program.line words
+IsRefused program words fault = IsStopped program words fault
 
 -- Why the words give no command: clap's first fault is a request for help or for the version; or they are refused; want of memory says
 -- nothing.
-abbrev pub IsEndFor : List Text → WordsEnd → Type 0
-IsEndFor words (Help text) = MayAskForHelp words
-IsEndFor words (Fault fault) = IsRefusalOf words fault
-IsEndFor words NoMemory = ⊤
+abbrev pub IsEnd : {Wish : Type 0} → ProgramMeaning Wish → List Text → WordsEnd → Type 0
+IsEnd program words (Help text) = MayAsk program.line words
+IsEnd program words (Fault fault) = IsRefused program words fault
+IsEnd program words NoMemory = ⊤
 
 -- The words ended in help or in the version.
 abbrev pub IsHelp : {A : Type 0} → Result A WordsEnd → Type 0
@@ -129,3 +183,18 @@ IsHelp (Ok command) = ⊥
 IsHelp (Err (Help text)) = ⊤
 IsHelp (Err (Fault fault)) = ⊥
 IsHelp (Err NoMemory) = ⊥
+
+-- All that a reading of words promises, by what it came to, what is asked for then and which file is read.
+pub record IsReading {Wish Answer : Type 0} (program : ProgramMeaning Wish) (view : Answer → Wish) (file_in : Answer → Option Text) (words : List Text) (result : Result Answer WordsEnd) : Type 0 where
+  -- What comes back is what the words ask for, and the file that they name.
+  pub command : IfOk result (λ answer. asked_by program words ≡ Some (view answer))
+  pub file : IfOk result (λ answer. file_in answer ≡ file_by program words)
+  -- Help comes only where clap's first fault is a request for it or for the version, clap's refusal only where it is none, and each
+  -- other fault only where its test is the first to fail.
+  pub ended : IfErr result (IsEnd program words)
+  -- Help comes wherever clap's first fault is such a request, but for want of memory.
+  pub help : Asks program.line words → IsHelp result ⊎ (result ≡ Err NoMemory)
+  -- And each fault after clap comes where its test is the first to fail, but for want of memory.
+  pub stopped : (fault : WordFault) → IsStopped program words fault → (result ≡ Err (Fault fault)) ⊎ (result ≡ Err NoMemory)
+  -- Words that ask for something are not refused, but for want of memory.
+  pub complete : (wish : Wish) → asked_by program words ≡ Some wish → IsOkAnd result (λ answer. view answer ≡ wish) ⊎ (result ≡ Err NoMemory)

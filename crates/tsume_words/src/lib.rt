@@ -1,23 +1,31 @@
-//! What the words of the command line mean.
+//! How the words of a command line are read, whatever the commands are.
 //!
-//! [`read_words`] hands the words to clap and answers the [`Command`] that they ask for: to solve, with its
-//! [`Settings`](search_limits::Settings), the [`ProblemForm`] and how it is watched ([`Watch`]); to check; to survey problems by number ([`SurveyRange`]); or to decide a
-//! collection, with its settings and [`CollectionForm`]; and the file that it reads. Which words clap takes, and what it gives for them, is
-//! clap's own meaning of the command line; three tests follow it: the rows and the shards are powers of two, and there are no more shards than rows.
-//! Words that are refused are a [`WordFault`] with the text for the user; a request for help or for the version ends with clap's text.
+//! A command's words are its own: what they ask for is a type of its crate, which is [`CommandWords`]. Here stand the kinds of options that its line is
+//! made of ([`number_option`], [`flag_option`] and so on), those that several commands have, and what reads them of clap's answer ([`number`],
+//! [`settings`] and so on). Which words clap takes, and what it gives for them, is clap's own meaning of the line; a command may have tests
+//! behind it, as that the rows and the shards of a search are powers of two and that there are no more shards than rows. Words that are refused are a
+//! [`WordFault`] with the text for the user; a request for help or for the version ends with clap's text ([`WordsEnd`]).
+//! What a whole program promises of its words follows from what each command's words mean.
 #![tactic(auto)]
 
 mod command;
 mod faults;
 mod form;
-mod line;
-mod many;
+mod given;
+mod options;
 mod reading;
 mod watch;
 
-pub use command::{Asked, Command};
+pub use command::CommandWords;
 pub use faults::{WordFault, WordsEnd};
 pub use form::{Format, ProblemForm};
-pub use many::{CollectionForm, MOST_THREADS, SurveyRange};
-pub use reading::read_words;
+pub use given::{
+    expansions, file, is_flagged, number, number_if_given, problem_form, search_watch, settings,
+    text,
+};
+pub use options::{
+    deadline_option, expansions_option, file_word, flag_option, kif_flag, number_if_any_option,
+    number_option, progress_flag, rest_flag, room_option, rows_option, shards_option, text_option,
+};
+pub use reading::{end_of, with_program};
 pub use watch::{MOST_DEADLINE, Watch};

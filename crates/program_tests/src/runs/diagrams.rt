@@ -3,6 +3,7 @@ use super::examples::{GOLD_TEXT, REST_TEXT};
 use super::seen::seen_of;
 use crate::same::same;
 use std::process::Abort;
+use std::sync::Wait;
 use std::test::Fail;
 use std::thread::Threads;
 
@@ -27,7 +28,7 @@ const DIAGRAM: &str = "# KIF
 
 // A run on these words and the diagram with one text in place of another keeps this, or has this fault. A
 // byte-order mark stands in front of the diagram, and each line ends with CR LF.
-fn diagram_gives<R: Abort + Threads + AllocGlobal + Sync>(
+fn diagram_gives<R: Abort + Threads + Wait + AllocGlobal + Sync>(
     rt: &R,
     words: &str,
     old: &str,

@@ -3,6 +3,7 @@ use super::examples::{GOLD, GOLD_TEXT, MANY, MANY_TEXT};
 use super::seen::seen_of;
 use crate::same::same;
 use std::process::Abort;
+use std::sync::Wait;
 use std::test::Fail;
 use std::thread::Threads;
 
@@ -13,7 +14,7 @@ const ALL: (&str, &str, &str) = ("collection", MANY, MANY_TEXT);
 
 // A run whose source and sink, of such pieces, fail at the calls of these numbers, 0 for none, ends with this
 // status, and the sink has kept the answer to this place. Only where the source failed there is no answer.
-fn cut<R: Abort + Threads + AllocGlobal + Sync>(
+fn cut<R: Abort + Threads + Wait + AllocGlobal + Sync>(
     rt: &R,
     run: (&str, &str, &str),
     source: (usize, u64),

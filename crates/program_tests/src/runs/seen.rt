@@ -3,12 +3,14 @@ ghost use Rattle.std.specs.Prelude.{◌≡◌, IfOk, length, vec_len};
 ghost use Rattle.search_limits.specs.declared.settings.TheConstants.{MOST_WORKERS};
 
 use crate::lines::words_of;
+use one_run::Written;
 use search_gate::{Gate, MemStop, OpenGate, Stop};
 use search_limits::MOST_WORKERS;
 use std::alloc::{AllocError, Global};
+use std::sync::Wait;
 use std::test::Fail;
 use std::thread::Threads;
-use tsume_app::{Ended, run};
+use tsume_app::{Ended, WordsRead, run};
 use tsume_io::{MemSink, MemSource};
 
 // What a run did: its status, whether it has an answer, what the user is told beside it, how many bytes of its
@@ -22,18 +24,42 @@ pub(crate) struct Seen {
     pub(crate) kept: String,
 }
 
-fn has_answer(ended: &Ended) -> bool {
+// Whether a command's ending has an answer, and how many bytes of the input it kept.
+fn own<A: Drop, F: Drop>(ended: &one_run::Ended<A, F>) -> (bool, usize) {
     match ended {
-        Ended::Answered(_) | Ended::CutShort(_) => true,
-        Ended::Failed(..) => false,
+        one_run::Ended::Answered(_) | one_run::Ended::CutShort(_) => (true, 0),
+        one_run::Ended::Failed(_, input) => (false, input.bytes().len()),
     }
 }
 
-fn bytes_kept(ended: &Ended) -> usize {
-    match ended {
-        Ended::Answered(_) | Ended::CutShort(_) => 0,
-        Ended::Failed(_, input) => input.bytes().len(),
+fn own_written<A: Drop>(written: &Written<A>) -> (bool, usize) {
+    match written {
+        Written::Whole(_) | Written::InPart(_) => (true, 0),
+        Written::NoMemory => (false, 0),
     }
+}
+
+// The same of a run's.
+fn answer_and_input(ended: &Ended) -> (bool, usize) {
+    match ended {
+        Ended::Solve(ended) => own(ended),
+        Ended::Check(ended) => own(ended),
+        Ended::Survey(ended) => own_written(ended),
+        Ended::Collection(ended) => own(ended),
+        Ended::Help(ended) => own_written(ended),
+        Ended::Refused(_) => (false, 0),
+    }
+}
+
+// What the user is told in words: of refused words all, else the first line, without what explains it.
+fn words_told(alloc: Global, ended: &Ended) -> Result<String, Fail> {
+    let text = String::from_utf8(ended.told(alloc)?)?;
+    let words = text.as_str().strip_prefix("tsume: ").unwrap_or("");
+    let words = match ended {
+        Ended::Refused(_) => words.strip_suffix("\n").unwrap_or(words),
+        _ => words.split('\n').next().unwrap_or(""),
+    };
+    Ok(String::from_str(alloc, words)?)
 }
 
 // A stop for each worker that there may be; the first signals at its poll of this number, 0 for none.
@@ -50,7 +76,7 @@ pub(crate) fn stops_at(alloc: Global, poll: u64) -> Result<Vec<MemStop>, AllocEr
 
 // A run on the words of a line, with a source and a sink of these pieces that fail at the calls of these
 // numbers, 0 for none.
-pub(crate) fn seen_of<R: Threads + AllocGlobal + Sync>(
+pub(crate) fn seen_of<R: Threads + Wait + AllocGlobal + Sync>(
     rt: &R,
     line: &str,
     input: &str,
@@ -62,16 +88,16 @@ pub(crate) fn seen_of<R: Threads + AllocGlobal + Sync>(
 }
 
 // The same, with this gate and these stops.
-pub(crate) fn seen_by<R: Threads + AllocGlobal + Sync, G: Gate, T: Stop>(
+pub(crate) fn seen_by<R: Threads + Wait + AllocGlobal + Sync, G: Gate, T: Stop + Drop>(
     rt: &R,
     line: &str,
     input: &str,
     source: (usize, u64),
     sink: (usize, u64),
     gate: &G,
-    stops: &mut [T],
+    stops: &mut Vec<T>,
 ) -> Result<Seen, Fail>
-    requires { length stops.old ≡ MOST_WORKERS }
+    requires { length stops.old.items ≡ MOST_WORKERS }
 {
     if source.0 == 0 || sink.0 == 0 {
         return Err(Fail::from("no piece"));
@@ -81,13 +107,22 @@ pub(crate) fn seen_by<R: Threads + AllocGlobal + Sync, G: Gate, T: Stop>(
     let bytes = Vec::from_slice(alloc, input.as_bytes())?;
     let mut from = MemSource::make(bytes, source.0, Vec::from_slice(alloc, &[source.1])?);
     let mut to = MemSink::make(alloc, 65_536, sink.0, Vec::from_slice(alloc, &[sink.1])?)?;
-    let ended = run(rt, alloc, words, &mut from, &mut to, gate, stops);
+    let ended = run(
+        rt,
+        alloc,
+        WordsRead::new(alloc, words),
+        &mut from,
+        &mut to,
+        gate,
+        stops,
+    );
     let kept = Vec::from_slice(alloc, to.kept())?;
+    let (answered, read) = answer_and_input(&ended);
     Ok(Seen {
         status: ended.status(),
-        answered: has_answer(&ended),
-        fault: format!(in alloc; "{ended}")?,
-        read: bytes_kept(&ended),
+        answered,
+        fault: words_told(alloc, &ended)?,
+        read,
         kept: String::from_utf8(kept)?,
     })
 }

@@ -4,9 +4,10 @@ use super::seen::stops_at;
 use crate::lines::words_of;
 use crate::same::same;
 use search_gate::OpenGate;
+use std::sync::Wait;
 use std::test::Fail;
 use std::thread::Threads;
-use tsume_app::run_and_tell;
+use tsume_app::{WordsRead, run_and_tell};
 use tsume_io::{MemSink, MemSource};
 
 // Words, an input, the failing call of the sink and of the user's sink; the status, and what the user is told.
@@ -59,7 +60,7 @@ static TOLD: [(&str, &str, u64, u64, u8, &str); 9] = [
 
 // The status of a run on the words of a line, with sinks that fail at the calls of these numbers, and what the
 // user's has kept.
-fn told<R: Threads + AllocGlobal + Sync>(
+fn told<R: Threads + Wait + AllocGlobal + Sync>(
     rt: &R,
     line: &str,
     input: &str,
@@ -75,7 +76,7 @@ fn told<R: Threads + AllocGlobal + Sync>(
     let status = run_and_tell(
         rt,
         alloc,
-        words,
+        WordsRead::new(alloc, words),
         &mut from,
         &mut to,
         &mut errors,

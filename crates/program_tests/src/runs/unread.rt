@@ -4,7 +4,7 @@ use super::seen::seen_of;
 use crate::lines::words_of;
 use crate::same::same;
 use std::test::Fail;
-use tsume_app::named_file;
+use tsume_app::{WordsRead, named_file};
 
 // Words, the sink's failing call, the status, and a text and a part of one: where the words are refused the
 // whole answer and a part of what the user is told, otherwise what the user is told and a part of the answer.
@@ -79,7 +79,7 @@ fn a_file_is_named_where_words_ask_for_a_command(rt: HostRuntime) -> Result<(), 
         ("solve --help a.sfen", ""),
     ];
     for (line, name) in table {
-        let words = words_of(rt.alloc(), line)?;
+        let words = WordsRead::new(rt.alloc(), words_of(rt.alloc(), line)?);
         let file = named_file(rt.alloc(), &words)?;
         let found = match &file {
             Some(path) => path.as_str(),

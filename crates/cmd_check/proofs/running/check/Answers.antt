@@ -2,7 +2,7 @@ use Rattle.std.proofs.Common.{[], refl}
 use Rattle.one_run.specs.Outside.{shown}
 use Rattle.one_run.specs.Stops.{Signals}
 use Rattle.cmd_check.specs.Asked.{check_in}
-use Rattle.cmd_check.proofs.Promises.{accepted_of, posed_of}
+use Rattle.cmd_check.proofs.Promises.{accepted_of, posed_of, told_of}
 use Rattle.cmd_check.proofs.running.check.Goals as goal
 
 -- no stop at all
@@ -14,6 +14,12 @@ returns-clause-accepted g c = λ input claim entries told whole.
     accepted_of c.problem_laws.ensures (check_in c.args.asked.now) nobody (shown g.S.Source.left g.S.Source.faults c.args.source.now c.check_through.new.source)
     (shown g.K.Sink.kept g.K.Sink.faults c.args.sink.now c.check_through.new.sink) input claim entries c.check_through.result
     (c.check_through.ensures nobody refl).does told whole
+
+pub returns-clause-same : goal.returns-clause-same
+returns-clause-same g c = λ input judgement told whole is.
+    told_of c.problem_laws.ensures c.verdict_laws.ensures.once (check_in c.args.asked.now) nobody (shown g.S.Source.left g.S.Source.faults c.args.source.now c.check_through.new.source)
+    (shown g.K.Sink.kept g.K.Sink.faults c.args.sink.now c.check_through.new.sink) input judgement c.check_through.result
+    (c.check_through.ensures nobody refl).does told whole is
 
 pub returns-clause-complete : goal.returns-clause-complete
 returns-clause-complete g c = λ given sound kept.

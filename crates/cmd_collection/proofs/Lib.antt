@@ -1,0 +1,7 @@
+pub mod Alone
+pub mod Following
+pub mod Places
+pub mod Sent
+pub mod Totals
+pub mod Taken
+pub mod Offered

@@ -1,0 +1,38 @@
+use Rattle.std.proofs.Common.{◌∙◌, ap, ap₂}
+use Rattle.std.proofs.lemmas.Result.{IfOk-weaker}
+use Rattle.clap.specs.Words.{with_rule}
+use Rattle.tsume_words.proofs.Offered.{same_app, same_app_after, stays_local}
+use Rattle.cmd_collection.specs.Line.{collection_line}
+use Rattle.cmd_collection.proofs.words.CollectionCommandWords.line.Goals as goal
+
+pub returns : goal.returns
+unfolding collection_line
+returns c =
+    let bare = same_app_after _ _ _ c.after_help.ensures ∙ (same_app _ _ _ c.about.ensures ∙ c.new.ensures.app) in
+    let e = c.expansions_option.ensures in
+    let n = c.room_option.ensures in
+    let r = c.rows_option.ensures in
+    let s = c.shards_option.ensures in
+    let t = c.threads_option.ensures in
+    let f = c.rest_flag.ensures in
+    let p = c.certificates_flag.ensures in
+    let w_file = c.file_word.ensures in
+    let no_0 = ap (λ f. f.has_globals) c.after_help.ensures ∙ (ap (λ f. f.has_globals) c.about.ensures ∙ c.new.ensures.local) in
+    let one = c.in_ok-arg.ensures.shape e.local ∙ ap₂ with_rule bare e.rule in
+    let no_1 = stays_local _ _ _ c.in_ok-arg.ensures.globals no_0 e.local in
+    let two = c.in_ok-arg-2.ensures.shape n.local ∙ ap₂ with_rule one n.rule in
+    let no_2 = stays_local _ _ _ c.in_ok-arg-2.ensures.globals no_1 n.local in
+    let three = c.in_ok-arg-3.ensures.shape r.local ∙ ap₂ with_rule two r.rule in
+    let no_3 = stays_local _ _ _ c.in_ok-arg-3.ensures.globals no_2 r.local in
+    let four = c.in_ok-arg-4.ensures.shape s.local ∙ ap₂ with_rule three s.rule in
+    let no_4 = stays_local _ _ _ c.in_ok-arg-4.ensures.globals no_3 s.local in
+    let five = c.in_ok-arg-5.ensures.shape t.local ∙ ap₂ with_rule four t.rule in
+    let no_5 = stays_local _ _ _ c.in_ok-arg-5.ensures.globals no_4 t.local in
+    let six = c.in_ok-arg-6.ensures.shape f.local ∙ ap₂ with_rule five f.rule in
+    let no_6 = stays_local _ _ _ c.in_ok-arg-6.ensures.globals no_5 f.local in
+    let seven = c.in_ok-arg-7.ensures.shape p.local ∙ ap₂ with_rule six p.rule in
+    let no_7 = stays_local _ _ _ c.in_ok-arg-7.ensures.globals no_6 p.local in
+    record {
+      app = IfOk-weaker c.arg-8.result _ _ (λ r adds. adds.shape w_file.local ∙ ap₂ with_rule seven w_file.rule) c.arg-8.ensures;
+      local = IfOk-weaker c.arg-8.result _ _ (λ r adds. stays_local _ _ _ adds.globals no_7 w_file.local) c.arg-8.ensures;
+    }

@@ -1,0 +1,12 @@
+-- This project's.
+pub mod Asked
+pub mod Coming
+pub mod Counts
+pub mod FaultText
+pub mod Headline
+pub mod Inside
+pub mod Line
+pub mod Meaning
+pub mod ReportText
+pub mod Reports
+pub mod Words

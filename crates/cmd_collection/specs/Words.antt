@@ -1,0 +1,54 @@
+-- What the words of `collection` ask for.
+use Rattle.std.specs.Prelude.{ℕ, Bool, List, Option, codes}
+use Rattle.clap.specs.Words.{Row}
+use Rattle.tsume_words.specs.Given.{HasFlag, HasNumberIfAny, IsForSearch, file_of, is_flagged, number_if_given, settings_by}
+use Rattle.tsume_words.specs.Meaning.{CommandMeaning, search_tests}
+use Rattle.search_limits.specs.Sizes.{SettingsView}
+use Rattle.cmd_collection.specs.declared.form.TheConstants.{MOST_THREADS}
+use Rattle.cmd_collection.specs.declared.form.CollectionForm.{CollectionForm}
+use Rattle.cmd_collection.specs.Line.{collection_line}
+
+-- How the problems of a collection are decided: whether the defender is given the rest of the pieces, whether certificates are told,
+-- and how many problems are decided side by side, where that is said.
+pub record CollectionView : Type 0 where
+  pub rest : Bool
+  pub certificates : Bool
+  pub threads : Option ℕ
+
+-- How the problems of a collection are decided, by its parts.
+abbrev pub collection_in : CollectionForm → CollectionView
+collection_in f = record { rest = f.rest; certificates = f.certificates; threads = f.threads }
+
+-- What `collection` is asked: the numbers of each search, and how the problems are decided.
+pub record CollectView : Type 0 where
+  pub settings : SettingsView
+  pub form : CollectionView
+
+-- What clap gives for `collection`, each number in its range.
+pub record IsForCollection (found : List Row) : Type 0 where
+  pub numbers : IsForSearch found
+  pub threads : HasNumberIfAny (codes "threads") 1 MOST_THREADS found
+  pub rest : HasFlag (codes "rest") found
+  pub certificates : HasFlag (codes "certificates") found
+
+-- How the problems are decided, by what clap found for `collection`.
+abbrev pub collection_of : List Row → CollectionView
+collection_of found = record {
+  rest = is_flagged (codes "rest") found;
+  certificates = is_flagged (codes "certificates") found;
+  threads = number_if_given (codes "threads") found;
+}
+
+-- What is asked for, by what clap found for `collection`. Each search has one worker.
+abbrev pub collect_of : List Row → CollectView
+collect_of found = record { settings = settings_by 1 found; form = collection_of found }
+
+-- What the words of `collection` mean. The numbers of each search are tested.
+abbrev pub collection_words : CommandMeaning CollectView
+collection_words = record {
+  line = collection_line;
+  IsGiven = IsForCollection;
+  given = collect_of;
+  tests = search_tests (λ asked. asked.settings);
+  file = file_of;
+}

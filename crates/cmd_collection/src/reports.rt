@@ -1,0 +1,181 @@
+// The reports on the lines of a collection, one after another.
+ghost use Rattle.std.specs.Prelude.{◌≡◌, ◌<◌, ◌++◌, [], IsTrue, All, IfOk, OnOk, MatchOption, length, map, vec_len};
+ghost use Rattle.cmd_collection.specs.Words.{collection_in};
+ghost use Rattle.search_limits.specs.Settings.{settings_in};
+ghost use Rattle.problem_lines.specs.Lines.{problem_lines, seen};
+ghost use Rattle.cmd_collection.specs.Coming.{Coming, IsNext};
+ghost use Rattle.cmd_collection.specs.Inside.{IsReportOn};
+
+use crate::line_jobs::LineJobs;
+use crate::{CollectionForm, Report};
+use problem_lines::{Line, Lines};
+use search_limits::Settings;
+use search_pool::Table;
+use side_by_side::{MOST_MEMBERS, Team};
+use std::alloc::{AllocError, Global};
+use std::collections::VecDeque;
+use std::marker::Model;
+use std::thread::Threads;
+
+// How many lines of a stretch there are for each thread.
+const LINES_A_THREAD: usize = 32;
+
+/// A line of a collection, and what is told of it.
+#[derive(Drop)]
+pub struct Reported<'a> {
+    /// The line.
+    pub line: Line<'a>,
+    /// What is told of it: what the search of its problem came to, or why it holds none.
+    pub report: Report,
+}
+
+/// Goes over the lines of a collection that hold problems, and gives what is told of each. The problems of a stretch of lines are decided
+/// side by side by a [`Team`], each by a search of its own with one worker; how many there are in it changes no report (by tests; no
+/// clause says it). Contracts see the settings, the form, and the lines that are still to come.
+#[derive(Drop)]
+pub struct Reports<'a> {
+    lines: Lines<'a>,
+    // What was found ahead, in the order of the lines.
+    ahead: VecDeque<Reported<'a>>,
+    team: Team<Table, Reported<'a>>,
+    settings: Settings,
+    form: CollectionForm,
+}
+
+impl<'a> Model for Reports<'a> {
+    ghost use Rattle.std.specs.Prelude.{◌++◌, All, map};
+    ghost use Rattle.cmd_collection.specs.Words.{collection_in};
+    ghost use Rattle.search_limits.specs.Settings.{settings_in};
+    ghost use Rattle.problem_lines.specs.Lines.{seen};
+    ghost use Rattle.cmd_collection.specs.Coming.{Coming};
+    ghost use Rattle.cmd_collection.specs.Inside.{IsReportOn};
+
+    ghost Value = { Coming };
+
+    ghost view = { λ r. record { settings = settings_in r.settings; form = collection_in r.form; lines = map (λ one. seen one.line) r.ahead.items ++ r.lines } };
+
+    ghost invariant = { λ r. All (λ one. IsReportOn (settings_in r.settings) (collection_in r.form) one.line one.report) r.ahead.items };
+}
+
+// As many threads as the words say, or else as many as there can be.
+fn most_threads(form: &CollectionForm) -> usize {
+    match form.threads {
+        Some(threads) => threads as usize,
+        None => MOST_MEMBERS,
+    }
+}
+
+// The next lines, as many as there are up to this number, which is none only where there are none left.
+fn stretch<'a>(
+    alloc: Global,
+    lines: &mut Lines<'a>,
+    most: usize,
+) -> Result<Vec<Line<'a>>, AllocError>
+    requires { 0 < most }
+    ensures parts { IfOk result (λ stretch. lines.old ≡ map seen stretch.items ++ lines.new) }
+    ensures whole { IfOk result (λ stretch. stretch.items ≡ [] → lines.new ≡ []) }
+{
+    let mut stretch = Vec::new(alloc);
+    for _ in 0..most {
+        let Some(line) = lines.next() else {
+            break;
+        };
+        stretch.push(line)?;
+    }
+    Ok(stretch)
+}
+
+// The reports on lines, in their order.
+fn decided<'a, R: Threads + Sync>(
+    rt: &R,
+    alloc: Global,
+    team: &mut Team<Table, Reported<'a>>,
+    lines: &[Line<'a>],
+    settings: &Settings,
+    form: &CollectionForm,
+) -> Result<VecDeque<Reported<'a>>, AllocError>
+    ensures lines { IfOk result (λ all. map (λ one. one.line) all.items ≡ lines.now) }
+    ensures reports { IfOk result (λ all. All (λ one. IsReportOn (settings_in settings.now) (collection_in form.now) one.line one.report) all.items) }
+{
+    let jobs = LineJobs {
+        lines,
+        settings,
+        form,
+    };
+    let all = team.answers(rt, alloc, &jobs)?;
+    Ok(VecDeque::from(all))
+}
+
+fn has_none(ahead: &VecDeque<Reported<'_>>) -> bool
+    ensures none { IsTrue result → ahead.now.items ≡ [] }
+    ensures some { ahead.now.items ≡ [] → IsTrue result }
+{
+    ahead.is_empty()
+}
+
+// Has reports ahead where none are: those on the next lines, where there are any left.
+fn refill<'a, R: Threads + Sync>(
+    rt: &R,
+    alloc: Global,
+    lines: &mut Lines<'a>,
+    ahead: &mut VecDeque<Reported<'a>>,
+    team: &mut Team<Table, Reported<'a>>,
+    settings: &Settings,
+    form: &CollectionForm,
+) -> Result<(), AllocError>
+    requires { All (λ one. IsReportOn (settings_in settings.now) (collection_in form.now) one.line one.report) ahead.old.items }
+    ensures reports { All (λ one. IsReportOn (settings_in settings.now) (collection_in form.now) one.line one.report) ahead.new.items }
+    ensures same { OnOk result (map (λ one. seen one.line) ahead.old.items ++ lines.old ≡ map (λ one. seen one.line) ahead.new.items ++ lines.new) }
+    ensures none { OnOk result (ahead.new.items ≡ [] → lines.new ≡ []) }
+{
+    if !has_none(ahead) {
+        return Ok(());
+    }
+    let most = team.size().saturating_mul(LINES_A_THREAD);
+    let stretch = stretch(alloc, lines, most)?;
+    *ahead = decided(rt, alloc, team, &stretch, settings, form)?;
+    Ok(())
+}
+
+impl<'a> Reports<'a> {
+    /// The reports on the lines of a text, made with these settings and in this form. Takes memory for each thread's place alone; the
+    /// tables are made with the first problems. Errors: want of memory alone.
+    pub fn new<R: Threads>(
+        rt: &R,
+        alloc: Global,
+        text: &'a [u8],
+        settings: &Settings,
+        form: &CollectionForm,
+    ) -> Result<Reports<'a>, AllocError>
+        ensures { IfOk result (λ reports. reports ≡ record { settings = settings_in settings.now; form = collection_in form.now; lines = problem_lines text.now }) }
+    {
+        Ok(Reports {
+            lines: Lines::new(text),
+            ahead: VecDeque::new(alloc),
+            team: Team::new(rt, alloc, most_threads(form))?,
+            settings: *settings,
+            form: *form,
+        })
+    }
+
+    /// The next line that holds a problem, and what is told of it; none where there is none left. Takes memory for the reports on a
+    /// stretch of lines, and for a table and notes for each thread. Errors: want of memory alone, and then nothing more is to be asked.
+    pub fn next<R: Threads + Sync>(
+        &mut self,
+        rt: &R,
+        alloc: Global,
+    ) -> Result<Option<Reported<'a>>, AllocError>
+        ensures { IfOk result (λ next. MatchOption next ((self.old.lines ≡ []) × (self.new ≡ self.old)) (λ one. IsNext self.old (seen one.line) one.report self.new)) }
+    {
+        refill(
+            rt,
+            alloc,
+            &mut self.lines,
+            &mut self.ahead,
+            &mut self.team,
+            &self.settings,
+            &self.form,
+        )?;
+        Ok(self.ahead.pop_front())
+    }
+}

@@ -1,0 +1,122 @@
+// The words of `collection`. Lines of help end below 80 columns, where a test looks.
+ghost use Rattle.std.specs.Prelude.{◌≡◌, codes, false};
+ghost use Rattle.std.specs.Option.{ForSome};
+ghost use Rattle.clap.specs.Words.{found_of, rows_of, rule_of};
+ghost use Rattle.search_limits.specs.Sizes.{IsFromTo};
+ghost use Rattle.tsume_words.specs.Given.{HasNumberIfAny, number_if_given};
+ghost use Rattle.cmd_collection.specs.declared.form.TheConstants.{MOST_THREADS};
+ghost use Rattle.cmd_collection.specs.Line.{certificates_flag, threads_option};
+ghost use Rattle.cmd_collection.specs.Words.{IsForCollection, collection_in, collection_of};
+
+use crate::{Collection, CollectionForm, MOST_THREADS};
+use clap::{Arg, ArgMatches, Command};
+use std::alloc::{AllocError, Global};
+use tsume_words::{
+    CommandWords, WordsEnd, expansions_option, file, file_word, flag_option, is_flagged,
+    number_if_any_option, number_if_given, rest_flag, room_option, rows_option, settings,
+    shards_option,
+};
+
+fn threads_option<'a>(alloc: Global) -> Arg<'a>
+    ensures rule { rule_of result ≡ threads_option }
+    ensures local { result.global ≡ false }
+{
+    number_if_any_option(
+        alloc,
+        "threads",
+        "N",
+        1,
+        MOST_THREADS,
+        "Problems that are decided side by side, 1 to 64; where\n\
+             nothing is said, as many as there are processors. It\n\
+             changes no byte of the output. Each takes the memory\n\
+             of a search: a table of so many rows, 64 MB where\n\
+             nothing is said of them, and its notes",
+    )
+}
+
+fn certificates_flag<'a>(alloc: Global) -> Arg<'a>
+    ensures rule { rule_of result ≡ certificates_flag }
+    ensures local { result.global ≡ false }
+{
+    flag_option(
+        alloc,
+        "certificates",
+        "Print the certificate of each mate and each no mate\n\
+             behind its line. Off unless given; the output may be\n\
+             many times longer, the search isn't",
+    )
+}
+
+fn threads(given: &ArgMatches<'_>) -> Option<u32>
+    requires { HasNumberIfAny (codes "threads") 1 MOST_THREADS (rows_of (found_of given.now)) }
+    ensures number { result ≡ number_if_given (codes "threads") (rows_of (found_of given.now)) }
+    ensures range { ForSome result (IsFromTo 1 MOST_THREADS) }
+{
+    match number_if_given(given, "threads") {
+        Some(threads) => Some(threads as u32),
+        None => None,
+    }
+}
+
+fn collection_form(given: &ArgMatches<'_>) -> CollectionForm
+    requires { IsForCollection (rows_of (found_of given.now)) }
+    ensures { collection_in result ≡ collection_of (rows_of (found_of given.now)) }
+{
+    let rest = is_flagged(given, "rest");
+    let certificates = is_flagged(given, "certificates");
+    let threads = threads(given);
+    CollectionForm {
+        rest,
+        certificates,
+        threads,
+    }
+}
+
+impl CommandWords for Collection {
+    ghost use Rattle.cmd_collection.specs.Asked.{collect_in};
+    ghost use Rattle.cmd_collection.specs.Words.{CollectView, collection_words};
+
+    ghost View = { CollectView };
+
+    ghost view = { collect_in };
+
+    ghost meaning = { collection_words };
+
+    fn line<'a>(alloc: Global) -> Result<Command<'a>, AllocError> {
+        Command::new(alloc, "collection")
+            .about("Tells of every problem of a text, an SFEN a line, what is found")
+            .after_help(
+                "What follows a tab in a line is a note. A line that is empty then, or of spaces\n\
+                 alone, or that begins with #, is skipped. A line of the output begins with the\n\
+                 number of the input's line; the last line has the counts. The expansions, the\n\
+                 room and the rows count for each problem by itself. As with `solve`, every\n\
+                 interposition counts, and a mate need not be the shortest.\n\n\
+                 Status: 0 a verdict for each, 1 gave up on one, 3 a line is no problem or the\n\
+                 text is too long, 2 words refused, 4 reading failed, 5 writing failed, 6 out of\n\
+                 memory.\n\n\
+                 Example:\n  tsume collection problems.txt --rest",
+            )
+            .arg(expansions_option(alloc, "100000"))?
+            .arg(room_option(alloc))?
+            .arg(rows_option(alloc))?
+            .arg(shards_option(alloc, true))?
+            .arg(threads_option(alloc))?
+            .arg(rest_flag(alloc))?
+            .arg(certificates_flag(alloc))?
+            .arg(file_word(
+                alloc,
+                "The text's file, 16777216 bytes at most; - or none: standard input",
+            ))
+    }
+
+    fn read(_alloc: Global, given: &ArgMatches<'_>) -> Result<Collection, WordsEnd> {
+        let form = collection_form(given);
+        let settings = settings(given, 1)?;
+        Ok(Collection { settings, form })
+    }
+
+    fn file(alloc: Global, given: &ArgMatches<'_>) -> Result<Option<String>, AllocError> {
+        file(alloc, given)
+    }
+}

@@ -1,0 +1,93 @@
+// The words of `solve`. Lines of help end below 80 columns, where a test looks.
+ghost use Rattle.std.specs.Prelude.{◌≡◌, codes, false};
+ghost use Rattle.clap.specs.Words.{found_of, rows_of, rule_of};
+ghost use Rattle.search_limits.specs.Sizes.{IsFromTo};
+ghost use Rattle.search_limits.specs.declared.settings.TheConstants.{MOST_WORKERS};
+ghost use Rattle.tsume_words.specs.Given.{HasNumber, number_of};
+ghost use Rattle.cmd_solve.specs.Line.{workers_option};
+
+use crate::Solve;
+use clap::{Arg, ArgMatches, Command};
+use search_limits::MOST_WORKERS;
+use std::alloc::{AllocError, Global};
+use tsume_words::{
+    CommandWords, WordsEnd, deadline_option, expansions_option, file, file_word, kif_flag, number,
+    number_option, problem_form, progress_flag, rest_flag, room_option, rows_option, search_watch,
+    settings, shards_option,
+};
+
+fn workers_option<'a>(alloc: Global) -> Arg<'a>
+    ensures rule { rule_of result ≡ workers_option }
+    ensures local { result.global ≡ false }
+{
+    number_option(
+        alloc,
+        "workers",
+        1,
+        u64::from(MOST_WORKERS),
+        "1",
+        "Workers, a thread each (1 to 64)",
+    )
+}
+
+fn workers(given: &ArgMatches<'_>) -> u32
+    requires { HasNumber (codes "workers") 1 MOST_WORKERS (rows_of (found_of given.now)) }
+    ensures number { result ≡ number_of (codes "workers") (rows_of (found_of given.now)) }
+    ensures range { IsFromTo 1 MOST_WORKERS result }
+{
+    number(given, "workers") as u32
+}
+
+impl CommandWords for Solve {
+    ghost use Rattle.cmd_solve.specs.Asked.{solve_in};
+    ghost use Rattle.cmd_solve.specs.Meaning.{SolveView};
+    ghost use Rattle.cmd_solve.specs.Words.{solve_words};
+
+    ghost View = { SolveView };
+
+    ghost view = { solve_in };
+
+    ghost meaning = { solve_words };
+
+    fn line<'a>(alloc: Global) -> Result<Command<'a>, AllocError> {
+        Command::new(alloc, "solve")
+            .about("Solves a problem (SFEN or KIF): its mate, or that there is none")
+            .after_help(
+                "It prints a certificate too, which `tsume check` accepts. Every interposition\n\
+                 counts, also one that only delays (the convention that leaves out useless ones\n\
+                 isn't applied), so a mate may be longer than a problem's title says; nor need\n\
+                 the mate be the shortest.\n\n\
+                 Status: 0 a mate or none, 1 gave up, 2 words refused, 3 no problem, 4 reading\n\
+                 failed, 5 writing failed, 6 out of memory.\n\n\
+                 Example:\n  echo '4k4/9/4P4/9/9/9/9/9/9 b G 1' | tsume solve --expansions 100000",
+            )
+            .arg(workers_option(alloc))?
+            .arg(expansions_option(alloc, "1000000"))?
+            .arg(room_option(alloc))?
+            .arg(rows_option(alloc))?
+            .arg(shards_option(alloc, false))?
+            .arg(deadline_option(alloc))?
+            .arg(kif_flag(alloc))?
+            .arg(rest_flag(alloc))?
+            .arg(progress_flag(alloc))?
+            .arg(file_word(
+                alloc,
+                "The problem's file, 65536 bytes at most; - or none: standard input",
+            ))
+    }
+
+    fn read(_alloc: Global, given: &ArgMatches<'_>) -> Result<Solve, WordsEnd> {
+        let form = problem_form(given);
+        let watch = search_watch(given);
+        let settings = settings(given, workers(given))?;
+        Ok(Solve {
+            settings,
+            form,
+            watch,
+        })
+    }
+
+    fn file(alloc: Global, given: &ArgMatches<'_>) -> Result<Option<String>, AllocError> {
+        file(alloc, given)
+    }
+}

@@ -1,0 +1,108 @@
+-- What lists of positions bear out by dominance.
+use Rattle.std.proofs.Common.{◌≡◌, ◌≤◌, ℕ, zero, suc, List, Contains, arith, ap, sym, refl, ◌∙◌, subst}
+use Rattle.bit_boards.specs.declared.piece.Side.{Side}
+use Rattle.bit_boards.specs.Kind.{other, place_of}
+use Rattle.board_core.specs.declared.moves.Move.{Move}
+use Rattle.board_core.specs.Board.{Board, hand_count, hand_of}
+use Rattle.board_core.specs.Kept.{IsKept}
+use Rattle.shogi_rules.specs.Rules.{after}
+use Rattle.shogi_rules.specs.Tsume.{IsCheck, IsEvasion}
+use Rattle.shogi_rules.proofs.KeptAfter as keeping
+use Rattle.mate_def.specs.Mate.{after_both, RankAtMost}
+use Rattle.mate_facts.specs.declared.entry.MateEntry.{MateEntry}
+use Rattle.hand_dominance.specs.Dominance.{Dominates}
+use Rattle.hand_dominance.specs.BorneOut.{AreBorneOutAbove, IsClosedBelow, IsBelowListed}
+use Rattle.hand_dominance.proofs.Hands.{less_count, more_count}
+use Rattle.hand_dominance.proofs.Moves.{handed, same_board, after_handed}
+use Rattle.hand_dominance.proofs.Carried.{IsShifted, less_in, more_in, shifted_under, rank_up, carries_up, check_up, evasion_down, shifted_check, shifted_evasion}
+
+-- 1. DOMINANCE.
+
+pub above_too : (attacker : Side) (a b c : Board) → Dominates attacker a b → Dominates attacker b c → Dominates attacker a c
+above_too attacker a b c one two = record {
+  cells = one.cells ∙ two.cells;
+  turn = one.turn ∙ two.turn;
+  more = λ k. let low = two.more k in let high = one.more k in omega (arith, low, high);
+  less = λ k. let low = one.less k in let high = two.less k in omega (arith, low, high);
+}
+
+-- the position dominates the one with so many less, and more
+above_shifted : (attacker : Side) (less more : List ℕ) (b : Board) (black white : List ℕ) → IsShifted attacker less more b black white
+    → Dominates attacker b (handed b black white)
+above_shifted attacker less more b black white s = record {
+  cells = refl;
+  turn = refl;
+  more = λ k.
+      let low = less_count (hand_of b attacker) less (place_of k) in
+      let e = ap (λ (hand : List ℕ). hand_count hand k) s.own in omega (arith, low, e);
+  less = λ k.
+      let high = more_count (hand_of b (other attacker)) more (place_of k) in
+      let e = ap (λ (hand : List ℕ). hand_count hand k) s.its in omega (arith, high, e);
+}
+
+both_kept : (attacker : Side) (b : Board) (check evasion : Move) → IsKept b → IsCheck attacker b check → IsEvasion attacker (after b check) evasion
+    → IsKept (after_both b check evasion)
+both_kept attacker b check evasion k is answers =
+    keeping.kept_after (after b check) evasion (keeping.kept_after b check k is.legal) answers.legal
+
+-- 2. MATES.
+
+rank_within : (attacker : Side) (entries : List MateEntry) → AreBorneOutAbove entries attacker → (n : ℕ) (entry : MateEntry) → Contains entries entry
+    → entry.rank.number ≤ n → RankAtMost attacker n entry.at
+rank_within attacker entries borne zero entry listed low = absurd (let some = entry.rank.some in omega (arith, low, some))
+rank_within attacker entries borne (suc n) entry listed low =
+    let b = borne entry listed in (
+      entry.by,
+      b.1.check,
+      λ evasion is.
+          let next = b.1.evasions evasion is in
+          let lower = next.lower in
+          carries_up (λ side it. RankAtMost side n it) (λ side less more it black white s h. rank_up side less more n it black white s h) attacker
+          (after_both entry.at entry.by evasion) next.entry.at (both_kept attacker entry.at entry.by evasion b.0 b.1.check is)
+          (borne next.entry next.listed).0 next.above (rank_within attacker entries borne n next.entry next.listed (omega (arith, low, lower))),
+    )
+
+pub rank_above : (attacker : Side) (entries : List MateEntry) (entry : MateEntry) (position : Board) → AreBorneOutAbove entries attacker
+    → Contains entries entry → IsKept position → Dominates attacker position entry.at → RankAtMost attacker entry.rank.number position
+rank_above attacker entries entry position borne listed kept above =
+    carries_up (λ side it. RankAtMost side entry.rank.number it)
+    (λ side less more it black white s h. rank_up side less more entry.rank.number it black white s h) attacker position entry.at kept
+    (borne entry listed).0 above (rank_within attacker entries borne entry.rank.number entry listed (omega arith))
+
+-- 3. ESCAPES.
+
+-- the evasion that answers a check at the position above answers it below, and leads below what it led to
+pub none_below : (attacker : Side) (s : List Board) → IsClosedBelow attacker s → (n : ℕ) (position : Board) → IsKept position
+    → IsBelowListed attacker s position → RankAtMost attacker n position → ⊥
+none_below attacker s closed zero position kept low h = h
+none_below attacker s closed (suc n) position kept low h =
+    let b = low.listed in
+    let less = less_in attacker b position in
+    let more = more_in attacker b position in
+    let begun = shifted_under attacker b position (closed.kept b low.inside) kept low.below in
+    let as_handed = same_board b position low.below.cells low.below.turn in
+    let is = subst (λ (it : Board). IsCheck attacker it h.0) as_handed h.1 in
+    let mid = after b h.0 in
+    let at = handed b position.black position.white in
+    let down = after at h.0 in
+    let e = closed.answered b h.0 low.inside (check_up attacker less more b position.black position.white h.0 begun is) in
+    let same = after_handed b position.black position.white h.0 in
+    let between = shifted_check attacker less more b position.black position.white h.0 begun is in
+    let last = shifted_evasion attacker less more mid down.black down.white e.evasion between e.is_evasion in
+    let ends = after (handed mid down.black down.white) e.evasion in
+    let whole : after_both position h.0 e.evasion ≡ handed (after mid e.evasion) ends.black ends.white =
+    ap (λ (it : Board). after_both it h.0 e.evasion) as_handed
+    ∙ (ap (λ (it : Board). after it e.evasion) same ∙ after_handed mid down.black down.white e.evasion) in
+    let answers : IsEvasion attacker (after position h.0) e.evasion =
+    subst (λ (it : Board). IsEvasion attacker (after it h.0) e.evasion) (sym as_handed)
+    (subst (λ (it : Board). IsEvasion attacker it e.evasion) (sym same)
+    (evasion_down attacker less more mid down.black down.white e.evasion between e.is_evasion)) in
+    let under : Dominates attacker (after mid e.evasion) (after_both position h.0 e.evasion) =
+    subst (Dominates attacker (after mid e.evasion)) (sym whole)
+    (above_shifted attacker less more (after mid e.evasion) ends.black ends.white last) in
+    none_below attacker s closed n (after_both position h.0 e.evasion) (both_kept attacker position h.0 e.evasion kept h.1 answers)
+    (record {
+      listed = e.leads.listed;
+      inside = e.leads.inside;
+      below = above_too attacker e.leads.listed (after mid e.evasion) (after_both position h.0 e.evasion) e.leads.below under;
+    }) (h.2 e.evasion answers)

@@ -1,0 +1,3 @@
+-- When a position dominates another, and what lists of positions say by that.
+pub mod BorneOut
+pub mod Dominance

@@ -1,6 +1,0 @@
-use Rattle.std.proofs.Common.{◌≡◌, ◌++◌}
-use Rattle.std.specs.Map.{values_of}
-use Rattle.position_places.proofs.places.Places.on_board.Given as goal
-
-abbrev pub invariant-loop-place : goal.invariant-loop-place
-invariant-loop-place l = l.places.items ++ values_of l.place-iterator ≡ values_of l.initial.place-iterator

@@ -1,0 +1,3 @@
+-- This project's; clap for the meaning of words.
+pub mod Line
+pub mod Meaning

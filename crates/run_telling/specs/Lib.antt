@@ -1,0 +1,3 @@
+-- This project's.
+pub mod Status
+pub mod Telling

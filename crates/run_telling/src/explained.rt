@@ -1,0 +1,66 @@
+// What explains a fault of a text.
+use app_texts::ProblemFault;
+use cert_text::CertFault;
+use fault_notes::Trouble;
+use std::alloc::{AllocError, Global};
+
+/// What may be wrong with a command's text: its line for the user, and what explains it.
+pub trait Explained {
+    ghost use Rattle.std.specs.Prelude.{◌≡◌, ℕ, List, [], IfOk, MatchOption, string_bytes};
+    ghost use Rattle.fault_notes.specs.Shown.{IsHarmless};
+
+    /// It in words.
+    ghost text_of: { Self → List ℕ };
+
+    /// What may stand behind its line, for a reader.
+    ghost MayFollow: { Self → List ℕ → Type 0 };
+
+    /// It in words, with no line feed at the end. Errors: want of memory alone.
+    fn line(&self, alloc: Global) -> Result<String, AllocError>
+        ensures { IfOk result (λ line. string_bytes line ≡ text_of self.now) };
+
+    /// What explains it, if anything does.
+    fn trouble(&self) -> Option<Trouble>
+        ensures harmless { MatchOption result (MayFollow self.now [])
+            (λ trouble. (note : List ℕ) → IsHarmless trouble note → MayFollow self.now note) }
+        // Nothing may always follow.
+        ensures nothing { MayFollow self.now [] };
+}
+
+impl Explained for ProblemFault {
+    ghost use Rattle.app_texts.specs.FaultText.{problem_fault_text};
+    ghost use Rattle.run_telling.specs.Telling.{MayFollowProblem};
+
+    ghost text_of = { problem_fault_text };
+
+    ghost MayFollow = { MayFollowProblem };
+
+    fn line(&self, alloc: Global) -> Result<String, AllocError> {
+        format!(in alloc; "{self}")
+    }
+
+    fn trouble(&self) -> Option<Trouble> {
+        match self {
+            ProblemFault::Text(fault) => Some(Trouble::Problem(*fault)),
+            ProblemFault::Diagram(fault) => Some(Trouble::Diagram(*fault)),
+            ProblemFault::DefenderInCheck => Some(Trouble::DefenderInCheck),
+        }
+    }
+}
+
+impl Explained for CertFault {
+    ghost use Rattle.cert_text.specs.FaultText.{certificate_fault_text};
+    ghost use Rattle.fault_notes.specs.Shown.{IsPlain};
+
+    ghost text_of = { certificate_fault_text };
+
+    ghost MayFollow = { λ fault note. IsPlain note };
+
+    fn line(&self, alloc: Global) -> Result<String, AllocError> {
+        format!(in alloc; "{self}")
+    }
+
+    fn trouble(&self) -> Option<Trouble> {
+        Some(Trouble::Certificate(*self))
+    }
+}

@@ -1,0 +1,3 @@
+-- A search by several workers: how it ends.
+pub mod End
+pub mod Inside

@@ -1,0 +1,2 @@
+-- Certificates checked over several threads.
+pub mod Stretches

@@ -1,0 +1,64 @@
+// The stretches of a hearing, as jobs that are done side by side.
+ghost use Rattle.std.specs.Prelude.{◌≡◌, ◌<◌, ◌≤◌, ◌*◌, length};
+ghost use Rattle.cert_text.specs.Kinds.{positions_in};
+ghost use Rattle.wide_check.specs.Stretches.{stretch_end};
+
+use cert_check::{Hearing, Objection};
+use side_by_side::Jobs;
+use std::alloc::{AllocError, Global};
+
+/// The stretches of a round: of its entries so many each, but for the last, which ends where the round does.
+#[derive(Clone, Copy)]
+pub(crate) struct Stretches<'h, 'c> {
+    pub(crate) hearing: &'h Hearing<'c>,
+    /// The round's first entry, and the first behind it.
+    pub(crate) from: usize,
+    pub(crate) to: usize,
+    pub(crate) size: usize,
+    pub(crate) ghost some: { 1 ≤ size },
+    pub(crate) ghost forth: { from ≤ to },
+    pub(crate) ghost within: { to ≤ length (positions_in hearing.now.certificate) },
+}
+
+/// Where so many entries end that begin at one of them.
+pub(crate) fn stretch_end(from: usize, size: usize, count: usize) -> usize
+    requires { from ≤ count }
+    ensures end { result ≡ stretch_end from size count }
+    ensures within { result ≤ count }
+{
+    from + size.min(count - from)
+}
+
+// Each stretch is heard by itself.
+impl<'h, 'c> Jobs for Stretches<'h, 'c> {
+    ghost use Rattle.std.specs.Prelude.{◌-◌};
+    ghost use Rattle.std.specs.Int.{div_ceil};
+    ghost use Rattle.wide_check.specs.Stretches.{IsFoundInStretch};
+
+    type Tools = ();
+
+    type Answer = Option<Objection>;
+
+    ghost size = { λ stretches. div_ceil (stretches.to - stretches.from) stretches.size };
+
+    ghost is_answer = { λ stretches number found.
+        IsFoundInStretch stretches.hearing.now stretches.from stretches.to stretches.size number
+        found };
+
+    fn count(&self) -> usize {
+        (self.to - self.from).div_ceil(self.size)
+    }
+
+    fn tools(&self) {}
+
+    fn answer(
+        &self,
+        alloc: Global,
+        tools: &mut (),
+        number: usize,
+    ) -> Result<Option<Objection>, AllocError> {
+        let from = self.from + number * self.size;
+        let to = stretch_end(from, self.size, self.to);
+        self.hearing.objection_in(alloc, from, to)
+    }
+}

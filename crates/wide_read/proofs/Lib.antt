@@ -1,0 +1,4 @@
+pub mod Lists
+pub mod Joining
+pub mod Cuts
+pub mod Outcomes

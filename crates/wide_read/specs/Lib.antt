@@ -1,0 +1,2 @@
+-- Certificates read over several threads.
+pub mod Stretches
