@@ -1,5 +1,5 @@
 "use strict";
-// The page's checker over the forged certificates and texts of docs/forged, and over the vectors beside the repository.
+// The page's checker over the forged certificates and texts of tests/forged, and over the vectors beside the repository.
 const path = require("node:path");
 const fs = require("node:fs");
 const { VECTORS, FORGED, SAMPLES, TOP, loadCore, bytesOf, textOf, bytesOfText, firstLine, forgedRows, runsIn, Tally }
@@ -11,7 +11,7 @@ const core = loadCore();
 const told = ({ status, out, err }) => JSON.stringify([status, out, firstLine(err)]);
 
 function forged() {
-  const tally = new Tally("docs/forged");
+  const tally = new Tally("tests/forged");
   for (const { name, kind, answer, status, problem } of forgedRows()) {
     const bytes = bytesOf(path.join(FORGED, name));
     if (kind === "cert") {

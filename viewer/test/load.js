@@ -7,7 +7,7 @@ const TOP = path.resolve(__dirname, "../..");
 const PAGE = path.join(TOP, "viewer/tsume.html");
 // The vectors stand beside the repository, and aren't a part of it.
 const VECTORS = path.resolve(TOP, "../shared/vectors");
-const FORGED = path.join(TOP, "docs/forged");
+const FORGED = path.join(TOP, "tests/forged");
 const SAMPLES = path.join(__dirname, "samples");
 
 function loadCore() {
@@ -20,7 +20,7 @@ const textOf = (file) => (fs.existsSync(file) ? fs.readFileSync(file, "latin1") 
 const bytesOfText = (text) => new Uint8Array(Buffer.from(text, "latin1"));
 const firstLine = (text) => text.split("\n")[0];
 
-// Each row of docs/forged/answers.md: { name, kind, answer, status, problem }.
+// Each row of tests/forged/answers.md: { name, kind, answer, status, problem }.
 function forgedRows() {
   const row = /^\| ((\S+)\.(cert|sfen)) \| .*? \| `([^`]*)` \| (\d) \|(.*)\|$/;
   return textOf(path.join(FORGED, "answers.md")).split("\n").map((line) => row.exec(line)).filter(Boolean)

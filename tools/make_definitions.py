@@ -1,8 +1,8 @@
 #!/usr/bin/env python3
 """Makes docs/definitions.md from the specs/ of the crates: each definition's name and the sentence above it.
 
-usage: docs/make_definitions.py            writes docs/definitions.md
-       docs/make_definitions.py --check    ends with 1, and names what is missing, where the file isn't what would be written
+usage: tools/make_definitions.py            writes docs/definitions.md
+       tools/make_definitions.py --check    ends with 1, and names what is missing, where the file isn't what would be written
 
 The first lines of a crate's specs/Lib.antt say where its definitions come from; the first lines of a file say what it holds.
 """
@@ -12,7 +12,7 @@ TOP = os.path.dirname(os.path.dirname(os.path.abspath(__file__)))
 HEAD = """# Definitions
 
 The definitions in `specs/`, by crate and file, each with its sentence as it stands there. This page is made from them by
-`docs/make_definitions.py`. Behind a crate's name stands the public source of its definitions.
+`tools/make_definitions.py`. Behind a crate's name stands the public source of its definitions.
 """
 DEFINED = re.compile(r"^(?:abbrev pub|unfoldable pub|pub record|pub data|pub|abbrev|unfoldable|infixl? \d+) ?([^\s:(]+)")
 

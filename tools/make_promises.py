@@ -1,8 +1,8 @@
 #!/usr/bin/env python3
 """Makes the lower part of docs/promises.md from the src/ of the crates: each public call, and the names of its clauses.
 
-usage: docs/make_promises.py            writes what stands below the mark in docs/promises.md
-       docs/make_promises.py --check    ends with 1 where it isn't what would be written
+usage: tools/make_promises.py            writes what stands below the mark in docs/promises.md
+       tools/make_promises.py --check    ends with 1 where it isn't what would be written
 
 A call is public where src/lib.rt names it, its type or its trait. Its row has the first sentence of its comment; what it asks of
 its caller; and the names of its clauses, `it` for one that has no name.
@@ -13,7 +13,7 @@ sys.dont_write_bytecode = True
 from make_definitions import TOP, crates
 
 PAGE = os.path.join(TOP, "docs", "promises.md")
-MARK = "<!-- What follows is made by docs/make_promises.py. -->\n"
+MARK = "<!-- What follows is made by tools/make_promises.py. -->\n"
 FN = re.compile(r"^( *)(pub )?fn ([a-z_0-9]+)")
 CLAUSE = re.compile(r"^ *(requires|ensures) ([a-z_0-9]+ )?\{")
 BLOCK = re.compile(r"^(?:pub )?(?:impl(?:<[^{]*?>)?|trait) (?:(?P<trait>[A-Z]\w*)(?:<[^{]*>)? for )?(?P<name>[A-Z]\w*)")

@@ -1,9 +1,9 @@
 #!/usr/bin/env python3
-"""Makes the table of docs/gate.md from the crates and from docs/gate_costs.txt: what each crate's own check costs from nothing.
+"""Makes the table of docs/gate.md from the crates and from tools/gate_costs.txt: what each crate's own check costs from nothing.
 
-usage: docs/make_gate.py            writes what stands between the two marks in docs/gate.md
-       docs/make_gate.py --check    ends with 1 where it isn't what would be written
-       docs/make_gate.py --take     takes new costs from the standard input into docs/gate_costs.txt, with today's date
+usage: tools/make_gate.py            writes what stands between the two marks in docs/gate.md
+       tools/make_gate.py --check    ends with 1 where it isn't what would be written
+       tools/make_gate.py --take     takes new costs from the standard input into tools/gate_costs.txt, with today's date
 
 Lines are counted here, without blank ones; a crate's tests count as code. The costs are measured by checking each crate from
 nothing, `rt`'s own caches empty. What is taken is a table whose head names at least the columns `crate`, `processor s` and
@@ -15,8 +15,8 @@ sys.dont_write_bytecode = True
 from make_definitions import TOP, crates
 
 PAGE = os.path.join(TOP, "docs", "gate.md")
-COSTS = os.path.join(TOP, "docs", "gate_costs.txt")
-MARK = "<!-- What follows is made by docs/make_gate.py. -->\n"
+COSTS = os.path.join(TOP, "tools", "gate_costs.txt")
+MARK = "<!-- What follows is made by tools/make_gate.py. -->\n"
 END = "<!-- What follows is written by hand again. -->\n"
 COSTS_HEAD = """# What the check of a crate costs, measured by checking each crate from nothing, `rt`'s own caches empty.
 # crate, processor s, peak MB of one process, date

@@ -1,7 +1,7 @@
 #!/usr/bin/env python3
 """Asks the solver about many small problems in several ways, and tells where two answers differ.
 
-    docs/differential.py TSUME [COMPARE] [--count N] [--seed N]
+    tools/differential.py TSUME [COMPARE] [--count N] [--seed N]
 
 TSUME is the built program, COMPARE the built program of crates/compare. The problems are made here, at random but by the seed: few pieces
 near a king, either side attacking, with a king of its own or without. Of each, decided by `collection`:
