@@ -32,15 +32,15 @@ cause_text (Height height) = codes "height " ++ decimal height
 cause_text (Stopped worker) = codes "stopped"
 cause_text (Entries most) = codes "entries " ++ decimal most
 
--- The text of an answer to `solve`. For a mate and for none the line of the USI protocol, for a mate with its moves, and the
--- certificate; for neither the line of the USI protocol, and why.
+-- The text of an answer to `solve`. For a mate and for none the line of the USI protocol, for a
+-- mate with its moves, and the certificate; for neither the line of the USI protocol, and why.
 abbrev pub solution_text : Solution → List ℕ
 solution_text (Mate c moves) = line (mate_text moves) ++ certificate_text (certificates.Mate c)
 solution_text (NoMate c) = line nomate_text ++ certificate_text (certificates.Escape c)
 solution_text (Unknown cause crew) = line timeout_text ++ line (codes "unknown " ++ cause_text cause)
 
--- The text of an answer to `check`. For an accepted certificate what it claims and the number of its entries, for a refused one the
--- entry and the reason.
+-- The text of an answer to `check`. For an accepted certificate what it claims and the number of
+-- its entries, for a refused one the entry and the reason.
 abbrev pub judgement_text : Judgement → List ℕ
 judgement_text (Accepted claim entries) = line (codes "accepted " ++ claim_word claim ++ 32 ∷ decimal entries)
 judgement_text (Refused entry why) = line (codes "refused " ++ decimal entry ++ 32 ∷ why_text why)

@@ -6,7 +6,8 @@ use search_limits::Cause;
 use search_pool::Crew;
 use std::marker::Model;
 
-/// The moves of a mate: the attacker's and the defender's in turn, from the attacker's first. Contracts see the list.
+/// The moves of a mate: the attacker's and the defender's in turn, from the attacker's first.
+/// Contracts see the list.
 #[derive(Drop)]
 pub struct MainLine {
     moves: Vec<Move>,
@@ -46,8 +47,9 @@ pub enum Solution {
     Mate(MateCertificate, MainLine),
     /// It is no mate: the certificate.
     NoMate(EscapeCertificate),
-    /// Neither was found before a limit was used up, or the search was stopped: which, and the search's workers as they ended. Or one
-    /// was found, and its certificate would have more entries than one is read with: that, and no workers.
+    /// Neither was found before a limit was used up, or the search was stopped: which, and the
+    /// search's workers as they ended. Or one was found, and its certificate would have more
+    /// entries than one is read with: that, and no workers.
     Unknown(Cause, Crew),
 }
 
@@ -63,7 +65,8 @@ pub enum Judgement {
     },
     /// It isn't.
     Refused {
-        /// The first entry that something speaks against, counted from 1; 0 for the certificate as a whole.
+        /// The first entry that something speaks against, counted from 1; 0 for the certificate as
+        /// a whole.
         entry: u64,
         /// The first reason against it.
         why: Why,

@@ -41,7 +41,8 @@ fn append_why(out: &mut Vec<u8>, why: Why) -> Result<(), AllocError>
 }
 
 fn append_accepted(out: &mut Vec<u8>, claim: Claim, entries: u64) -> Result<(), AllocError>
-    ensures { OnOk result (out.new.items ≡ out.old.items ++ line (codes "accepted " ++ claim_word claim ++ 32 ∷ decimal entries)) }
+    ensures { OnOk result (out.new.items
+        ≡ out.old.items ++ line (codes "accepted " ++ claim_word claim ++ 32 ∷ decimal entries)) }
 {
     out.extend_from_slice(b"accepted ")?;
     out.extend_from_slice(claim.word())?;
@@ -52,7 +53,8 @@ fn append_accepted(out: &mut Vec<u8>, claim: Claim, entries: u64) -> Result<(), 
 }
 
 fn append_refused(out: &mut Vec<u8>, entry: u64, why: Why) -> Result<(), AllocError>
-    ensures { OnOk result (out.new.items ≡ out.old.items ++ line (codes "refused " ++ decimal entry ++ 32 ∷ why_text why)) }
+    ensures { OnOk result (out.new.items
+        ≡ out.old.items ++ line (codes "refused " ++ decimal entry ++ 32 ∷ why_text why)) }
 {
     out.extend_from_slice(b"refused ")?;
     append_number(out, entry)?;
@@ -77,7 +79,8 @@ fn append_mate(
     moves: &[Move],
 ) -> Result<(), AllocError>
     requires { AllHaveText moves.now }
-    ensures { OnOk result (out.new.items ≡ out.old.items ++ solution_text (Solution.Mate certificate.now moves.now)) }
+    ensures { OnOk result (out.new.items
+        ≡ out.old.items ++ solution_text (Solution.Mate certificate.now moves.now)) }
 {
     append_mate_line(out, moves)?;
     out.push(b'\n')?;
@@ -85,14 +88,16 @@ fn append_mate(
 }
 
 fn append_no_mate(out: &mut Vec<u8>, certificate: &EscapeCertificate) -> Result<(), AllocError>
-    ensures { OnOk result (out.new.items ≡ out.old.items ++ solution_text (Solution.NoMate certificate.now)) }
+    ensures { OnOk result (out.new.items
+        ≡ out.old.items ++ solution_text (Solution.NoMate certificate.now)) }
 {
     append_nomate_line(out)?;
     out.push(b'\n')?;
     append_escape_cert(out, certificate)
 }
 
-/// Writes a word and a number behind it, behind what stands there already. Errors: want of memory alone.
+/// Writes a word and a number behind it, behind what stands there already. Errors: want of memory
+/// alone.
 pub fn append_counted(out: &mut Vec<u8>, word: &[u8], number: u64) -> Result<(), AllocError>
     ensures { OnOk result (out.new.items ≡ out.old.items ++ (word.now ++ decimal number)) }
 {
@@ -101,8 +106,8 @@ pub fn append_counted(out: &mut Vec<u8>, word: &[u8], number: u64) -> Result<(),
     Ok(())
 }
 
-/// Writes what was used up, that it was stopped, or that the certificate would be too long, behind what stands there already. Errors: want of
-/// memory alone.
+/// Writes what was used up, that it was stopped, or that the certificate would be too long, behind
+/// what stands there already. Errors: want of memory alone.
 pub fn append_cause(out: &mut Vec<u8>, cause: Cause) -> Result<(), AllocError>
     ensures { OnOk result (out.new.items ≡ out.old.items ++ cause_text cause) }
 {
@@ -119,7 +124,8 @@ pub fn append_cause(out: &mut Vec<u8>, cause: Cause) -> Result<(), AllocError>
 }
 
 fn append_unknown(out: &mut Vec<u8>, cause: Cause) -> Result<(), AllocError>
-    ensures { OnOk result (out.new.items ≡ out.old.items ++ (line timeout_text ++ line (codes "unknown " ++ cause_text cause))) }
+    ensures { OnOk result (out.new.items
+        ≡ out.old.items ++ (line timeout_text ++ line (codes "unknown " ++ cause_text cause))) }
 {
     append_timeout_line(out)?;
     out.extend_from_slice(b"\nunknown ")?;
@@ -139,7 +145,8 @@ fn append_solution(out: &mut Vec<u8>, solution: &Solution) -> Result<(), AllocEr
     }
 }
 
-/// Writes a line of a word and a number behind it, behind what stands there already. Errors: want of memory alone.
+/// Writes a line of a word and a number behind it, behind what stands there already. Errors: want
+/// of memory alone.
 pub fn append_line(out: &mut Vec<u8>, word: &[u8], number: u64) -> Result<(), AllocError>
     ensures { OnOk result (out.new.items ≡ out.old.items ++ line (word.now ++ decimal number)) }
 {
@@ -148,7 +155,8 @@ pub fn append_line(out: &mut Vec<u8>, word: &[u8], number: u64) -> Result<(), Al
     Ok(())
 }
 
-/// The whole text of an answer to `solve`, whose moves have texts. Errors: want of memory alone. (USI protocol: `checkmate`.)
+/// The whole text of an answer to `solve`, whose moves have texts. Errors: want of memory alone.
+/// (USI protocol: `checkmate`.)
 pub fn solution_text(alloc: Global, solution: &Solution) -> Result<Vec<u8>, AllocError>
     requires { HasLine solution.now }
     ensures { IfOk result (λ text. text.items ≡ solution_text solution.now) }

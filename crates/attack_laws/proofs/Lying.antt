@@ -203,7 +203,8 @@ slid_before Bishop p q aside low high h = h
 slid_before Rook p q aside low high h = h
 slid_before King p q aside low high h = absurd (false≢true h)
 
--- a piece that, landed on a square, goes over its origin to another square went there from its origin
+-- a piece that, landed on a square, goes over its origin to another square went there from its
+-- origin
 pub went_before : StepsAreNear → (promote : Bool) (piece : Piece) (to from end : ℕ) → to < 81 → end < 81 → IsBetween to from end
     → IsTrue (fits (landed_piece promote piece) to end) → IsTrue (fits piece from end)
 went_before near promote piece to from end high low between fit =

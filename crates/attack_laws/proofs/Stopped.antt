@@ -141,7 +141,8 @@ not_stopped b lifted to end free u (inl e) =
     free (subst (λ (s : ℕ). IsOwn b s) (sym e) (some_by (piece_at b.cells u.from) _ t.0 t.1 t.2.0))
 not_stopped b lifted to end free u (inr between) = u.aside between
 
--- a square that isn't the side's own doesn't stop all of its pieces that attack once another is lifted, where that other one unveils one
+-- a square that isn't the side's own doesn't stop all of its pieces that attack once another is
+-- lifted, where that other one unveils one
 pub unstopped : MasksOnBoard → (b : Board) (behind : Mask) (lifted to end : ℕ) → ¬ IsOwn b to
     → ((s : ℕ) → Holds behind s ↔ ((s < 81) × AttacksWithout b.cells b.side lifted s end))
     → (¬ StopsAll behind end to) ↔ IsUnveiled b.cells b.side lifted to end

@@ -1,4 +1,5 @@
--- What is seen along lines is where pieces slide to and from; and pieces reach what they step or slide to.
+-- What is seen along lines is where pieces slide to and from; and pieces reach what they step or
+-- slide to.
 use Rattle.std.proofs.Common.{◌≡◌, ℕ, ◌<◌, ◌&&◌, ◌||◌, ◌↔◌, List, Option, Bool, false, nat_lt, IsTrue, inl, inr, refl, sym, ap, subst, ◌∙◌}
 use Rattle.std.proofs.lemmas.Bool.{ltb-true, lt-ltb, and_parts, and_from, or_left, or_right, or_cases}
 use Rattle.bit_boards.specs.declared.piece.Kind.TheVariants.{Lance, Bishop, Rook}

@@ -1,4 +1,5 @@
--- Slides go in the directions of their kind, as far back as forth, and no square lies between those of a step.
+-- Slides go in the directions of their kind, as far back as forth, and no square lies between those
+-- of a step.
 use Rattle.std.proofs.Common.{◌≡◌, ℕ, ◌-◌, ◌<◌, ◌≤◌, ◌%◌, ◌/◌, ◌⊎◌, Bool, true, false, arith, inl, inr, sym, ◌∙◌, eq-eqb}
 use Rattle.std.proofs.lemmas.Bool.{cases_lt, eqb-true, leb-true, ltb-true, le-leb, lt-ltb, and_parts, and_from, or_left, or_right, or_cases}
 use Rattle.board_laws.proofs.Squares.{heights_apart, level, level_back, near_parts}

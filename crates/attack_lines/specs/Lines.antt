@@ -16,13 +16,14 @@ use Rattle.attack_lines.specs.declared.sight.Sight.{Sight}
 abbrev pub is_occupied_without : List (Option Piece) → ℕ → ℕ → Bool
 is_occupied_without cells lifted square = is_some (piece_at cells square) && not (square == lifted)
 
--- As if those squares were occupied of which the test holds: a piece of the side, on the one square, reaches the other.
+-- As if those squares were occupied of which the test holds: a piece of the side, on the one
+-- square, reaches the other.
 abbrev pub AttacksOver : (ℕ → Bool) → List (Option Piece) → Side → ℕ → ℕ → Type 0
 AttacksOver occupied cells side from to =
     IsSomeAnd (piece_at cells from) (λ piece. (piece.side ≡ side) × (IsTrue (fits piece from to) × ((m : ℕ) → IsBetween from m to → occupied m ≡ false)))
 
--- Once what stands on a square is lifted, a piece of the side, on the one square, reaches the other; the lifted piece itself counts as
--- before.
+-- Once what stands on a square is lifted, a piece of the side, on the one square, reaches the
+-- other; the lifted piece itself counts as before.
 abbrev pub AttacksWithout : List (Option Piece) → Side → ℕ → ℕ → ℕ → Type 0
 AttacksWithout cells side lifted from to = AttacksOver (is_occupied_without cells lifted) cells side from to
 
@@ -33,7 +34,8 @@ pub record IsShield (cells : List (Option Piece)) (side : Side) (square to : ℕ
   pub lifted : AttacksWithout cells side square from to
   pub blocked : ¬ AttacksFrom cells side from to
 
--- Whoever attacks the square `to` from one of the squares is stopped by a piece that comes to this one: it takes him, or stands between.
+-- Whoever attacks the square `to` from one of the squares is stopped by a piece that comes to this
+-- one: it takes him, or stands between.
 abbrev pub StopsAll : Mask → ℕ → ℕ → Type 0
 StopsAll attackers to square = (from : ℕ) → Holds attackers from → (square ≡ from) ⊎ IsBetween from square to
 
@@ -52,7 +54,8 @@ abbrev pub IsSeenDiagonal : List (Option Piece) → ℕ → ℕ → Type 0
 IsSeenDiagonal cells from to =
     IsSeenOver cells UpRight from to ⊎ (IsSeenOver cells DownRight from to ⊎ (IsSeenOver cells DownLeft from to ⊎ IsSeenOver cells UpLeft from to))
 
--- The sight holds just what is seen from its square along the lines of its square, each up to and with the first piece.
+-- The sight holds just what is seen from its square along the lines of its square, each up to and
+-- with the first piece.
 pub record IsSightOf (cells : List (Option Piece)) (sight : Sight) : Type 0 where
   pub straight : (to : ℕ) → Holds sight.straight to ↔ IsSeenStraight cells sight.square.number to
   pub diagonal : (to : ℕ) → Holds sight.diagonal to ↔ IsSeenDiagonal cells sight.square.number to

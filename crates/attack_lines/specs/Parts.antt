@@ -26,7 +26,8 @@ pub record IsOnly (mask : Mask) (square : ℕ) : Type 0 where
   pub has : Holds mask square
   pub others : (s : ℕ) → Holds mask s → s ≡ square
 
--- What stands on the square alone keeps the side's piece on the square `from` from reaching the square `to`.
+-- What stands on the square alone keeps the side's piece on the square `from` from reaching the
+-- square `to`.
 pub record KeepsOff (cells : List (Option Piece)) (side : Side) (square from to : ℕ) : Type 0 where
   pub lifted : AttacksWithout cells side square from to
   pub blocked : ¬ AttacksFrom cells side from to

@@ -14,7 +14,8 @@ use board_core::{Position, Side, Square};
 use shogi_rules::candidates;
 
 fn attacks_over(position: &Position, occupied: Mask, from: Square, to: Square, by: Side) -> bool
-    ensures { IsTrue result ↔ AttacksOver (holds occupied) position.now.cells by from.number to.number }
+    ensures { IsTrue result
+        ↔ AttacksOver (holds occupied) position.now.cells by from.number to.number }
 {
     match position.piece_at(from) {
         Some(piece) => {
@@ -24,9 +25,11 @@ fn attacks_over(position: &Position, occupied: Mask, from: Square, to: Square, b
     }
 }
 
-// The squares from which the side's pieces reach the square, as if just these squares were occupied.
+// The squares from which the side's pieces reach the square, as if just these squares were
+// occupied.
 fn attackers_over(position: &Position, occupied: Mask, to: Square, by: Side) -> Mask
-    ensures { (from : ℕ) → Holds result from ↔ ((from < 81) × AttacksOver (holds occupied) position.now.cells by from to.number) }
+    ensures { (from : ℕ) → Holds result from
+        ↔ ((from < 81) × AttacksOver (holds occupied) position.now.cells by from to.number) }
 {
     let mut found = Mask::empty();
     let mut left = candidates(position, by, to);
@@ -38,16 +41,22 @@ fn attackers_over(position: &Position, occupied: Mask, to: Square, by: Side) -> 
     found
 }
 
-/// The squares from which pieces of `by` attack the square. Takes no memory. (Rules of shogi: movement of the pieces.)
+/// The squares from which pieces of `by` attack the square. Takes no memory. (Rules of shogi:
+/// movement of the pieces.)
 pub fn attackers(position: &Position, to: Square, by: Side) -> Mask
-    ensures { (from : ℕ) → Holds result from ↔ ((from < 81) × AttacksFrom position.now.cells by from to.number) }
+    ensures { (from : ℕ) → Holds result from
+        ↔ ((from < 81) × AttacksFrom position.now.cells by from to.number) }
 {
     attackers_over(position, position.all_occupied(), to, by)
 }
 
-/// How many pieces of `by` attack the square. Takes no memory. (Rules of shogi: movement of the pieces.)
+/// How many pieces of `by` attack the square. Takes no memory. (Rules of shogi: movement of the
+/// pieces.)
 pub fn count_attackers(position: &Position, to: Square, by: Side) -> u8
-    ensures count { (squares : Mask) → ((from : ℕ) → Holds squares from ↔ ((from < 81) × AttacksFrom position.now.cells by from to.number)) → result ≡ count squares }
+    ensures count { (squares : Mask)
+        → ((from : ℕ) → Holds squares from
+        ↔ ((from < 81) × AttacksFrom position.now.cells by from to.number)) → result
+        ≡ count squares }
     ensures to { result ≤ 81 }
 {
     // Sets that have the same squares are one.
@@ -55,11 +64,12 @@ pub fn count_attackers(position: &Position, to: Square, by: Side) -> u8
     attackers(position, to, by).len()
 }
 
-/// The squares from which pieces of `by` attack the square once what stands on another one hinders them no more: as if it were
-/// lifted from the board, but that it attacks as before itself, where it is of that side. Takes no memory. (Rules of shogi:
-/// movement of the pieces.)
+/// The squares from which pieces of `by` attack the square once what stands on another one hinders
+/// them no more: as if it were lifted from the board, but that it attacks as before itself, where
+/// it is of that side. Takes no memory. (Rules of shogi: movement of the pieces.)
 pub fn attackers_without(position: &Position, lifted: Square, to: Square, by: Side) -> Mask
-    ensures { (from : ℕ) → Holds result from ↔ ((from < 81) × AttacksWithout position.now.cells by lifted.number from to.number) }
+    ensures { (from : ℕ) → Holds result from
+        ↔ ((from < 81) × AttacksWithout position.now.cells by lifted.number from to.number) }
 {
     attackers_over(position, position.all_occupied().without(lifted), to, by)
 }
@@ -75,9 +85,12 @@ fn only(mask: Mask) -> Mask
     }
 }
 
-// What alone stands between the piece and the square that it would go to; nothing where it doesn't go there.
+// What alone stands between the piece and the square that it would go to; nothing where it doesn't
+// go there.
 fn shield(position: &Position, from: Square, to: Square) -> Mask
-    ensures { (side : Side) → is_of_side side (piece_at position.now.cells from.number) ≡ true → (square : ℕ) → Holds result square ↔ KeepsOff position.now.cells side square from.number to.number }
+    ensures { (side : Side) → is_of_side side (piece_at position.now.cells from.number) ≡ true
+        → (square : ℕ) → Holds result square
+        ↔ KeepsOff position.now.cells side square from.number to.number }
 {
     match position.piece_at(from) {
         Some(piece) if fits(piece, from, to) => only(between(from, to).and(
@@ -87,8 +100,8 @@ fn shield(position: &Position, from: Square, to: Square) -> Mask
     }
 }
 
-/// The squares on which a piece stands that alone keeps a piece of `by` from attacking the square. Takes no memory. (Rules of
-/// shogi: movement of the pieces; a pinned piece is such a one.)
+/// The squares on which a piece stands that alone keeps a piece of `by` from attacking the square.
+/// Takes no memory. (Rules of shogi: movement of the pieces; a pinned piece is such a one.)
 pub fn shields(position: &Position, to: Square, by: Side) -> Mask
     ensures { (square : ℕ) → Holds result square ↔ IsShield position.now.cells by square to.number }
 {
@@ -102,10 +115,11 @@ pub fn shields(position: &Position, to: Square, by: Side) -> Mask
     found
 }
 
-/// The squares on which a piece stops each of the attackers of a square: it takes him, or it stands between. All 81 where there is
-/// no attacker. Takes no memory.
+/// The squares on which a piece stops each of the attackers of a square: it takes him, or it stands
+/// between. All 81 where there is no attacker. Takes no memory.
 pub fn blocks(attackers: Mask, to: Square) -> Mask
-    ensures { (square : ℕ) → Holds result square ↔ ((square < 81) × StopsAll attackers to.number square) }
+    ensures { (square : ℕ) → Holds result square
+        ↔ ((square < 81) × StopsAll attackers to.number square) }
 {
     let mut blocks = Mask::full();
     let mut left = attackers;

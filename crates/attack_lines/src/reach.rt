@@ -53,7 +53,8 @@ fn ahead(side: Side) -> Direction
 
 // The squares to which the piece slides from a square.
 fn slides(position: &Position, piece: Piece, from: Square) -> Mask
-    ensures { (to : ℕ) → Holds result to ↔ ((to < 81) × SlidesTo position.now.cells piece from.number to) }
+    ensures { (to : ℕ) → Holds result to
+        ↔ ((to < 81) × SlidesTo position.now.cells piece from.number to) }
 {
     match (piece.kind, piece.promoted) {
         (Kind::Lance, false) => seen(position, from, ahead(piece.side)),
@@ -63,10 +64,11 @@ fn slides(position: &Position, piece: Piece, from: Square) -> Mask
     }
 }
 
-/// The squares that the piece reaches from a square by one step or slide, whatever stands there. Takes no memory. (Rules of shogi:
-/// movement of the pieces.)
+/// The squares that the piece reaches from a square by one step or slide, whatever stands there.
+/// Takes no memory. (Rules of shogi: movement of the pieces.)
 pub fn reached(position: &Position, piece: Piece, from: Square) -> Mask
-    ensures { (to : ℕ) → Holds result to ↔ ((to < 81) × Reaches position.now.cells piece from.number to) }
+    ensures { (to : ℕ) → Holds result to
+        ↔ ((to < 81) × Reaches position.now.cells piece from.number to) }
 {
     // No square lies between those of a step.
     mask_laws();
@@ -95,7 +97,8 @@ impl Sight {
 
     // The squares from which the piece slides to the square.
     fn slid_from(self, piece: Piece) -> Mask
-        ensures { (cells : List (Option Piece)) → IsSightOf cells self → (from : ℕ) → Holds result from ↔ ((from < 81) × SlidesTo cells piece from self.square.number) }
+        ensures { (cells : List (Option Piece)) → IsSightOf cells self → (from : ℕ)
+            → Holds result from ↔ ((from < 81) × SlidesTo cells piece from self.square.number) }
     {
         match (piece.kind, piece.promoted) {
             (Kind::Lance, false) => self
@@ -107,10 +110,11 @@ impl Sight {
         }
     }
 
-    /// The squares from which the piece reaches the square by one step or slide. Takes no memory. (Rules of shogi: movement of the
-    /// pieces.)
+    /// The squares from which the piece reaches the square by one step or slide. Takes no memory.
+    /// (Rules of shogi: movement of the pieces.)
     pub fn reached_from(self, piece: Piece) -> Mask
-        ensures { (cells : List (Option Piece)) → IsSightOf cells self → (from : ℕ) → Holds result from ↔ ((from < 81) × Reaches cells piece from self.square.number) }
+        ensures { (cells : List (Option Piece)) → IsSightOf cells self → (from : ℕ)
+            → Holds result from ↔ ((from < 81) × Reaches cells piece from self.square.number) }
     {
         // No square lies between those of a step.
         mask_laws();

@@ -1,4 +1,5 @@
--- What lies in a direction, as a test; and that what lies between two squares lies in the same direction, nearer.
+-- What lies in a direction, as a test; and that what lies between two squares lies in the same
+-- direction, nearer.
 use Rattle.std.proofs.Common.{◌≡◌, ℕ, ◌+◌, ◌-◌, ◌<◌, ◌≤◌, ◌==◌, ◌%◌, ◌/◌, ◌&&◌, Bool, true, false, nat_le, max, subst, arith, inl, inr, ◌↔◌, eq-eqb}
 use Rattle.std.proofs.lemmas.Bool.{eqb-true, leb-true, le-leb, and_parts, and_from}
 use Rattle.bit_boards.specs.declared.direction.Direction.{Direction}

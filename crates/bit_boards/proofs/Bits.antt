@@ -101,7 +101,8 @@ split n t l = sym (div-add-mod' n (2 ^ suc t)) ∙ ap (λ x. n / 2 ^ suc t * 2 ^
 less_one : (n t : ℕ) → IsLowest n t → n - 1 ≡ n / 2 ^ suc t * 2 ^ suc t + (2 ^ t - 1)
 less_one n t l = let s = split n t l in let p = pow_pos t in omega (arith, s, p)
 
--- the bits of the number less one: below the lowest set bit all are set, that bit isn't, those above it are as they were
+-- the bits of the number less one: below the lowest set bit all are set, that bit isn't, those
+-- above it are as they were
 pub less_below : (n t i : ℕ) → IsLowest n t → i < t → bit_at (n - 1) i ≡ 1
 less_below n t i l h = ap (λ x. bit_at x i) (less_one n t l)
     ∙ (bit_at_cat_low (n / 2 ^ suc t) (suc t) (2 ^ t - 1) i (omega arith) ∙ bit_at_ones t i h)
@@ -172,7 +173,8 @@ unset n i h = bit_from_set n 0 i (h ∙ sym (set_zero i)) ∙ bit_at-zero i
 pub lowest_from : (n t : ℕ) → set n t ≡ true → ((i : ℕ) → i < t → set n i ≡ false) → IsLowest n t
 lowest_from n t h below = record { here = eqb-true _ _ h; below = λ i within. unset n i (below i within) }
 
--- `n ^ (n - 1)`, at a width where 0 - 1 is the largest number: the bits up to and with the lowest set one
+-- `n ^ (n - 1)`, at a width where 0 - 1 is the largest number: the bits up to and with the lowest
+-- set one
 less_wraps : (n : ℕ) → 1 ≤ n → n < 2 ^ 81 → (n + (2 ^ 128 - 1)) % 2 ^ 128 ≡ n - 1
 less_wraps n some small = omega arith
 

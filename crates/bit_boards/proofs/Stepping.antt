@@ -1,4 +1,5 @@
--- The tables of steps are what the movement of the pieces says, and steps read backwards are those of the other side's piece.
+-- The tables of steps are what the movement of the pieces says, and steps read backwards are those
+-- of the other side's piece.
 use Rattle.std.proofs.Common.{◌≡◌, ℕ, ◌+◌, ◌-◌, ◌*◌, ◌<◌, ◌%◌, ◌/◌, ◌||◌, ◌&&◌, Bool, true, false, not, [], get_or, refl, sym, ap, ◌∙◌, arith}
 use Rattle.std.proofs.lemmas.Bool.{agree_below_at, and_parts}
 use Rattle.bit_boards.specs.declared.piece.Kind.{Kind}
@@ -58,7 +59,8 @@ steps_at side k p first row from one two h =
     ∙ (ap (λ r. get_or (get_or (get_or STEPS (row_of_side side) []) r []) from 0) two
     ∙ (ap (λ t. get_or t from 0) (steps_are side k p) ∙ each_at (stepping side k p) from h))
 
--- a step from one height to another is one from the other end, where heights count down; by all distances and heights
+-- a step from one height to another is one from the other end, where heights count down; by all
+-- distances and heights
 abbrev up_or_down : Kind → Bool → ℕ → Bool
 up_or_down k p n = steps k p (n / 81) (8 - n / 9 % 9) (8 - n % 9)
 

@@ -6,7 +6,8 @@ use Rattle.bit_boards.specs.declared.mask.Mask.{Mask}
 use Rattle.bit_boards.specs.Mask.{Holds}
 use Rattle.bit_boards.specs.Movement.{IsBetween}
 
--- How one step in a direction changes the number of the file or of the row: one less, none, or one more.
+-- How one step in a direction changes the number of the file or of the row: one less, none, or one
+-- more.
 pub data Change : Type 0 where
   less : Change
   same : Change
@@ -83,7 +84,8 @@ pub record IsAhead (direction : Direction) (from steps to : ℕ) : Type 0 where
 abbrev pub LiesToward : Direction → ℕ → ℕ → Type 0
 LiesToward direction from to = (to < 81) × (steps : ℕ) × IsAhead direction from steps to
 
--- From `from` the square `to` is seen in the direction: it lies there, and no occupied square lies between.
+-- From `from` the square `to` is seen in the direction: it lies there, and no occupied square lies
+-- between.
 pub record IsSeen (occupied : Mask) (direction : Direction) (from to : ℕ) : Type 0 where
   pub toward : LiesToward direction from to
   pub clear : (square : ℕ) → IsBetween from square to → Holds occupied square → ⊥

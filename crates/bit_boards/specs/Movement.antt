@@ -14,9 +14,10 @@ abbrev pub gold_steps : ℕ → ℕ → ℕ → Bool
 gold_steps aside low high =
     (nat_le aside 1 && (high == low + 1)) || ((aside == 1) && (high == low)) || ((aside == 0) && (low == high + 1))
 
--- The single steps of a piece, promoted or not. A knight jumps two up and one aside. A silver steps one up, straight or
--- aside, or one down aside. A king steps to any neighbour. A promoted pawn, lance, knight or silver steps as a gold does.
--- A promoted bishop steps one along a file or a row besides its slides, a promoted rook one diagonally.
+-- The single steps of a piece, promoted or not. A knight jumps two up and one aside. A silver steps
+-- one up, straight or aside, or one down aside. A king steps to any neighbour. A promoted pawn,
+-- lance, knight or silver steps as a gold does. A promoted bishop steps one along a file or a row
+-- besides its slides, a promoted rook one diagonally.
 abbrev pub steps : Kind → Bool → ℕ → ℕ → ℕ → Bool
 steps Pawn false aside low high = (aside == 0) && (high == low + 1)
 steps Pawn true aside low high = gold_steps aside low high
@@ -33,8 +34,9 @@ steps Rook false aside low high = false
 steps Rook true aside low high = (aside == 1) && (distance low high == 1)
 steps King promoted aside low high = nat_le aside 1 && nat_le (distance low high) 1 && nat_le 1 (aside + distance low high)
 
--- The slides of a piece, any distance as far as the squares between are empty: a lance straight up, a bishop along a
--- diagonal, a rook along a file or a row. A promoted bishop and a promoted rook keep their slides; a promoted lance doesn't.
+-- The slides of a piece, any distance as far as the squares between are empty: a lance straight up,
+-- a bishop along a diagonal, a rook along a file or a row. A promoted bishop and a promoted rook
+-- keep their slides; a promoted lance doesn't.
 abbrev pub slides : Kind → Bool → ℕ → ℕ → ℕ → Bool
 slides Pawn promoted aside low high = false
 slides Lance false aside low high = (aside == 0) && nat_lt low high
@@ -83,7 +85,8 @@ pub record IsOnDiagonal (a m b : ℕ) : Type 0 where
   pub files : IsInside (a / 9) (m / 9) (b / 9)
   pub rows : IsInside (a % 9) (m % 9) (b % 9)
 
--- The square m lies strictly between a and b, on one file, row or diagonal. Nothing lies between a knight and a square that it jumps to.
+-- The square m lies strictly between a and b, on one file, row or diagonal. Nothing lies between a
+-- knight and a square that it jumps to.
 abbrev pub IsBetween : ℕ → ℕ → ℕ → Type 0
 IsBetween a m b = IsOnFile a m b ⊎ IsOnRow a m b ⊎ IsOnDiagonal a m b
 
@@ -91,7 +94,8 @@ IsBetween a m b = IsOnFile a m b ⊎ IsOnRow a m b ⊎ IsOnDiagonal a m b
 abbrev pub on_line : ℕ → ℕ → Bool
 on_line aside along = ((aside == 0) || (along == 0) || (aside == along)) && nat_le 1 (aside + along)
 
--- Whether squares so many files and rows apart are neighbours, or a file and two rows apart, as a knight jumps.
+-- Whether squares so many files and rows apart are neighbours, or a file and two rows apart, as a
+-- knight jumps.
 abbrev pub in_reach : ℕ → ℕ → Bool
 in_reach aside along = (nat_le aside 1 && nat_le along 1 && nat_le 1 (aside + along)) || ((aside == 1) && (along == 2))
 

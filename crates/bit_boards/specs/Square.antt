@@ -14,8 +14,8 @@ row_of square = square % 9 + 1
 abbrev pub square_on : ℕ → ℕ → ℕ
 square_on file row = 9 * (file - 1) + (row - 1)
 
--- How high a square lies for a side, from 0 on its own first row to 8 on its last: forward is up, for both sides. Black's first
--- row is row 9, White's row 1.
+-- How high a square lies for a side, from 0 on its own first row to 8 on its last: forward is up,
+-- for both sides. Black's first row is row 9, White's row 1.
 abbrev pub height : Side → ℕ → ℕ
 height Black square = 8 - square % 9
 height White square = square % 9

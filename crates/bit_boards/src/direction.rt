@@ -1,8 +1,9 @@
 // The eight directions.
 ghost use Rattle.std.specs.Prelude.{◌≡◌};
 
-/// The eight directions, as Black sees the board, with the changes of file and row that one step makes: files count from
-/// right to left, rows from top to bottom. Squares in the first four have lower numbers, in the last four higher ones.
+/// The eight directions, as Black sees the board, with the changes of file and row that one step
+/// makes: files count from right to left, rows from top to bottom. Squares in the first four have
+/// lower numbers, in the last four higher ones.
 #[derive(Clone, Copy, PartialEq, Eq, PartialOrd, Ord, Hash, Debug)]
 pub enum Direction {
     /// (0, -1), towards row a.

@@ -1,9 +1,10 @@
-//! The board of shogi without a position: sides, kinds, pieces and squares, how pieces move on an empty board, sets of
-//! squares, and the rays by which a piece sees the squares of a line up to the first one that is occupied.
+//! The board of shogi without a position: sides, kinds, pieces and squares, how pieces move on an
+//! empty board, sets of squares, and the rays by which a piece sees the squares of a line up to the
+//! first one that is occupied.
 //!
-//! All are small values that are copied. Nothing here takes memory, and nothing here knows what stands on a board but by
-//! a set of occupied squares that it is given. Tables give most answers; `docs/make_masks.py` writes them, and each is proved
-//! equal to its plain definition.
+//! All are small values that are copied. Nothing here takes memory, and nothing here knows what
+//! stands on a board but by a set of occupied squares that it is given. Tables give most answers;
+//! `tools/make_masks.py` writes them, and each is proved equal to its plain definition.
 #![tactic(auto)]
 
 mod direction;

@@ -3,8 +3,8 @@ ghost use Rattle.std.specs.Prelude.{◌≡◌, ◌<◌, ◌≤◌, ◌+◌, ◌^
 
 use crate::Square;
 
-/// A set of squares of the board. It is kept as bits: the bit of a square's number is set where the set has the square, and
-/// no higher bit is set. Takes 16 bytes.
+/// A set of squares of the board. It is kept as bits: the bit of a square's number is set where the
+/// set has the square, and no higher bit is set. Takes 16 bytes.
 #[derive(Clone, Copy, PartialEq, Eq, Debug)]
 pub struct Mask {
     pub(crate) bits: u128,
@@ -133,7 +133,8 @@ impl Mask {
     /// Its square with the lowest number; none where it is empty.
     pub fn first(self) -> Option<Square>
         ensures found { IfSome result (λ square. Holds self square.number) }
-        ensures least { IfSome result (λ square. (s : ℕ) → s < square.number → holds self s ≡ false) }
+        ensures least { IfSome result (λ square. (s : ℕ) → s < square.number → holds self s
+            ≡ false) }
         ensures none { IfNone result ((s : ℕ) → holds self s ≡ false) }
     {
         if self.bits == 0 {
@@ -148,7 +149,8 @@ impl Mask {
     /// Its square with the highest number; none where it is empty.
     pub fn last(self) -> Option<Square>
         ensures found { IfSome result (λ square. Holds self square.number) }
-        ensures greatest { IfSome result (λ square. (s : ℕ) → square.number < s → holds self s ≡ false) }
+        ensures greatest { IfSome result (λ square. (s : ℕ) → square.number < s → holds self s
+            ≡ false) }
         ensures none { IfNone result ((s : ℕ) → holds self s ≡ false) }
     {
         if self.bits == 0 {
@@ -160,12 +162,15 @@ impl Mask {
         }
     }
 
-    /// Takes out its square with the lowest number, and says which that was; none where it is empty. So
-    /// `while let Some(square) = mask.pop_first()` goes over its squares in rising order, each once.
+    /// Takes out its square with the lowest number, and says which that was; none where it is
+    /// empty. So `while let Some(square) = mask.pop_first()` goes over its squares in rising order,
+    /// each once.
     pub fn pop_first(&mut self) -> Option<Square>
         ensures found { IfSome result (λ square. Holds self.old square.number) }
-        ensures least { IfSome result (λ square. (s : ℕ) → s < square.number → holds self.old s ≡ false) }
-        ensures rest { IfSome result (λ square. (s : ℕ) → holds self.new s ≡ (holds self.old s && not (s == square.number))) }
+        ensures least { IfSome result (λ square. (s : ℕ) → s < square.number → holds self.old s
+            ≡ false) }
+        ensures rest { IfSome result (λ square. (s : ℕ) → holds self.new s
+            ≡ (holds self.old s && not (s == square.number))) }
         ensures counted { IfSome result (λ square. count self.old ≡ count self.new + 1) }
         ensures none { IfNone result ((s : ℕ) → holds self.old s ≡ false) }
         ensures unchanged { IfNone result (self.new ≡ self.old) }
@@ -179,7 +184,8 @@ impl Mask {
 
     /// Its squares up to and with the lowest of the stops; all where there is no stop.
     pub(crate) fn up_to_first(self, stops: Mask) -> Mask
-        ensures { (s : ℕ) → Holds result s ↔ (Holds self s × ((t : ℕ) → t < s → holds stops t ≡ false)) }
+        ensures { (s : ℕ) → Holds result s
+            ↔ (Holds self s × ((t : ℕ) → t < s → holds stops t ≡ false)) }
     {
         Mask {
             bits: self.bits & (stops.bits ^ stops.bits.wrapping_sub(1)),
@@ -188,7 +194,8 @@ impl Mask {
 
     /// Its squares down to and with the highest of the stops; all where there is no stop.
     pub(crate) fn down_to_last(self, stops: Mask) -> Mask
-        ensures { (s : ℕ) → Holds result s ↔ (Holds self s × ((t : ℕ) → s < t → holds stops t ≡ false)) }
+        ensures { (s : ℕ) → Holds result s
+            ↔ (Holds self s × ((t : ℕ) → s < t → holds stops t ≡ false)) }
     {
         Mask {
             bits: self.bits & u128::MAX << (stops.bits | 1).ilog2(),

@@ -15,8 +15,8 @@ fn place(piece: Piece) -> u8
     16 * row_of(piece.side) + 8 * (piece.promoted as u8) + piece.kind.place()
 }
 
-/// Whether on an empty board the piece goes from the one square to the other, by a step, a jump or a slide. (Rules of shogi:
-/// movement of the pieces.)
+/// Whether on an empty board the piece goes from the one square to the other, by a step, a jump or
+/// a slide. (Rules of shogi: movement of the pieces.)
 pub fn fits(piece: Piece, from: Square, to: Square) -> bool
     ensures { result ≡ fits piece from.number to.number }
 {

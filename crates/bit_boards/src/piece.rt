@@ -70,7 +70,8 @@ impl Kind {
         Kind::Rook,
     ];
 
-    /// Whether pieces of the kind have a promoted side: all but gold and king (rules of shogi: promotion).
+    /// Whether pieces of the kind have a promoted side: all but gold and king (rules of shogi:
+    /// promotion).
     pub fn can_promote(self) -> bool
         ensures { result ≡ can_promote self }
     {
@@ -110,7 +111,8 @@ impl Kind {
         }
     }
 
-    /// The kind of a capital letter, where it is one of P L N S G B R K (SFEN and the USI protocol: pieces).
+    /// The kind of a capital letter, where it is one of P L N S G B R K (SFEN and the USI protocol:
+    /// pieces).
     pub fn of_letter(letter: u8) -> Option<Kind>
         ensures kind { result ≡ kind_of_letter letter }
         ensures found { IfSome result (λ kind. kind_letter kind ≡ letter) }
@@ -129,8 +131,8 @@ impl Kind {
         }
     }
 
-    /// How many pieces of the kind a set of shogi has: 18 pawns, 4 each of lance, knight, silver and gold, 2 each of
-    /// bishop, rook and king.
+    /// How many pieces of the kind a set of shogi has: 18 pawns, 4 each of lance, knight, silver
+    /// and gold, 2 each of bishop, rook and king.
     pub fn total(self) -> u8
         ensures { result ≡ total_of self }
     {
@@ -141,8 +143,9 @@ impl Kind {
         }
     }
 
-    /// How many rows an unpromoted piece of the kind must have ahead of it to be able to move ever again: 1 for a pawn
-    /// and a lance, 2 for a knight, else 0 (rules of shogi: forced promotion, and drops without a move).
+    /// How many rows an unpromoted piece of the kind must have ahead of it to be able to move ever
+    /// again: 1 for a pawn and a lance, 2 for a knight, else 0 (rules of shogi: forced promotion,
+    /// and drops without a move).
     pub fn rows_needed(self) -> u8
         ensures { result ≡ rows_needed self }
     {

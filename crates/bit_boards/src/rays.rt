@@ -17,7 +17,8 @@ pub fn open_ray(from: Square, direction: Direction) -> Mask
     }
 }
 
-/// The squares seen from a square in a direction: from the next one to the edge, up to and with the first occupied one.
+/// The squares seen from a square in a direction: from the next one to the edge, up to and with the
+/// first occupied one.
 pub fn ray(from: Square, direction: Direction, occupied: Mask) -> Mask
     ensures { (to : ℕ) → Holds result to ↔ IsSeen occupied direction from.number to }
 {
@@ -30,17 +31,20 @@ pub fn ray(from: Square, direction: Direction, occupied: Mask) -> Mask
     }
 }
 
-/// The direction in which a square lies from another; none where they share no file, row or diagonal, or are one.
+/// The direction in which a square lies from another; none where they share no file, row or
+/// diagonal, or are one.
 pub fn direction_to(from: Square, to: Square) -> Option<Direction>
     ensures toward { IfSome result (λ direction. LiesToward direction from.number to.number) }
-    ensures none { IfNone result ((direction : Direction) → LiesToward direction from.number to.number → ⊥) }
+    ensures none { IfNone result ((direction : Direction)
+        → LiesToward direction from.number to.number → ⊥) }
 {
     let files = to.number / 9 + 8 - from.number / 9;
     let rows = to.number % 9 + 8 - from.number % 9;
     TOWARD[files as usize][rows as usize]
 }
 
-/// The squares strictly between two squares on one file, row or diagonal; none where they share no line.
+/// The squares strictly between two squares on one file, row or diagonal; none where they share no
+/// line.
 pub fn between(a: Square, b: Square) -> Mask
     ensures { (s : ℕ) → Holds result s ↔ IsBetween a.number s b.number }
 {
@@ -50,8 +54,8 @@ pub fn between(a: Square, b: Square) -> Mask
     }
 }
 
-/// All squares on the file, the row and the two diagonals of a square, without the square itself: those from which a piece
-/// could slide to it over an empty board.
+/// All squares on the file, the row and the two diagonals of a square, without the square itself:
+/// those from which a piece could slide to it over an empty board.
 pub fn lines(square: Square) -> Mask
     ensures { (s : ℕ) → holds result s ≡ (nat_lt s 81 && share_line square.number s) }
 {

@@ -3,8 +3,9 @@ ghost use Rattle.std.specs.Prelude.{◌≡◌, ◌<◌, ◌≤◌, IfSome, IsSom
 
 use crate::Side;
 
-/// A square of the board by its number, `9 * (file - 1) + (row - 1)`: 0 is 1a, 8 is 1i, 9 is 2a, 80 is 9i. Files run
-/// from 1 to 9 from right to left as Black sees the board, rows from 1 (a) to 9 (i) from top to bottom.
+/// A square of the board by its number, `9 * (file - 1) + (row - 1)`: 0 is 1a, 8 is 1i, 9 is 2a, 80
+/// is 9i. Files run from 1 to 9 from right to left as Black sees the board, rows from 1 (a) to 9
+/// (i) from top to bottom.
 #[derive(Clone, Copy, PartialEq, Eq, PartialOrd, Ord, Hash, Debug)]
 pub struct Square {
     /// From 0 to 80.
@@ -60,8 +61,8 @@ impl Square {
         self.number % 9 + 1
     }
 
-    /// How high it lies for a side, from 0 on that side's own first row (row i for Black, row a for White) to 8 on its last:
-    /// forward is up, for both sides.
+    /// How high it lies for a side, from 0 on that side's own first row (row i for Black, row a for
+    /// White) to 8 on its last: forward is up, for both sides.
     pub fn height(self, side: Side) -> u8
         ensures height { result ≡ height side self.number }
         ensures to { result ≤ 8 }

@@ -16,8 +16,9 @@ impl Piece {
         }
     }
 
-    /// Whether it could never move again from the square: an unpromoted pawn or lance on its last row, an unpromoted
-    /// knight on its last two (rules of shogi: forced promotion, and drops without a move).
+    /// Whether it could never move again from the square: an unpromoted pawn or lance on its last
+    /// row, an unpromoted knight on its last two (rules of shogi: forced promotion, and drops
+    /// without a move).
     pub fn is_dead_on(self, square: Square) -> bool
         ensures { result ≡ is_dead square.number (Some self) }
     {

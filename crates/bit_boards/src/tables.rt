@@ -1,4 +1,4 @@
-// Written by docs/make_masks.py. Do not edit.
+// Written by tools/make_masks.py. Do not edit.
 
 use crate::Direction::{self, Down, DownLeft, DownRight, Left, Right, Up, UpLeft, UpRight};
 
@@ -131,7 +131,8 @@ pub(crate) static RAYS: [[u128; 81]; 8] = [
     ],
 ];
 
-// The direction from a square to another, by how far the files differ, and then the rows: 8 is not at all, 0 is 8 less.
+// The direction from a square to another, by how far the files differ, and then the rows: 8 is not
+// at all, 0 is 8 less.
 #[rattlefmt::skip]
 pub(crate) static TOWARD: [[Option<Direction>; 17]; 17] = [
     [Some(UpRight), None, None, None, None, None, None, None, Some(Right), None, None, None, None, None, None, None, Some(DownRight)],
@@ -153,8 +154,9 @@ pub(crate) static TOWARD: [[Option<Direction>; 17]; 17] = [
     [Some(UpLeft), None, None, None, None, None, None, None, Some(Left), None, None, None, None, None, None, None, Some(DownLeft)],
 ];
 
-// Which pieces go from a square to another on an empty board, by how far the files differ, and then the rows, as above: bit
-// 16 * side + 8 * promoted + kind, White being 1, promoted 1, and the kinds in their order.
+// Which pieces go from a square to another on an empty board, by how far the files differ, and then
+// the rows, as above: bit 16 * side + 8 * promoted + kind, White being 1, promoted 1, and the kinds
+// in their order.
 #[rattlefmt::skip]
 pub(crate) static GOING: [[u32; 17]; 17] = [
     [0x20202020, 0x0, 0x0, 0x0, 0x0, 0x0, 0x0, 0x0, 0x40404040, 0x0, 0x0, 0x0, 0x0, 0x0, 0x0, 0x0, 0x20202020],
@@ -176,7 +178,8 @@ pub(crate) static GOING: [[u32; 17]; 17] = [
     [0x20202020, 0x0, 0x0, 0x0, 0x0, 0x0, 0x0, 0x0, 0x40404040, 0x0, 0x0, 0x0, 0x0, 0x0, 0x0, 0x0, 0x20202020],
 ];
 
-// The squares to which each side's gaits step from each square: Black's, then White's, and the gaits in their order.
+// The squares to which each side's gaits step from each square: Black's, then White's, and the
+// gaits in their order.
 #[rattlefmt::skip]
 pub(crate) static STEPS: [[[u128; 81]; 8]; 2] = [
     [

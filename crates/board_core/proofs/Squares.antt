@@ -10,7 +10,8 @@ use Rattle.board_core.specs.Board.{piece_at}
 use Rattle.board_core.specs.Sets.{AreSetsOf, is_of_side, is_king, is_pawn, is_slider}
 use Rattle.board_core.proofs.Cells.{piece_at-set_same, piece_at-set_other}
 
--- a set that follows a test follows it after one square got something else, where it is put in or left out as the test says
+-- a set that follows a test follows it after one square got something else, where it is put in or
+-- left out as the test says
 pub follows : (test : Option Piece → Bool) (old new : Mask) (at : ℕ → Option Piece) (i : ℕ) (v : Option Piece)
     → ((s : ℕ) → holds old s ≡ test (at s))
     → ((s : ℕ) → holds new s ≡ (if s == i then test v else holds old s))

@@ -6,7 +6,8 @@ use Rattle.bit_boards.specs.declared.piece.Side.TheVariants.{Black, White}
 use Rattle.bit_boards.specs.declared.piece.Piece.{Piece}
 use Rattle.bit_boards.specs.Kind.{other, same_side, same_kind, place_of}
 
--- What contracts see of a position: 81 cells by the number of the square, the two hands by the order of the kinds, and the side to move.
+-- What contracts see of a position: 81 cells by the number of the square, the two hands by the
+-- order of the kinds, and the side to move.
 pub record Board : Type 0 where
   pub cells : List (Option Piece)
   pub black : List ℕ
@@ -58,7 +59,8 @@ abbrev pub is_pawn_of : Side → Option Piece → Bool
 is_pawn_of side None = false
 is_pawn_of side (Some piece) = same_kind piece.kind Pawn && (not piece.promoted && same_side piece.side side)
 
--- How many pieces of a kind there are: on the board, promoted or not, of both sides, and in both hands.
+-- How many pieces of a kind there are: on the board, promoted or not, of both sides, and in both
+-- hands.
 abbrev pub count_of : Board → Kind → ℕ
 count_of b kind = count_by (is_of_kind kind) b.cells + hand_count b.black kind + hand_count b.white kind
 
@@ -87,7 +89,8 @@ abbrev pub one_if : Bool → ℕ
 one_if true = 1
 one_if false = 0
 
--- What changes when one cell of a board is written: that cell, and the counts of pieces and kings by what it held and holds.
+-- What changes when one cell of a board is written: that cell, and the counts of pieces and kings
+-- by what it held and holds.
 pub record ChangesCell (old new : Board) (square : ℕ) (cell : Option Piece) : Type 0 where
   pub there : piece_at new.cells square ≡ cell
   pub elsewhere : (s : ℕ) → s ≢ square → piece_at new.cells s ≡ piece_at old.cells s

@@ -19,8 +19,8 @@ pub record TwoPawnsOn (cells : List (Option Piece)) (side : Side) (file : ℕ) :
   pub pawn_one : is_pawn_of side (piece_at cells one) ≡ true
   pub pawn_two : is_pawn_of side (piece_at cells two) ≡ true
 
--- What every position keeps: 81 cells, the seven totals, at most one king a side, no piece that could never move again,
--- and no two unpromoted pawns of a side on a file.
+-- What every position keeps: 81 cells, the seven totals, at most one king a side, no piece that
+-- could never move again, and no two unpromoted pawns of a side on a file.
 pub record IsKept (b : Board) : Type 0 where
   pub cells : length b.cells ≡ 81
   pub black : length b.black ≡ 7

@@ -9,13 +9,14 @@ abbrev pub bit_of : Bool → ℕ
 bit_of true = 1
 bit_of false = 0
 
--- A move's place in the order of moves: first the board moves by origin, then destination, the unpromoted one first;
--- then the drops, by kind in the order of the kinds, then by square.
+-- A move's place in the order of moves: first the board moves by origin, then destination, the
+-- unpromoted one first; then the drops, by kind in the order of the kinds, then by square.
 abbrev pub order_of : Move → ℕ
 order_of (moves.Board from to promote) = 162 * from.number + 2 * to.number + bit_of promote
 order_of (moves.Drop kind to) = 13122 + 81 * place_of kind + to.number
 
--- Each move of the list comes after the one before it in the order of moves, and none before a place in that order.
+-- Each move of the list comes after the one before it in the order of moves, and none before a
+-- place in that order.
 abbrev pub RisesFrom : ℕ → List Move → Type 0
 RisesFrom low [] = Unit {0}
 RisesFrom low (move ∷ rest) = (low ≤ order_of move) × RisesFrom (order_of move + 1) rest
@@ -35,11 +36,13 @@ abbrev pub OrdersByOrigin : Type 0
 OrdersByOrigin = (from to : Square) (promote : Bool) → (162 * from.number ≤ order_of (moves.Board from to promote))
     × (order_of (moves.Board from to promote) < 162 * from.number + 162)
 
--- A law: the order has 13,770 places, 162 for the moves from each of 81 squares and 81 for the drops of each of eight kinds.
+-- A law: the order has 13,770 places, 162 for the moves from each of 81 squares and 81 for the
+-- drops of each of eight kinds.
 abbrev pub OrdersWithin : Type 0
 OrdersWithin = (move : Move) → order_of move < 13770
 
--- A law: in a list in the order of moves, a move that comes before another in the order stands before it.
+-- A law: in a list in the order of moves, a move that comes before another in the order stands
+-- before it.
 abbrev pub PlacesInOrder : Type 0
 PlacesInOrder = (low : ℕ) (moves : List Move) → RisesFrom low moves → (i j : ℕ) (a b : Move) → slice_get moves i ≡ Some a
     → slice_get moves j ≡ Some b → order_of a < order_of b → i < j

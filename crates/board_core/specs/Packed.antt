@@ -1,4 +1,5 @@
--- A board's codes and sets of squares, and that a position of this board has these. Only the model of a position uses it.
+-- A board's codes and sets of squares, and that a position of this board has these. Only the model
+-- of a position uses it.
 use Rattle.std.proofs.Common.{◌≡◌, ◌<◌, ◌+◌, ◌==◌, ℕ, List, [], ◌∷◌, Option, Some, None, Bool, true, false, map, refl, arith, eqb-true}
 use Rattle.std.proofs.lemmas.Bool.{agree_below_at}
 use mathlib.Core.HLevel.{is_prop→PathP}

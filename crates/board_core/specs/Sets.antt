@@ -23,13 +23,14 @@ abbrev pub is_pawn : Option Piece → Bool
 is_pawn None = false
 is_pawn (Some piece) = same_kind piece.kind Pawn && not piece.promoted
 
--- Whether a piece that slides stands in the cell: a lance that isn't promoted, a bishop or a rook, promoted or not.
+-- Whether a piece that slides stands in the cell: a lance that isn't promoted, a bishop or a rook,
+-- promoted or not.
 abbrev pub is_slider : Option Piece → Bool
 is_slider None = false
 is_slider (Some piece) = (same_kind piece.kind Lance && not piece.promoted) || (same_kind piece.kind Bishop || same_kind piece.kind Rook)
 
--- `at` says what each square holds; the sets are those of Black's pieces, of White's, and, of both sides, of kings, of unpromoted
--- pawns and of pieces that slide.
+-- `at` says what each square holds; the sets are those of Black's pieces, of White's, and, of both
+-- sides, of kings, of unpromoted pawns and of pieces that slide.
 pub record AreSetsOf (sets : Sets) (at : ℕ → Option Piece) : Type 0 where
   pub black : (square : ℕ) → holds sets.black square ≡ is_of_side Black (at square)
   pub white : (square : ℕ) → holds sets.white square ≡ is_of_side White (at square)

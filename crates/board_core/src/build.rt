@@ -12,10 +12,12 @@ ghost use Rattle.bit_boards.specs.declared.piece.Side.TheVariants.{Black};
 use crate::scan::{count_kind, count_kings, first_dead, first_pawn};
 use crate::{Hand, Kind, Piece, Position, Side, Square};
 
-/// Why cells, hands and a side make no position: the first fault that is there, in the order of the variants.
+/// Why cells, hands and a side make no position: the first fault that is there, in the order of the
+/// variants.
 #[derive(Clone, Copy, PartialEq, Eq, Debug)]
 pub enum BadPosition {
-    /// More pieces of the kind, promoted or not, than a set of shogi has: the first such kind in the order P L N S G B R.
+    /// More pieces of the kind, promoted or not, than a set of shogi has: the first such kind in
+    /// the order P L N S G B R.
     TooMany(Kind),
     /// The side that isn't to move, the defender of a problem, has no king.
     NoDefenderKing,
@@ -28,17 +30,19 @@ pub enum BadPosition {
 }
 
 impl Position {
-    /// The position with these cells (by the number of the square), hands and side to move; or the first fault of them,
-    /// in the order of the variants of [`BadPosition`]: more pieces of a kind than a set of shogi has, no king of the
-    /// side that isn't to move, two kings of a side, a piece that could never move again, two unpromoted pawns of a side
-    /// on a file (rules of shogi: the set, forced promotion, nifu). Takes no memory.
+    /// The position with these cells (by the number of the square), hands and side to move; or the
+    /// first fault of them, in the order of the variants of [`BadPosition`]: more pieces of a kind
+    /// than a set of shogi has, no king of the side that isn't to move, two kings of a side, a
+    /// piece that could never move again, two unpromoted pawns of a side on a file (rules of shogi:
+    /// the set, forced promotion, nifu). Takes no memory.
     pub fn build(
         cells: &[Option<Piece>; 81],
         black: Hand,
         white: Hand,
         side: Side,
     ) -> Result<Position, BadPosition>
-        ensures built { IsBuilt (record { cells = cells.now; black = black; white = white; side = side }) result }
+        ensures built { IsBuilt
+            (record { cells = cells.now; black = black; white = white; side = side }) result }
 
         // The defender has a king.
         ensures defender { IfOk result HasDefender }
@@ -71,7 +75,9 @@ impl Position {
 // Whether there are more pieces of the kind than a set has.
 fn is_too_many(cells: &[Option<Piece>; 81], black: Hand, white: Hand, kind: Kind) -> bool
     requires { kind ≢ King }
-    ensures { IsTrue result ↔ (total_of kind < count_of (record { cells = cells.now; black = black; white = white; side = Black }) kind) }
+    ensures { IsTrue result
+        ↔ (total_of kind < count_of
+        (record { cells = cells.now; black = black; white = white; side = Black }) kind) }
 {
     let in_hand = usize::from(black.count(kind)) + usize::from(white.count(kind));
     count_kind(cells, kind) + in_hand > usize::from(kind.total())
@@ -79,10 +85,16 @@ fn is_too_many(cells: &[Option<Piece>; 81], black: Hand, white: Hand, kind: Kind
 
 // The first kind, in their order, of which there are more pieces than a set has.
 fn first_too_many(cells: &[Option<Piece>; 81], black: Hand, white: Hand) -> Option<Kind>
-    ensures none { result ≡ None → (k : Kind) → k ≢ King → count_of (record { cells = cells.now; black = black; white = white; side = Black }) k ≤ total_of k }
+    ensures none { result ≡ None → (k : Kind) → k ≢ King
+        → count_of (record { cells = cells.now; black = black; white = white; side = Black }) k ≤
+        total_of k }
     ensures not_king { IfSome result (λ k. k ≢ King) }
-    ensures some { IfSome result (λ k. total_of k < count_of (record { cells = cells.now; black = black; white = white; side = Black }) k) }
-    ensures first { IfSome result (λ k. (j : Kind) → place_of j < place_of k → count_of (record { cells = cells.now; black = black; white = white; side = Black }) j ≤ total_of j) }
+    ensures some { IfSome result
+        (λ k. total_of k < count_of
+        (record { cells = cells.now; black = black; white = white; side = Black }) k) }
+    ensures first { IfSome result (λ k. (j : Kind) → place_of j < place_of k
+        → count_of (record { cells = cells.now; black = black; white = white; side = Black }) j ≤
+        total_of j) }
 {
     for kind in Kind::IN_HAND {
         if is_too_many(cells, black, white, kind) {
@@ -109,7 +121,8 @@ fn has_two_pawns(cells: &[Option<Piece>; 81], side: Side, file: u8) -> bool
 fn first_file_of_two_pawns(cells: &[Option<Piece>; 81]) -> Option<u8>
     ensures none { result ≡ None → (file : ℕ) (side : Side) → TwoPawnsOn cells.now side file → ⊥ }
     ensures some { IfSome result (λ file. (side : Side) × TwoPawnsOn cells.now side file) }
-    ensures first { IfSome result (λ file. (f : ℕ) → f < file → (side : Side) → TwoPawnsOn cells.now side f → ⊥) }
+    ensures first { IfSome result (λ file. (f : ℕ) → f < file → (side : Side)
+        → TwoPawnsOn cells.now side f → ⊥) }
 {
     for file in 1..10 {
         if has_two_pawns(cells, Side::Black, file) {

@@ -37,7 +37,8 @@ impl Sets {
 
     /// The sets after this is put in a square's place.
     pub fn with(self, square: Square, cell: Option<Piece>) -> Sets
-        ensures { (at : ℕ → Option Piece) → AreSetsOf self at → AreSetsOf result (λ s. if s == square.number then cell else at s) }
+        ensures { (at : ℕ → Option Piece) → AreSetsOf self at
+            → AreSetsOf result (λ s. if s == square.number then cell else at s) }
     {
         Sets {
             black: changed(self.black, square, is_of_side(Side::Black, cell)),
@@ -50,7 +51,8 @@ impl Sets {
 
     /// The sets after this is put on a square that is empty until then.
     fn filled(self, square: Square, cell: Option<Piece>) -> Sets
-        ensures { (at : ℕ → Option Piece) → AreSetsOf self at → at square.number ≡ None → AreSetsOf result (λ s. if s == square.number then cell else at s) }
+        ensures { (at : ℕ → Option Piece) → AreSetsOf self at → at square.number ≡ None
+            → AreSetsOf result (λ s. if s == square.number then cell else at s) }
     {
         match cell {
             Some(piece) => self.with(square, Some(piece)),

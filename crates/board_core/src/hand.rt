@@ -7,8 +7,8 @@ ghost use Rattle.bit_boards.specs.declared.piece.Kind.TheVariants.{King};
 use crate::Kind;
 use std::marker::Model;
 
-/// The pieces that a side holds in hand: a count for each kind, in the order P L N S G B R. A king is never in hand.
-/// Contracts see the list of the seven counts.
+/// The pieces that a side holds in hand: a count for each kind, in the order P L N S G B R. A king
+/// is never in hand. Contracts see the list of the seven counts.
 #[derive(Clone, Copy, PartialEq, Eq, Debug)]
 pub struct Hand([u8; 7]);
 
@@ -55,7 +55,8 @@ impl Hand {
         self.0
     }
 
-    /// A law: a hand has seven counts. Does nothing; whoever speaks of its counts calls it to know this.
+    /// A law: a hand has seven counts. Does nothing; whoever speaks of its counts calls it to know
+    /// this.
     pub fn laws(self)
         ensures { length self ≡ 7 }
     {

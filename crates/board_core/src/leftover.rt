@@ -11,9 +11,9 @@ use crate::coding::Codes;
 use crate::scan::is_of_kind;
 use crate::{Hand, Kind, Position};
 
-/// The position with all pieces that are neither on the board nor in a hand, kings aside, in the hand of the side not to
-/// move; nothing else changes. So a problem of tsume-shogi is usually given: the defender holds the rest of the set.
-/// Takes no memory.
+/// The position with all pieces that are neither on the board nor in a hand, kings aside, in the
+/// hand of the side not to move; nothing else changes. So a problem of tsume-shogi is usually
+/// given: the defender holds the rest of the set. Takes no memory.
 pub fn rest(position: &Position) -> Position
     ensures position { result ≡ board_with_rest position.now }
     ensures totals { (k : Kind) → k ≢ King → count_of result k ≡ total_of k }
@@ -39,7 +39,8 @@ fn hand_with_rest(position: &Position) -> Hand
     ])
 }
 
-// How many of a kind the side not to move holds with what is left: all that are neither on the board nor in the other hand.
+// How many of a kind the side not to move holds with what is left: all that are neither on the
+// board nor in the other hand.
 fn count_with_rest(position: &Position, kind: Kind) -> u8
     requires { kind ≢ King }
     ensures { result ≡ count_with_rest position.now kind }

@@ -1,8 +1,10 @@
-//! Positions of shogi, hands and moves, as plain values. Squares and pieces are those of `bit_boards`, offered here again.
+//! Positions of shogi, hands and moves, as plain values. Squares and pieces are those of
+//! `bit_boards`, offered here again.
 //!
-//! A [`Position`] is small, of fixed size and copied as its bytes. It keeps that no kind has more pieces than a set of
-//! shogi, that a side has at most one king, that no piece stands where it could never move again, and that no side has
-//! two unpromoted pawns on a file. Nothing here takes memory, and nothing here knows how pieces move.
+//! A [`Position`] is small, of fixed size and copied as its bytes. It keeps that no kind has more
+//! pieces than a set of shogi, that a side has at most one king, that no piece stands where it
+//! could never move again, and that no side has two unpromoted pawns on a file. Nothing here takes
+//! memory, and nothing here knows how pieces move.
 #![tactic(auto)]
 
 mod build;

@@ -6,11 +6,11 @@ ghost use Rattle.board_core.specs.Order.{order_of};
 use crate::{Kind, Square};
 use std::cmp::Ordering;
 
-/// A move: of a piece on the board, perhaps promoting it, or of a piece from the hand (a drop). Whether it may be made
-/// is a question to the rules.
+/// A move: of a piece on the board, perhaps promoting it, or of a piece from the hand (a drop).
+/// Whether it may be made is a question to the rules.
 ///
-/// Moves are ordered: board moves first, by origin, then destination, the unpromoted one first; then the drops, by kind
-/// in the order P L N S G B R, each by square.
+/// Moves are ordered: board moves first, by origin, then destination, the unpromoted one first;
+/// then the drops, by kind in the order P L N S G B R, each by square.
 #[derive(Clone, Copy, PartialEq, Eq, PartialOrd, Ord, Debug)]
 pub enum Move {
     /// A piece goes from a square to a square.
@@ -32,7 +32,8 @@ pub enum Move {
 }
 
 impl Move {
-    /// How two moves are ordered: as their places in the order of moves are. `<`, `cmp` and sorting agree with it.
+    /// How two moves are ordered: as their places in the order of moves are. `<`, `cmp` and sorting
+    /// agree with it.
     pub fn compare(self, with: Move) -> Ordering
         ensures { result ≡ nat_cmp (order_of self) (order_of with) }
     {

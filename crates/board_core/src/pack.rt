@@ -27,7 +27,8 @@ fn code_at(codes: &Codes, square: usize) -> u64
     u64::from(codes[square].number)
 }
 
-// The squares from one on and before another in a word, at most twelve: five bits for each, the first in the lowest.
+// The squares from one on and before another in a word, at most twelve: five bits for each, the
+// first in the lowest.
 fn word(codes: &Codes, from: usize, to: usize) -> u64
     requires from { from ≤ to }
     requires to { to ≤ 81 }
@@ -41,10 +42,13 @@ fn word(codes: &Codes, from: usize, to: usize) -> u64
     word
 }
 
-// The word of at most twelve squares once one of them, by its place in the word, holds something else.
+// The word of at most twelve squares once one of them, by its place in the word, holds something
+// else.
 pub(crate) fn changed_word(word: u64, place: u8, taken: Option<Piece>, put: Option<Piece>) -> u64
     requires { place < 12 }
-    ensures { (cells : List (Option Piece)) → length cells ≤ 12 → place < length cells → word ≡ packed_cells cells → piece_at cells place ≡ taken → result ≡ packed_cells (slice_set cells place put) }
+    ensures { (cells : List (Option Piece)) → length cells ≤ 12 → place < length cells → word
+        ≡ packed_cells cells → piece_at cells place ≡ taken → result
+        ≡ packed_cells (slice_set cells place put) }
 {
     let lowest = 5 * place;
     word.wrapping_add(code(put) << lowest)
@@ -102,13 +106,15 @@ fn side_bit(side: Side) -> u64
     }
 }
 
-/// The key of a position. No two positions have one key. Takes no memory, and looks at each square once.
+/// The key of a position. No two positions have one key. Takes no memory, and looks at each square
+/// once.
 ///
-/// Word `s / 12` of the eight (0 to 6) holds square `s` in the five bits from bit `5 * (s % 12)`: 0 for an empty square,
-/// 1 to 8 for Black's pawn, lance, knight, silver, gold, bishop, rook and king, 9 to 14 for its promoted pawn, lance,
-/// knight, silver, bishop and rook, and 14 more for White's. Word 7 holds Black's hand from bit 0, White's from bit 21,
-/// and in bit 42 whether White is to move. A hand is, from its first bit, pawns in 5 bits, lances, knights, silvers and
-/// golds in 3 each, bishops and rooks in 2 each. All other bits are 0.
+/// Word `s / 12` of the eight (0 to 6) holds square `s` in the five bits from bit `5 * (s % 12)`: 0
+/// for an empty square, 1 to 8 for Black's pawn, lance, knight, silver, gold, bishop, rook and
+/// king, 9 to 14 for its promoted pawn, lance, knight, silver, bishop and rook, and 14 more for
+/// White's. Word 7 holds Black's hand from bit 0, White's from bit 21, and in bit 42 whether White
+/// is to move. A hand is, from its first bit, pawns in 5 bits, lances, knights, silvers and golds
+/// in 3 each, bishops and rooks in 2 each. All other bits are 0.
 pub fn key(position: &Position) -> Key
     ensures words { result.0 ≡ key_of position.now }
     ensures kept { IsKept position.now }

@@ -22,12 +22,13 @@ use std::mem::size_of;
 
 const _: () = prove!(size_of::<Position>() <= 192);
 
-/// A position of shogi: what stands on each square, the two hands, and the side to move. A plain value of fixed size,
-/// copied as its bytes.
+/// A position of shogi: what stands on each square, the two hands, and the side to move. A plain
+/// value of fixed size, copied as its bytes.
 ///
-/// It keeps: no kind has more pieces than a set (18 pawns, 4 each of lance, knight, silver and gold, 2 each of bishop
-/// and rook; on the board, promoted or not, of both sides, and in both hands); each side has at most one king; no piece
-/// stands where it could never move again; no side has two unpromoted pawns on a file.
+/// It keeps: no kind has more pieces than a set (18 pawns, 4 each of lance, knight, silver and
+/// gold, 2 each of bishop and rook; on the board, promoted or not, of both sides, and in both
+/// hands); each side has at most one king; no piece stands where it could never move again; no side
+/// has two unpromoted pawns on a file.
 #[derive(Clone, Copy, Debug)]
 pub struct Position {
     codes: Codes,
@@ -57,7 +58,8 @@ impl Model for Position {
 }
 
 impl Position {
-    /// The position with these parts, of which it is known that they keep what every position keeps.
+    /// The position with these parts, of which it is known that they keep what every position
+    /// keeps.
     pub(crate) fn kept(
         cells: &[Option<Piece>; 81],
         black: Hand,
@@ -83,7 +85,8 @@ impl Position {
         at(&self.codes, square)
     }
 
-    /// A law: what every position keeps. Does nothing; whoever speaks of a position's board calls it to know this.
+    /// A law: what every position keeps. Does nothing; whoever speaks of a position's board calls
+    /// it to know this.
     pub fn laws(&self)
         ensures { IsKept self.now }
     {
@@ -98,7 +101,8 @@ impl Position {
         &self.codes
     }
 
-    /// The position with this hand of a side, of which it is known that it keeps what every position keeps.
+    /// The position with this hand of a side, of which it is known that it keeps what every
+    /// position keeps.
     pub(crate) fn with_hand(&self, side: Side, hand: Hand) -> Position
         requires { IsKept (with_hand self.now side hand) }
         ensures { result ≡ with_hand self.now side hand }
@@ -142,15 +146,16 @@ impl Position {
         self.sets.pawns
     }
 
-    /// The squares on which pieces stand that slide, of both sides: lances that aren't promoted, bishops and rooks, promoted or not.
+    /// The squares on which pieces stand that slide, of both sides: lances that aren't promoted,
+    /// bishops and rooks, promoted or not.
     pub fn sliders(&self) -> Mask
         ensures { (s : ℕ) → holds result s ≡ is_slider (piece_at self.now.cells s) }
     {
         self.sets.sliders
     }
 
-    /// Whether two positions are one: the same piece or none on each square, the same hands, the same side to move. By their
-    /// keys; takes no memory.
+    /// Whether two positions are one: the same piece or none on each square, the same hands, the
+    /// same side to move. By their keys; takes no memory.
     pub fn is_same(&self, with: &Position) -> bool
         ensures { IsTrue result ↔ (self.now ≡ with.now) }
     {
@@ -166,10 +171,13 @@ impl Position {
 
     /// The square of a side's king, where it has one.
     pub fn king_square(&self, side: Side) -> Option<Square>
-        ensures found { IfSome result (λ s. is_king_of side (piece_at self.now.cells s.number) ≡ true) }
-        ensures only { IfSome result (λ s. (t : ℕ) → is_king_of side (piece_at self.now.cells t) ≡ true → t ≡ s.number) }
+        ensures found { IfSome result (λ s. is_king_of side (piece_at self.now.cells s.number)
+            ≡ true) }
+        ensures only { IfSome result (λ s. (t : ℕ) → is_king_of side (piece_at self.now.cells t)
+            ≡ true → t ≡ s.number) }
         ensures none { IsNone result ↔ (kings_of self.now side ≡ 0) }
-        ensures standing { (s : ℕ) → is_king_of side (piece_at self.now.cells s) ≡ true → IsSome result }
+        ensures standing { (s : ℕ) → is_king_of side (piece_at self.now.cells s) ≡ true
+            → IsSome result }
     {
         // A side has one king at most.
         self.laws();
@@ -195,14 +203,17 @@ impl Position {
         self.sets = self.sets.with(square, None);
     }
 
-    /// Puts a piece on an empty square. It must be one that could ever move from there, no second unpromoted pawn of its
-    /// side on the file, and left over: the set has one more of its kind, or, of a king, the side has none.
+    /// Puts a piece on an empty square. It must be one that could ever move from there, no second
+    /// unpromoted pawn of its side on the file, and left over: the set has one more of its kind,
+    /// or, of a king, the side has none.
     pub fn put(&mut self, square: Square, piece: Piece)
         requires empty { piece_at self.old.cells square.number ≡ None }
-        requires left_over { piece.kind ≢ King → count_of self.old piece.kind < total_of piece.kind }
+        requires left_over { piece.kind ≢ King
+            → count_of self.old piece.kind < total_of piece.kind }
         requires king { piece.kind ≡ King → kings_of self.old piece.side ≡ 0 }
         requires alive { is_dead square.number (Some piece) ≡ false }
-        requires pawn { is_pawn_of piece.side (Some piece) ≡ true → (s : ℕ) → s < 81 → file_of s ≡ file_of square.number → is_pawn_of piece.side (piece_at self.old.cells s) ≡ false }
+        requires pawn { is_pawn_of piece.side (Some piece) ≡ true → (s : ℕ) → s < 81 → file_of s
+            ≡ file_of square.number → is_pawn_of piece.side (piece_at self.old.cells s) ≡ false }
         ensures position { self.new ≡ with_cell self.old square.number (Some piece) }
         ensures changes { ChangesCell self.old self.new square.number (Some piece) }
     {
@@ -210,12 +221,15 @@ impl Position {
         self.sets = self.sets.with(square, Some(piece));
     }
 
-    /// Gives a side one more of a kind in hand, of which the set has one left over. No king goes into a hand.
+    /// Gives a side one more of a kind in hand, of which the set has one left over. No king goes
+    /// into a hand.
     pub fn gain(&mut self, side: Side, kind: Kind)
         requires king { kind ≢ King }
         requires left_over { count_of self.old kind < total_of kind }
-        ensures position { self.new ≡ with_hand self.old side (with_more (hand_of self.old side) kind) }
-        ensures counts { (k : Kind) → count_of self.new k ≡ count_of self.old k + one_if (same_kind kind k) }
+        ensures position { self.new
+            ≡ with_hand self.old side (with_more (hand_of self.old side) kind) }
+        ensures counts { (k : Kind) → count_of self.new k
+            ≡ count_of self.old k + one_if (same_kind kind k) }
     {
         match side {
             Side::Black => self.black = self.black.plus(kind),
@@ -223,16 +237,20 @@ impl Position {
         }
     }
 
-    /// Takes one of a kind, of which there is one, out of a side's hand; the set has one left over then. It
-    /// is no king, since no hand holds one.
+    /// Takes one of a kind, of which there is one, out of a side's hand; the set has one left over
+    /// then. It is no king, since no hand holds one.
     pub fn spend(&mut self, side: Side, kind: Kind)
         requires { 0 < hand_count (hand_of self.old side) kind }
-        ensures position { self.new ≡ with_hand self.old side (with_less (hand_of self.old side) kind) }
-        ensures counts { (k : Kind) → count_of self.new k + one_if (same_kind kind k) ≡ count_of self.old k }
+        ensures position { self.new
+            ≡ with_hand self.old side (with_less (hand_of self.old side) kind) }
+        ensures counts { (k : Kind) → count_of self.new k + one_if (same_kind kind k)
+            ≡ count_of self.old k }
         ensures left_over { count_of self.new kind < total_of kind }
         ensures king { kind ≢ King }
-        ensures one_less { hand_count (hand_of self.new side) kind + 1 ≡ hand_count (hand_of self.old side) kind }
-        ensures other_counts { (k : Kind) → k ≢ kind → hand_count (hand_of self.new side) k ≡ hand_count (hand_of self.old side) k }
+        ensures one_less { hand_count (hand_of self.new side) kind + 1
+            ≡ hand_count (hand_of self.old side) kind }
+        ensures other_counts { (k : Kind) → k ≢ kind → hand_count (hand_of self.new side) k
+            ≡ hand_count (hand_of self.old side) k }
     {
         match side {
             Side::Black => self.black = self.black.minus(kind),

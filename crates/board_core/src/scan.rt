@@ -131,7 +131,8 @@ pub(crate) fn count_kings(cells: &[Option<Piece>; 81], side: Side) -> usize
 pub(crate) fn first_dead(cells: &[Option<Piece>; 81]) -> Option<Square>
     ensures none { result ≡ None → (s : ℕ) → s < 81 → is_dead s (piece_at cells.now s) ≡ false }
     ensures some { IfSome result (λ s. is_dead s.number (piece_at cells.now s.number) ≡ true) }
-    ensures first { IfSome result (λ s. (t : ℕ) → t < s.number → is_dead t (piece_at cells.now t) ≡ false) }
+    ensures first { IfSome result (λ s. (t : ℕ) → t < s.number → is_dead t (piece_at cells.now t)
+        ≡ false) }
 {
     for number in 0..81 {
         let square = Square { number };
@@ -145,11 +146,13 @@ pub(crate) fn first_dead(cells: &[Option<Piece>; 81]) -> Option<Square>
 /// The first square, from `from` on and before `to`, with an unpromoted pawn of the side.
 pub(crate) fn first_pawn(cells: &[Option<Piece>; 81], side: Side, from: u8, to: u8) -> Option<u8>
     requires { to ≤ 81 }
-    ensures none { result ≡ None → (s : ℕ) → s < to → from ≤ s → is_pawn_of side (piece_at cells.now s) ≡ false }
+    ensures none { result ≡ None → (s : ℕ) → s < to → from ≤ s
+        → is_pawn_of side (piece_at cells.now s) ≡ false }
     ensures from { IfSome result (λ s. from ≤ s) }
     ensures to { IfSome result (λ s. s < to) }
     ensures some { IfSome result (λ s. is_pawn_of side (piece_at cells.now s) ≡ true) }
-    ensures first { IfSome result (λ s. (t : ℕ) → t < s → from ≤ t → is_pawn_of side (piece_at cells.now t) ≡ false) }
+    ensures first { IfSome result (λ s. (t : ℕ) → t < s → from ≤ t
+        → is_pawn_of side (piece_at cells.now t) ≡ false) }
 {
     for square in from..to {
         if is_pawn_of(side, at(cells, square)) {

@@ -1,7 +1,7 @@
 //! The public calls on squares, positions, paths and proof numbers, tried by examples.
 //!
-//! The tests of this layer stand here and not in its libraries, so that no library is proved twice. Without tests this
-//! crate is empty.
+//! The tests of this layer stand here and not in its libraries, so that no library is proved twice.
+//! Without tests this crate is empty.
 #![tactic(auto)]
 
 #[cfg(test)]

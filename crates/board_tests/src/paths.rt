@@ -5,7 +5,8 @@ use path_tags::{Path, Tag};
 use std::alloc::{AllocError, Global};
 use std::test::Fail;
 
-// A key that is told from others by its first word in front of its last: keys come in the order of these numbers.
+// A key that is told from others by its first word in front of its last: keys come in the order of
+// these numbers.
 fn key(number: u64) -> Key {
     Key([number / 10, 7, 7, 7, 7, 7, 7, number % 10])
 }
@@ -34,7 +35,8 @@ fn path_of(alloc: Global, numbers: &[u64]) -> Result<Path, AllocError> {
     Ok(path)
 }
 
-// A tag, another that is added to it, the key that is taken out, what is left, and a path on which all of it stands.
+// A tag, another that is added to it, the key that is taken out, what is left, and a path on which
+// all of it stands.
 type Row<'a> = (&'a [u64], &'a [u64], u64, &'a [u64], &'a [u64]);
 
 const ROWS: &[Row] = &[

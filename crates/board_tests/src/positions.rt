@@ -21,8 +21,8 @@ const OTHERS: [u8; 7] = [8, 0, 4, 0, 3, 0, 1];
 
 const ONE_FILE: &str = "k5a +P1a +P1b +p1c +P1d +p1e +P1f +P1g +p1h +p1i";
 
-// A piece and its square by a word as `+P5c`: a letter, capital for Black and behind a `+` where it is promoted, and
-// the square.
+// A piece and its square by a word as `+P5c`: a letter, capital for Black and behind a `+` where it
+// is promoted, and the square.
 fn placed(word: &str) -> Option<(Piece, Square)> {
     let plain = word.strip_prefix("+").unwrap_or(word).as_bytes();
     let [letter, file, row] = plain else {
@@ -132,13 +132,15 @@ fn what_may_stand_stands(rt: HostRuntime) {
         ("k5a", ALL, NONE, Black),
         ("k5a K5i", HALF, HALF, Black),
         ("k5a +b5c R5d", SOME, OTHERS, Black),
-        // A promoted pawn on each row of one file; an unpromoted one among promoted ones; one of each side.
+        // A promoted pawn on each row of one file; an unpromoted one among promoted ones; one of
+        // each side.
         (ONE_FILE, NONE, NONE, Black),
         ("k5a P7e +P7c +P7g", NONE, NONE, Black),
         ("k5a P7e p7c", NONE, NONE, Black),
         // One pawn on a file beside another on the next one.
         ("k5a P1i P2b", NONE, NONE, Black),
-        // As far ahead as each may stand, and on the rows where the other side's couldn't; promoted ones anywhere.
+        // As far ahead as each may stand, and on the rows where the other side's couldn't; promoted
+        // ones anywhere.
         ("k5a P1b L2b N3c", NONE, NONE, Black),
         ("k5a p1h l2h n3g", NONE, NONE, Black),
         ("k5a P1i L2i N3i", NONE, NONE, Black),

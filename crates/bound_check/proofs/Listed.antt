@@ -25,7 +25,8 @@ listed_here entries place least p x apart found there l =
     let enough = l.enough in
     omega arith
 
--- the position that stands at a place is listed with what the entry there says, and with nothing more
+-- the position that stands at a place is listed with what the entry there says, and with nothing
+-- more
 pub listed_at : (entries : List BoundEntry) (place least : ℕ) (p : Board) (entry : BoundEntry) → AreApart (bounded_in entries)
     → slice_get (bounded_in entries) place ≡ Some p → entry ≡ get_or entries place entry
     → (least ≤ (get_or entries place entry).bound.number) ↔ IsListedFrom entries least p

@@ -11,7 +11,8 @@ use Rattle.bound_check.specs.Valid.{IsListedFrom, Keeps, IsHeld, IsValidBound}
 use Rattle.bound_check.specs.declared.verdict.BoundVerdict.{BoundVerdict}
 use Rattle.bound_check.specs.declared.verdict.BoundVerdict.TheVariants.{Accepted, Refused}
 
--- The position isn't listed as the number of moves asks: with it or a greater one, where it is above 0.
+-- The position isn't listed as the number of moves asks: with it or a greater one, where it is
+-- above 0.
 pub record IsRootMissing (entries : List BoundEntry) (p : Board) (within : ℕ) : Type 0 where
   pub some : 0 < within
   pub missing : ¬ IsListedFrom entries within p
@@ -21,8 +22,9 @@ pub record IsUnkept (entries : List BoundEntry) (attacker : Side) (entry : Bound
   pub is_check : IsCheck attacker entry.at check
   pub unkept : ¬ HasEvasionTo attacker (Keeps entries entry.bound.number) entry.at check
 
--- A reason against a bound at a number: at 0, which names no check, the position isn't listed as it has to be; from 1 on, at the
--- entry with that number, this check of its position has no evasion that keeps its number.
+-- A reason against a bound at a number: at 0, which names no check, the position isn't listed as it
+-- has to be; from 1 on, at the entry with that number, this check of its position has no evasion
+-- that keeps its number.
 abbrev pub HasReason : List BoundEntry → Board → ℕ → ℕ → Option Move → Type 0
 HasReason entries p within zero None = IsRootMissing entries p within
 HasReason entries p within zero (Some check) = ⊥
@@ -34,7 +36,8 @@ abbrev pub reason_place : Option Move → ℕ
 reason_place None = 0
 reason_place (Some check) = order_of check
 
--- The one reason is named before the other: it is at a smaller number, or at the same one with a check that comes sooner.
+-- The one reason is named before the other: it is at a smaller number, or at the same one with a
+-- check that comes sooner.
 abbrev pub IsSooner : ℕ → Option Move → ℕ → Option Move → Type 0
 IsSooner entry check later_entry later_check =
     (entry < later_entry) ⊎ ((entry ≡ later_entry) × (reason_place check < reason_place later_check))
@@ -50,7 +53,8 @@ abbrev pub IsVerdict : List BoundEntry → Board → ℕ → BoundVerdict → Ty
 IsVerdict entries p within Accepted = IsValidBound entries p within
 IsVerdict entries p within (Refused entry check) = IsFirstAgainst entries p within entry check
 
--- The finding about one entry: that it is held; or the first check of its position to which no evasion keeps its number.
+-- The finding about one entry: that it is held; or the first check of its position to which no
+-- evasion keeps its number.
 abbrev pub IsFirstUnkept : List BoundEntry → Side → BoundEntry → Option Move → Type 0
 IsFirstUnkept entries attacker entry None = IsHeld entries attacker entry
 IsFirstUnkept entries attacker entry (Some check) = IsUnkept entries attacker entry check

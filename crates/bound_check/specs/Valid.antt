@@ -14,8 +14,8 @@ pub record IsListedFrom (entries : List BoundEntry) (least : ℕ) (position : Bo
   pub same : entry.at ≡ position
   pub enough : least ≤ entry.bound.number
 
--- An evasion that leads to the position keeps a number of moves: for 1 any does; above 1 the position is listed with one less, or
--- with more.
+-- An evasion that leads to the position keeps a number of moves: for 1 any does; above 1 the
+-- position is listed with one less, or with more.
 abbrev pub Keeps : List BoundEntry → ℕ → Board → Type 0
 Keeps entries number position = 1 < number → IsListedFrom entries (number - 1) position
 
@@ -24,13 +24,15 @@ abbrev pub IsHeld : List BoundEntry → Side → BoundEntry → Type 0
 IsHeld entries attacker entry = (check : Move) → IsCheck attacker entry.at check
     → HasEvasionTo attacker (Keeps entries entry.bound.number) entry.at check
 
--- The entries of a bound are valid for a position and a number of moves: the number is 0, or the position is listed with it or a
--- greater one; and every entry is held, also one that nothing needs.
+-- The entries of a bound are valid for a position and a number of moves: the number is 0, or the
+-- position is listed with it or a greater one; and every entry is held, also one that nothing
+-- needs.
 pub record IsValidBound (entries : List BoundEntry) (p : Board) (within : ℕ) : Type 0 where
   pub root : 0 < within → IsListedFrom entries within p
   pub held : (entry : BoundEntry) → Contains entries entry → IsHeld entries p.side entry
 
--- What a valid bound shows: its position is no mate within the number of moves, and no listed position is one within its own number.
+-- What a valid bound shows: its position is no mate within the number of moves, and no listed
+-- position is one within its own number.
 pub record ShowsBound (entries : List BoundEntry) (p : Board) (within : ℕ) : Type 0 where
   pub no_mate : ¬ RankAtMost p.side within p
   pub none_listed : (entry : BoundEntry) → Contains entries entry → ¬ RankAtMost p.side entry.bound.number entry.at

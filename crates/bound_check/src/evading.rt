@@ -44,7 +44,8 @@ fn keeps(entries: &[BoundEntry], places: &Places, number: u32, position: &Positi
     is_listed_from(entries, places, number - 1, position)
 }
 
-// Whether an evasion to this check of the entry's position keeps its number. The list is filled again.
+// Whether an evasion to this check of the entry's position keeps its number. The list is filled
+// again.
 fn is_kept(
     problem: &Problem,
     entries: &[BoundEntry],
@@ -57,7 +58,8 @@ fn is_kept(
     requires quiet { IsQuiet entry.now.at }
     requires check { IsCheck problem.now.position.side entry.now.at check }
     ensures { IfOk result (λ kept. IsTrue kept
-        ↔ HasEvasionTo problem.now.position.side (Keeps entries.now entry.now.bound.number) entry.now.at check) }
+        ↔ HasEvasionTo problem.now.position.side (Keeps entries.now entry.now.bound.number)
+        entry.now.at check) }
 {
     let checked = apply(&entry.at, check);
     answers_into(problem, &checked, evasions)?;
@@ -77,7 +79,8 @@ pub(crate) struct Lists {
     pub(crate) evasions: Moves,
 }
 
-/// The first check of the entry's position to which no evasion keeps its number. The lists are filled again.
+/// The first check of the entry's position to which no evasion keeps its number. The lists are
+/// filled again.
 pub(crate) fn first_unkept(
     problem: &Problem,
     entries: &[BoundEntry],
@@ -87,7 +90,8 @@ pub(crate) fn first_unkept(
 ) -> Result<Option<Move>, AllocError>
     requires places { ArePlacesOf places.now (bounded_in entries.now) }
     requires quiet { IsQuiet entry.now.at }
-    ensures { IfOk result (λ found. IsFirstUnkept entries.now problem.now.position.side entry.now found) }
+    ensures { IfOk result
+        (λ found. IsFirstUnkept entries.now problem.now.position.side entry.now found) }
 {
     // In a list in the order of moves, what comes sooner stands sooner.
     order_laws();

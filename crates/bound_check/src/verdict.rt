@@ -26,10 +26,11 @@ pub enum BoundVerdict {
     Accepted,
     /// It isn't.
     Refused {
-        /// 0 where the number of moves is above 0 and the problem isn't listed with it or more; else the first entry with a check
-        /// that lacks its evasion, counted from 1.
+        /// 0 where the number of moves is above 0 and the problem isn't listed with it or more;
+        /// else the first entry with a check that lacks its evasion, counted from 1.
         entry: u64,
-        /// The first such check of that entry's position, in the order of moves; none where `entry` is 0.
+        /// The first such check of that entry's position, in the order of moves; none where `entry`
+        /// is 0.
         check: Option<Move>,
     },
 }
@@ -52,7 +53,8 @@ fn verdict_on(
     bound: &Bound,
     within: u32,
 ) -> Result<BoundVerdict, AllocError>
-    ensures { IfOk result (λ verdict. IsVerdict bound.now.entries problem.now.position within verdict) }
+    ensures { IfOk result
+        (λ verdict. IsVerdict bound.now.entries problem.now.position within verdict) }
 {
     let entries = bound.entries();
     let places = places_of(alloc, bound)?;
@@ -77,8 +79,9 @@ fn verdict_on(
     Ok(BoundVerdict::Accepted)
 }
 
-/// What a valid bound is worth, a law: every verdict on it is that it is accepted, and it shows that the position is no mate within
-/// the number of moves, nor any listed position within its own. Does nothing; whoever makes a bound calls it to know this.
+/// What a valid bound is worth, a law: every verdict on it is that it is accepted, and it shows
+/// that the position is no mate within the number of moves, nor any listed position within its own.
+/// Does nothing; whoever makes a bound calls it to know this.
 pub fn valid_bound_is_accepted()
     ensures accepted { (entries : List BoundEntry) (p : Board) (within : ℕ) (verdict : BoundVerdict)
         → IsVerdict entries p within verdict → IsValidBound entries p within → verdict ≡ Accepted }
@@ -86,11 +89,12 @@ pub fn valid_bound_is_accepted()
         → IsValidBound entries p within → ShowsBound entries p within }
 {}
 
-/// Whether the bound is valid for the problem and this number of moves; else the first reason against it. Errors: want of memory
-/// alone.
+/// Whether the bound is valid for the problem and this number of moves; else the first reason
+/// against it. Errors: want of memory alone.
 ///
-/// What is accepted is so, whoever wrote the bound: the problem is no mate within so many of the attacker's moves. Where the
-/// number is 0 that says nothing, and the entries are judged all the same.
+/// What is accepted is so, whoever wrote the bound: the problem is no mate within so many of the
+/// attacker's moves. Where the number is 0 that says nothing, and the entries are judged all the
+/// same.
 pub fn check_bound(
     alloc: Global,
     problem: &Problem,
@@ -98,7 +102,8 @@ pub fn check_bound(
     within: u32,
 ) -> Result<BoundVerdict, AllocError>
     // Accepted exactly where the bound is valid, refused exactly with the first reason against it.
-    ensures verdict { IfOk result (λ verdict. IsVerdict bound.now.entries problem.now.position within verdict) }
+    ensures verdict { IfOk result
+        (λ verdict. IsVerdict bound.now.entries problem.now.position within verdict) }
     ensures accepted { IfOk result (λ verdict. (verdict ≡ Accepted)
         ↔ IsValidBound bound.now.entries problem.now.position within) }
 

@@ -1,4 +1,5 @@
--- A text is that of one bound at most, and then it has no fault; and it has one first fault at most.
+-- A text is that of one bound at most, and then it has no fault; and it has one first fault at
+-- most.
 use Rattle.std.proofs.Common.{inl, inr, ◌⊎◌, ◌≡◌, ◌<◌, ◌≤◌, ℕ, zero, suc, List, [], ◌∷◌, ◌++◌, length, refl, sym, ap, subst, ◌∙◌, append_assoc, arith}
 use Rattle.std.specs.Prelude.{Result, Ok, Err}
 use Rattle.std.specs.List.{AllByRecursion}

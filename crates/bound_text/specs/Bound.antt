@@ -11,7 +11,8 @@ use Rattle.bound_text.specs.declared.entry.BoundEntry.{BoundEntry}
 abbrev pub bound_entry_text : BoundEntry → List ℕ
 bound_entry_text entry = line (decimal entry.bound.number ++ 32 ∷ sfen_of entry.at)
 
--- The entries of a bound: each position is a problem with the same side to move as the bound's problem.
+-- The entries of a bound: each position is a problem with the same side to move as the bound's
+-- problem.
 abbrev pub bound_form : Board → Form BoundEntry
 bound_form problem = record { Lists = λ entry. IsEntry problem entry.at; text_of = bound_entry_text; at = λ entry. entry.at }
 

@@ -11,6 +11,7 @@ use Rattle.bound_text.specs.Bound.{bound_form}
 abbrev pub first_line : List ℕ → List ℕ
 first_line digits = line (codes "bound 1 " ++ digits)
 
--- The text of a bound: the first line with the number of its entries, a line for each entry, and the line `end`.
+-- The text of a bound: the first line with the number of its entries, a line for each entry, and
+-- the line `end`.
 abbrev pub bound_text : CertificateView BoundEntry → List ℕ
 bound_text b = first_line (decimal (length b.entries)) ++ (entries_text (bound_form b.problem) b.entries ++ end_line)

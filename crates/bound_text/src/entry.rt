@@ -8,17 +8,20 @@ use sfen_text::append_sfen;
 use shogi_rules::Problem;
 use std::alloc::AllocError;
 
-/// What a bound says of a position, and what an accepted one bears out: within so many of the attacker's moves it is no mate.
+/// What a bound says of a position, and what an accepted one bears out: within so many of the
+/// attacker's moves it is no mate.
 #[derive(Clone, Copy, Debug)]
 pub struct BoundEntry {
-    /// The number of moves, 1 to [`mate_facts::MOST_RANK`]: a mate from the position has a greater rank, if there is one.
+    /// The number of moves, 1 to [`mate_facts::MOST_RANK`]: a mate from the position has a greater
+    /// rank, if there is one.
     pub bound: Rank,
     /// The position, with the attacker to move.
     pub at: Position,
 }
 
-/// A bound: entries with a number and a position, in rising order of the bytes of the positions' SFEN texts. Its problem says
-/// whose side is to move in each of them; which positions it bounds, its entries say alone.
+/// A bound: entries with a number and a position, in rising order of the bytes of the positions'
+/// SFEN texts. Its problem says whose side is to move in each of them; which positions it bounds,
+/// its entries say alone.
 pub type Bound = CertificateOf<BoundEntry>;
 
 impl Entry for BoundEntry {

@@ -6,11 +6,12 @@ ghost use Rattle.bound_text.specs.declared.fault.BoundEnd.TheVariants as ends;
 use std::alloc::{AllocError, AllocFailed};
 use std::fmt::{self, Write};
 
-/// Why a text is no bound: its first line that is wrong, or isn't there. Only what ends with a line feed is a line.
+/// Why a text is no bound: its first line that is wrong, or isn't there. Only what ends with a line
+/// feed is a line.
 #[derive(Clone, Copy, PartialEq, Eq, Debug)]
 pub struct BadBound {
-    /// The line's number: 0 for the first line, from 1 on for the entries that it tells the number of, the next one for the line
-    /// `end`, and one more for what stands behind it.
+    /// The line's number: 0 for the first line, from 1 on for the entries that it tells the number
+    /// of, the next one for the line `end`, and one more for what stands behind it.
     pub line: u64,
 }
 

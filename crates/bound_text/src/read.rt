@@ -45,7 +45,8 @@ fn is_decimal(text: &[u8], number: usize) -> bool
     Buffer::new().format(number).as_bytes() == text
 }
 
-// The digits of the number of entries in the first line of a bound, and what stands behind that line.
+// The digits of the number of entries in the first line of a bound, and what stands behind that
+// line.
 fn head_of(text: &[u8]) -> Option<(&[u8], &[u8])>
     ensures found { IfSome result (λ parts. IsHead parts.0.now parts.1.now text.now) }
     ensures none { IfNone result (HasNoHead text.now) }
@@ -130,11 +131,12 @@ fn bound_of(alloc: Global, bytes: &[u8], problem: &Problem) -> Result<Bound, Bou
     Ok(Bound::new(*problem, entries))
 }
 
-/// The bound whose text it is (version 1, as [`write_bound`](crate::write_bound) writes it), for a problem, whose side to move is that of
-/// each listed position. It may have any number of entries, also none.
+/// The bound whose text it is (version 1, as [`write_bound`](crate::write_bound) writes it), for a
+/// problem, whose side to move is that of each listed position. It may have any number of entries,
+/// also none.
 ///
-/// For any other text the first line that is wrong ([`BadBound`]). Errors: want of memory alone. Reads a line after the other, and
-/// keeps what it reads in a vector that doubles.
+/// For any other text the first line that is wrong ([`BadBound`]). Errors: want of memory alone.
+/// Reads a line after the other, and keeps what it reads in a vector that doubles.
 pub fn read_bound(alloc: Global, bytes: &[u8], problem: &Problem) -> Result<Bound, BoundEnd>
     ensures exact { IsBoundOutcome problem.now.position bytes.now result }
     // Each bound that can be read for the problem is, from its text, unless memory is wanted.

@@ -17,8 +17,8 @@ fn append_first_line(out: &mut Vec<u8>, count: usize) -> Result<(), AllocError>
     Ok(())
 }
 
-/// Writes the text of a bound behind what stands there already: see [`write_bound`]. Where memory is wanted, a part of it may stand
-/// there. Errors: want of memory alone.
+/// Writes the text of a bound behind what stands there already: see [`write_bound`]. Where memory
+/// is wanted, a part of it may stand there. Errors: want of memory alone.
 pub fn append_bound(out: &mut Vec<u8>, bound: &Bound) -> Result<(), AllocError>
     ensures text { OnOk result (out.new.items ≡ out.old.items ++ bound_text bound.now) }
     // What is written is read again: see `again` of `read_bound`.
@@ -33,9 +33,10 @@ pub fn append_bound(out: &mut Vec<u8>, bound: &Bound) -> Result<(), AllocError>
     Ok(())
 }
 
-/// The text of a bound, version 1: the line `bound 1 K` with the number of its entries; a line `BOUND SFEN` for each entry; and the
-/// line `end`. Each line ends with a line feed. Numbers are decimal digits without a leading zero, and positions are written as
-/// [`sfen_text::write_sfen`] does. Errors: want of memory alone.
+/// The text of a bound, version 1: the line `bound 1 K` with the number of its entries; a line
+/// `BOUND SFEN` for each entry; and the line `end`. Each line ends with a line feed. Numbers are
+/// decimal digits without a leading zero, and positions are written as [`sfen_text::write_sfen`]
+/// does. Errors: want of memory alone.
 pub fn write_bound(alloc: Global, bound: &Bound) -> Result<Vec<u8>, AllocError>
     ensures text { IfOk result (λ text. text.items ≡ bound_text bound.now) }
     // What is written is read again: see `again` of `read_bound`.

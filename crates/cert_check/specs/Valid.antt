@@ -8,13 +8,15 @@ use Rattle.cert_text.specs.declared.certificate.Certificate.TheVariants.{Mate, E
 use Rattle.cert_text.specs.Certificate.{Mating, Escaping}
 use Rattle.mate_facts.specs.Entries.{positions_of, IsBorneOut}
 
--- A mate's certificate is valid for a position: it is about the position, lists it, and each of its entries is borne out.
+-- A mate's certificate is valid for a position: it is about the position, lists it, and each of its
+-- entries is borne out.
 pub record ValidMate (c : Mating) (p : Board) : Type 0 where
   pub problem : c.problem ≡ p
   pub listed : Contains (positions_of c.entries) p
   pub entries : (entry : MateEntry) → Contains c.entries entry → IsBorneOut c.entries p.side entry
 
--- An escape's certificate is valid for a position: it is about the position, lists it, and the listed positions are closed.
+-- An escape's certificate is valid for a position: it is about the position, lists it, and the
+-- listed positions are closed.
 pub record ValidEscape (c : Escaping) (p : Board) : Type 0 where
   pub problem : c.problem ≡ p
   pub listed : Contains c.entries p
@@ -35,8 +37,8 @@ pub record ShowsEscape (p : Board) : Type 0 where
   pub escape : Escapes p.side p
   pub no_mate : ¬ IsMate p.side p
 
--- What a valid certificate shows: that its position is a mate, and each listed one a mate within its rank; or that its position
--- is none.
+-- What a valid certificate shows: that its position is a mate, and each listed one a mate within
+-- its rank; or that its position is none.
 abbrev pub Shows : Certificate → Board → Type 0
 Shows (Mate c) p = ShowsMate c p
 Shows (Escape c) p = ShowsEscape p

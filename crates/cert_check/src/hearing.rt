@@ -25,9 +25,10 @@ pub struct Objection {
     pub why: Why,
 }
 
-/// The hearing of a certificate for a problem: its entries may be heard in stretches, in any order, also in several threads at once,
-/// and the verdict follows from the first objection. It borrows both, and keeps where each position of the certificate stands.
-/// Contracts see the certificate and the problem's position.
+/// The hearing of a certificate for a problem: its entries may be heard in stretches, in any order,
+/// also in several threads at once, and the verdict follows from the first objection. It borrows
+/// both, and keeps where each position of the certificate stands. Contracts see the certificate and
+/// the problem's position.
 #[derive(Drop)]
 pub struct Hearing<'c> {
     problem: &'c Problem,
@@ -122,7 +123,8 @@ fn lists_root(certificate: &Certificate, problem: &Problem, places: &Places) -> 
 }
 
 impl<'c> Hearing<'c> {
-    /// Opens the hearing of a certificate for a problem: finds out where each of its positions stands. Errors: want of memory alone.
+    /// Opens the hearing of a certificate for a problem: finds out where each of its positions
+    /// stands. Errors: want of memory alone.
     pub fn open(
         alloc: Global,
         problem: &'c Problem,
@@ -155,8 +157,8 @@ impl<'c> Hearing<'c> {
         lists_root(self.certificate, self.problem, &self.places)
     }
 
-    /// The verdict before any entry is heard, where there is one: the certificate is about another problem, or doesn't list its
-    /// position. Takes no memory.
+    /// The verdict before any entry is heard, where there is one: the certificate is about another
+    /// problem, or doesn't list its position. Takes no memory.
     pub fn root_verdict(&self) -> Option<Verdict>
         ensures { IfSome result (IsVerdict self.now.certificate self.now.problem) }
     {
@@ -166,7 +168,8 @@ impl<'c> Hearing<'c> {
         Some(Verdict::ROOT_MISSING)
     }
 
-    /// The first objection among the entries from one place on and before another, counted from 0. Errors: want of memory alone.
+    /// The first objection among the entries from one place on and before another, counted from 0.
+    /// Errors: want of memory alone.
     pub fn objection_in(
         &self,
         alloc: Global,

@@ -12,7 +12,9 @@ pub fn places_of<E: Entry>(
     alloc: Global,
     certificate: &CertificateOf<E>,
 ) -> Result<Places, AllocError>
-    ensures places { IfOk result (λ places. ArePlacesOf places (map (E.form certificate.now.problem).at certificate.now.entries)) }
+    ensures places { IfOk result
+        (λ places. ArePlacesOf places
+        (map (E.form certificate.now.problem).at certificate.now.entries)) }
     ensures kept { IsListing (E.form certificate.now.problem) certificate.now }
 {
     let mut places = Places::new(alloc);

@@ -20,7 +20,8 @@ use position_places::Places;
 use shogi_rules::{Problem, apply, is_check, key_after};
 use std::alloc::AllocError;
 
-// What speaks against an evasion that leads to the position of this key, from an entry of this rank.
+// What speaks against an evasion that leads to the position of this key, from an entry of this
+// rank.
 fn evasion_reason(
     entries: &[MateEntry],
     places: &Places,
@@ -30,7 +31,8 @@ fn evasion_reason(
 ) -> Option<Why>
     requires places { ArePlacesOf places.now (positions_of entries.now) }
     requires apart { AreApart (positions_of entries.now) }
-    ensures { (position : Board) → IsKept position → next.now.0 ≡ key_of position → IsEvasionJudged entries.now rank position evasion result }
+    ensures { (position : Board) → IsKept position → next.now.0 ≡ key_of position
+        → IsEvasionJudged entries.now rank position evasion result }
 {
     // Entries of one position are one entry.
     entry_laws();
@@ -57,7 +59,9 @@ pub(crate) fn mate_reason(
     requires quiet { IsQuiet entry.now.at }
     requires places { ArePlacesOf places.now (positions_of entries.now) }
     requires apart { AreApart (positions_of entries.now) }
-    ensures { IfOk result (λ reason. IsFirstReason (IsBorneOut entries.now problem.now.position.side entry.now) (MateReason entries.now problem.now.position.side entry.now) reason) }
+    ensures { IfOk result
+        (λ reason. IsFirstReason (IsBorneOut entries.now problem.now.position.side entry.now)
+        (MateReason entries.now problem.now.position.side entry.now) reason) }
 {
     // In a list in the order of moves, what comes sooner stands sooner.
     order_laws();
@@ -87,7 +91,9 @@ fn has_evasion_back(
 ) -> Result<bool, AllocError>
     requires quiet { IsQuiet position.now }
     requires check { IsCheck problem.now.position.side position.now check }
-    ensures { IfOk result (λ found. (positions : List Board) → ArePlacesOf places.now positions → IsTrue found ↔ HasEvasionTo problem.now.position.side (Contains positions) position.now check) }
+    ensures { IfOk result (λ found. (positions : List Board) → ArePlacesOf places.now positions
+        → IsTrue found ↔ HasEvasionTo problem.now.position.side (Contains positions) position.now
+        check) }
 {
     let checked = apply(position, check);
     let known = key(&checked);
@@ -110,7 +116,9 @@ pub(crate) fn escape_reason(
     evasions: &mut Moves,
 ) -> Result<Option<Why>, AllocError>
     requires quiet { IsQuiet position.now }
-    ensures { IfOk result (λ reason. (positions : List Board) → ArePlacesOf places.now positions → IsFirstReason (IsHeld positions problem.now.position.side position.now) (EscapeReason positions problem.now.position.side position.now) reason) }
+    ensures { IfOk result (λ reason. (positions : List Board) → ArePlacesOf places.now positions
+        → IsFirstReason (IsHeld positions problem.now.position.side position.now)
+        (EscapeReason positions problem.now.position.side position.now) reason) }
 {
     // In a list in the order of moves, what comes sooner stands sooner.
     order_laws();

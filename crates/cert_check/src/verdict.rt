@@ -26,7 +26,8 @@ pub enum Why {
     NotACheck(Move),
     /// After the entry's move, this evasion leads to a position that isn't listed.
     EvasionOutside(Move),
-    /// After the entry's move, this evasion leads to a position that is listed, but not with a lower rank.
+    /// After the entry's move, this evasion leads to a position that is listed, but not with a
+    /// lower rank.
     RankNotLower(Move),
     /// In an escape, no evasion to this check of the entry's position leads to a listed position.
     CheckUnanswered(Move),
@@ -39,9 +40,11 @@ pub enum Verdict {
     Accepted,
     /// It isn't.
     Refused {
-        /// The first entry that something speaks against, counted from 1; 0 for [`Why::RootMissing`].
+        /// The first entry that something speaks against, counted from 1; 0 for
+        /// [`Why::RootMissing`].
         entry: u64,
-        /// The first reason against it: what is wrong with its own move, else the first in the order of the moves that they name.
+        /// The first reason against it: what is wrong with its own move, else the first in the
+        /// order of the moves that they name.
         why: Why,
     },
 }
@@ -54,10 +57,12 @@ impl Verdict {
     };
 }
 
-/// What validity is worth, a law: every verdict on a valid certificate is that it is accepted, and it shows what it says, a
-/// mate or that there is none. (It shows this where it keeps what every [`Certificate`] keeps.)
+/// What validity is worth, a law: every verdict on a valid certificate is that it is accepted, and
+/// it shows what it says, a mate or that there is none. (It shows this where it keeps what every
+/// [`Certificate`] keeps.)
 pub fn valid_is_accepted()
-    ensures accepted { (c : Certificate) (p : Board) (verdict : Verdict) → IsVerdict c p verdict → IsValid c p → verdict ≡ Accepted }
+    ensures accepted { (c : Certificate) (p : Board) (verdict : Verdict) → IsVerdict c p verdict
+        → IsValid c p → verdict ≡ Accepted }
     ensures shows { (c : Certificate) (p : Board) → IsKeptBy c → IsValid c p → Shows c p }
 {
     escape_is_no_mate();
@@ -68,7 +73,8 @@ fn verdict_on(
     problem: &Problem,
     certificate: &Certificate,
 ) -> Result<Verdict, AllocError>
-    ensures verdict { IfOk result (λ verdict. IsVerdict certificate.now problem.now.position verdict) }
+    ensures verdict { IfOk result
+        (λ verdict. IsVerdict certificate.now problem.now.position verdict) }
     ensures kept { IsKeptBy certificate.now }
 {
     certificate.laws();
@@ -80,29 +86,36 @@ fn verdict_on(
     Ok(hearing.verdict(first))
 }
 
-/// A law: a certificate has one verdict for a problem, however its entries are heard. Does nothing; whoever compares two verdicts
-/// calls it to know this.
+/// A law: a certificate has one verdict for a problem, however its entries are heard. Does nothing;
+/// whoever compares two verdicts calls it to know this.
 pub fn verdict_laws()
-    ensures once { (c : Certificate) (p : Board) (one other : Verdict) → IsVerdict c p one → IsVerdict c p other → one ≡ other }
+    ensures once { (c : Certificate) (p : Board) (one other : Verdict) → IsVerdict c p one
+        → IsVerdict c p other → one ≡ other }
 {
     // No two moves have one place in their order.
     order_laws();
 }
 
-/// Whether the certificate is valid for the problem; else the first reason against it. Errors: want of memory alone.
+/// Whether the certificate is valid for the problem; else the first reason against it. Errors: want
+/// of memory alone.
 ///
-/// What is accepted is so, whoever wrote the certificate: an accepted mate is a mate, an accepted escape is none.
+/// What is accepted is so, whoever wrote the certificate: an accepted mate is a mate, an accepted
+/// escape is none.
 pub fn check(
     alloc: Global,
     problem: &Problem,
     certificate: &Certificate,
 ) -> Result<Verdict, AllocError>
-    // Accepted exactly where the certificate is valid, refused exactly with the first reason against it.
-    ensures verdict { IfOk result (λ verdict. IsVerdict certificate.now problem.now.position verdict) }
-    ensures accepted { IfOk result (λ verdict. (verdict ≡ Accepted) ↔ IsValid certificate.now problem.now.position) }
+    // Accepted exactly where the certificate is valid, refused exactly with the first reason
+    // against it.
+    ensures verdict { IfOk result
+        (λ verdict. IsVerdict certificate.now problem.now.position verdict) }
+    ensures accepted { IfOk result (λ verdict. (verdict ≡ Accepted)
+        ↔ IsValid certificate.now problem.now.position) }
 
     // What is accepted as a mate is one, and what is accepted as an escape is no mate.
-    ensures shows { IfOk result (λ verdict. verdict ≡ Accepted → Shows certificate.now problem.now.position) }
+    ensures shows { IfOk result (λ verdict. verdict ≡ Accepted
+        → Shows certificate.now problem.now.position) }
 {
     escape_is_no_mate();
     verdict_on(alloc, problem, certificate)

@@ -37,8 +37,8 @@ pub record IsListed (attacker : Side) (top : Derivation) (b : Board) : Type 0 wh
   pub is_problem : IsProblem b
   pub turn : b.side ≡ attacker
 
--- the position is listed or ahead; from each listed position, each check has an evasion to one that is; the tags of what is ahead have
--- only keys of listed positions
+-- the position is listed or ahead; from each listed position, each check has an evasion to one that
+-- is; the tags of what is ahead have only keys of listed positions
 pub record IsEscapeWalk (p : Board) (top : Derivation) (positions : List Board) (pending : List Derivation) : Type 0 where
   pub start : Contains positions p ⊎ IsAhead pending p
   pub ways : (b : Board) (check : Move) → Contains positions b → IsCheck p.side b check

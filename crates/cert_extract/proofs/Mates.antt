@@ -72,12 +72,14 @@ pub record IsListedMate (attacker : Side) (top : Derivation) (entry : MateEntry)
   pub turn : entry.at.side ≡ attacker
   pub has_text : HasText entry.by
 
--- the position is listed with a lower rank, or is that of a note ahead of less than twice that height
+-- the position is listed with a lower rank, or is that of a note ahead of less than twice that
+-- height
 abbrev pub IsBelow : List MateEntry → List Derivation → ℕ → Board → Type 0
 IsBelow entries pending rank q =
     IsListedBelow entries rank q ⊎ ((n : Derivation) × Contains pending n × (position_of n ≡ q) × (height_of n < 2 * rank))
 
--- an entry's move is a check, and each evasion leads to a position with a lower rank, listed or ahead
+-- an entry's move is a check, and each evasion leads to a position with a lower rank, listed or
+-- ahead
 pub record IsBorne (attacker : Side) (entries : List MateEntry) (pending : List Derivation) (entry : MateEntry) : Type 0 where
   pub check : IsCheck attacker entry.at entry.by
   pub evasions : (evasion : Move) → IsEvasion attacker (after entry.at entry.by) evasion
@@ -105,7 +107,8 @@ mate_begun p top h about = record {
 abbrev pub StayBelow : List MateEntry → List MateEntry → Type 0
 StayBelow entries more = (rank : ℕ) (b : Board) → IsListedBelow entries rank b → IsListedBelow more rank b
 
--- what was below a rank still is, where a note is no longer ahead but its position is listed with a rank that isn't above half its height
+-- what was below a rank still is, where a note is no longer ahead but its position is listed with a
+-- rank that isn't above half its height
 still_below : (entries more : List MateEntry) (rest ahead : List Derivation) (note : Derivation) → StayBelow entries more
     → ((n : Derivation) → Contains rest n → Contains ahead n)
     → ((rank : ℕ) → height_of note < 2 * rank → IsListedBelow more rank (position_of note))
@@ -147,7 +150,8 @@ by_of a b e = cc
 
 module _ (p : Board) (top : Derivation) (entries : List MateEntry) (rest : List Derivation) (note : Derivation)
     (walk : IsMateWalk p top entries (rest ++ note ∷ [])) where
-  -- the note's position is listed with a rank that isn't above half its height: it isn't walked again
+  -- the note's position is listed with a rank that isn't above half its height: it isn't walked
+  -- again
   pub mate_met : (old : MateEntry) → Contains entries old → old.at ≡ position_of note → 2 * old.rank.number ≤ height_of note
       → IsMateWalk p top entries rest
   mate_met old c about low =

@@ -54,15 +54,15 @@ move_of conclusion attacker b (first ∷ rest) notes note say c =
 
 -- 2. A step of an escape
 
--- of the attacker's position: each check leads to a note under it; each of these is of an escape, the defender's to move, and its tag
--- has the step's keys and that of the step's position alone
+-- of the attacker's position: each check leads to a note under it; each of these is of an escape,
+-- the defender's to move, and its tag has the step's keys and that of the step's position alone
 record AnswersAll (s : Step) (notes : List Derivation) : Type 0 where
   pub leads : (check : Move) → IsCheck s.attacker s.position check → (d : Derivation) × Contains notes d × Says Escape s.attacker (after s.position check) d
   pub each : (d : Derivation) → Contains notes d → (q : Board) × Says Escape s.attacker q d × (q.side ≡ other s.attacker)
   pub tags : (d : Derivation) (key : Key) → Contains notes d → Contains (tag_of d) key → (key.0 ≡ key_of s.position) ⊎ Contains s.tag key
 
--- of the defender's: an evasion leads to the position of a note under it, or to that of the one key of its tag; each note under it is
--- of an escape, and its tag has no other keys
+-- of the defender's: an evasion leads to the position of a note under it, or to that of the one key
+-- of its tag; each note under it is of an escape, and its tag has no other keys
 record Leaves (s : Step) (notes : List Derivation) : Type 0 where
   pub evasion : Move
   pub is_evasion : IsEvasion s.attacker s.position evasion
@@ -134,7 +134,8 @@ record ChecksBy (rule : Rule) (s : Step) (notes : List Derivation) : Type 0 wher
   pub says : Says Mate s.attacker (after s.position check) note
   pub alone : (d : Derivation) → Contains notes d → note ≡ d
 
--- of the defender's: each evasion leads to a note under it, and each of these is of a mate after an evasion
+-- of the defender's: each evasion leads to a note under it, and each of these is of a mate after an
+-- evasion
 record MatedAfter (s : Step) (notes : List Derivation) : Type 0 where
   pub leads : (evasion : Move) → IsEvasion s.attacker s.position evasion → (n : Derivation) × Contains notes n × Says Mate s.attacker (after s.position evasion) n
   pub each : (n : Derivation) → Contains notes n → (q : Board) × Says Mate s.attacker q n × (q.side ≡ s.attacker)
@@ -177,7 +178,8 @@ mated_after (EscapeBy evasion) s notes m is at = absurd (cc)
 mated_after (EscapeRepeat evasion) s notes m is at = absurd (cc)
 mated_after EscapeAll s notes m is at = absurd (cc)
 
--- 4. A note that is to be walked: one of the tree, valid, with this conclusion for the attacker, who is to move
+-- 4. A note that is to be walked: one of the tree, valid, with this conclusion for the attacker,
+-- who is to move
 
 pub record IsPending (conclusion : Conclusion) (attacker : Side) (top note : Derivation) : Type 0 where
   pub within : IsIn top note
@@ -197,7 +199,8 @@ problem_at conclusion attacker top (derived s notes) h = record {
 
 -- 5. Two steps down an escape
 
--- a key leads back to the position: it is the note's position's or one of the note's tag, and no other position's
+-- a key leads back to the position: it is the note's position's or one of the note's tag, and no
+-- other position's
 pub record LeadsBack (note : Derivation) (q : Board) : Type 0 where
   pub key : Key
   pub held : (key.0 ≡ key_of (position_of note)) ⊎ Contains (tag_of note) key

@@ -28,7 +28,8 @@ use Rattle.cert_extract.proofs.Mates.{IsListedMate, IsMateWalk, IsEntryOf, StayB
 no_split : {X : Type 0} (before rest : List X) (x : X) → [] ≡ before ++ x ∷ rest → ⊥
 no_split before rest x e = let long = length-append before (x ∷ rest) in let same = ap length e in omega (arith, long, same)
 
--- where a list with one more behind it has an item, the item is that one, or the list had it after the same ones
+-- where a list with one more behind it has an item, the item is that one, or the list had it after
+-- the same ones
 push_split : {X : Type 0} (xs before rest : List X) (y x : X) → xs ++ y ∷ [] ≡ before ++ x ∷ rest
     → ((xs ≡ before) × (y ≡ x)) ⊎ ((fewer : List X) × (xs ≡ before ++ x ∷ fewer))
 push_split [] [] rest y x e = inl (refl, (cc))
@@ -51,11 +52,13 @@ longer_walk top walked note walk may before rest other e = elim (push_split walk
 
 -- 2. What was walked, what is listed, and what is pending
 
--- the tree alone is pending, and none was walked; or what is pending stands two steps under what was walked
+-- the tree alone is pending, and none was walked; or what is pending stands two steps under what
+-- was walked
 abbrev pub AreNext : Derivation → List Derivation → List Derivation → Type 0
 AreNext top walked pending = ((walked ≡ []) × (pending ≡ top ∷ [])) ⊎ ((n : Derivation) → Contains pending n → IsUnderOne walked n)
 
--- the walked notes are a walk, of which what is pending goes on, and their positions are those listed
+-- the walked notes are a walk, of which what is pending goes on, and their positions are those
+-- listed
 pub record AreWalked (top : Derivation) (positions : List Board) (pending walked : List Derivation) : Type 0 where
   pub walk : IsWalk top walked
   pub next : AreNext top walked pending

@@ -23,8 +23,8 @@ abbrev pub claim_by : Conclusion → Claim
 claim_by Mate = claims.Mate
 claim_by Escape = claims.Escape
 
--- A mate's entry comes from the tree: a note in it is about the entry's position, its last step is by the entry's check, and its
--- height is twice the entry's rank.
+-- A mate's entry comes from the tree: a note in it is about the entry's position, its last step is
+-- by the entry's check, and its height is twice the entry's rank.
 pub record IsMateFrom (tree : Derivation) (entry : MateEntry) : Type 0 where
   pub note : Derivation
   pub within : IsIn tree note
@@ -32,7 +32,8 @@ pub record IsMateFrom (tree : Derivation) (entry : MateEntry) : Type 0 where
   pub by : rule_of note ≡ MateBy entry.by
   pub high : height_of note ≡ 2 * entry.rank.number
 
--- An escape's position comes from the tree: a note in it is about the position, and concludes an escape.
+-- An escape's position comes from the tree: a note in it is about the position, and concludes an
+-- escape.
 pub record IsEscapeFrom (tree : Derivation) (b : Board) : Type 0 where
   pub note : Derivation
   pub within : IsIn tree note
@@ -44,7 +45,8 @@ abbrev pub ComesFrom : Derivation → Certificate → Type 0
 ComesFrom tree (certificates.Mate c) = (entry : MateEntry) → Contains c.entries entry → IsMateFrom tree entry
 ComesFrom tree (certificates.Escape c) = (b : Board) → Contains c.entries b → IsEscapeFrom tree b
 
--- The position is met in the tree, with this side to move: a note in it is about the position, and concludes what the whole does.
+-- The position is met in the tree, with this side to move: a note in it is about the position, and
+-- concludes what the whole does.
 pub record IsMet (tree : Derivation) (attacker : Side) (b : Board) : Type 0 where
   pub note : Derivation
   pub within : IsIn tree note
@@ -52,7 +54,8 @@ pub record IsMet (tree : Derivation) (attacker : Side) (b : Board) : Type 0 wher
   pub concludes : conclusion_of note ≡ conclusion_of tree
   pub turn : b.side ≡ attacker
 
--- A walk of the tree meets more different positions of the attacker than so many: those of the notes that it walks, each once.
+-- A walk of the tree meets more different positions of the attacker than so many: those of the
+-- notes that it walks, each once.
 pub record HasMoreThan (most : ℕ) (problem : Board) (tree : Derivation) : Type 0 where
   pub walked : List Derivation
   pub walk : IsWalk tree walked
@@ -62,8 +65,8 @@ pub record HasMoreThan (most : ℕ) (problem : Board) (tree : Derivation) : Type
   pub more : most < length positions
   pub from : (b : Board) → Contains positions b → IsMet tree problem.side b
 
--- Why no certificate of so many entries at most is extracted: a walk of the tree meets more of the attacker's positions, or memory was
--- wanted.
+-- Why no certificate of so many entries at most is extracted: a walk of the tree meets more of the
+-- attacker's positions, or memory was wanted.
 abbrev pub IsEndFor : ℕ → Board → Derivation → ExtractEnd → Type 0
 IsEndFor most problem tree TooMany = HasMoreThan most problem tree
 IsEndFor most problem tree NoMemory = Unit {0}

@@ -3,7 +3,8 @@ use Rattle.std.specs.Prelude.{◌≡◌, ◌⊎◌, List}
 use Rattle.std.specs.List.{flat_map}
 use Rattle.notes.specs.Derivation.{Derivation, Derivations, derived, none_under, one_under, under_of}
 
--- The note stands in the tree: it is the tree itself, or stands in the tree of one of the notes under its last step.
+-- The note stands in the tree: it is the tree itself, or stands in the tree of one of the notes
+-- under its last step.
 abbrev mutual
   pub IsIn : Derivation → Derivation → Type 0
   IsIn (derived step notes) note = (derived step notes ≡ note) ⊎ IsUnder notes note

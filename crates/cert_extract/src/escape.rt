@@ -14,7 +14,8 @@ use position_places::Places;
 use shogi_rules::Problem;
 use std::alloc::Global;
 
-/// The attacker's positions in the note's tree, each once, in the order in which they are met; no more than so many.
+/// The attacker's positions in the note's tree, each once, in the order in which they are met; no
+/// more than so many.
 pub(crate) fn positions(
     alloc: Global,
     problem: &Problem,
@@ -25,8 +26,10 @@ pub(crate) fn positions(
     requires about { position_of note.now ≡ problem.now.position }
     requires same_attacker { attacker_of note.now ≡ problem.now.position.side }
     requires escape { conclusion_of note.now ≡ Escape }
-    ensures entries { IfOk result (λ positions. AreEscapeEntries problem.now.position positions.items) }
-    ensures from { IfOk result (λ positions. (b : Board) → Contains positions.items b → IsEscapeFrom note.now b) }
+    ensures entries { IfOk result
+        (λ positions. AreEscapeEntries problem.now.position positions.items) }
+    ensures from { IfOk result (λ positions. (b : Board) → Contains positions.items b
+        → IsEscapeFrom note.now b) }
     ensures few { IfOk result (λ positions. length positions.items ≤ most) }
     ensures too_many { IfErr result (IsEndFor most problem.now.position note.now) }
 {

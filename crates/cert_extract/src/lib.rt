@@ -1,10 +1,12 @@
 //! From a closed note to the certificate of what it says.
 //!
-//! A search by proof numbers ends with a note about the problem: a derivation whose tree may be read many times over, since notes
-//! share what is under them. [`extract`] walks it, each position once, or again where a mate is shorter, and lists the attacker's
-//! positions that it meets. What comes out is a valid certificate, of the kind that the note concludes, that anybody can check without
-//! the note. It has no more entries than the caller asks for, so that whoever reads no more can read it; where the walk meets more of
-//! the attacker's positions than that, it ends at the first one too many, and nothing comes out ([`ExtractEnd::TooMany`]).
+//! A search by proof numbers ends with a note about the problem: a derivation whose tree may be
+//! read many times over, since notes share what is under them. [`extract`] walks it, each position
+//! once, or again where a mate is shorter, and lists the attacker's positions that it meets. What
+//! comes out is a valid certificate, of the kind that the note concludes, that anybody can check
+//! without the note. It has no more entries than the caller asks for, so that whoever reads no more
+//! can read it; where the walk meets more of the attacker's positions than that, it ends at the
+//! first one too many, and nothing comes out ([`ExtractEnd::TooMany`]).
 #![tactic(auto)]
 
 ghost use Rattle.std.specs.Prelude.{◌≡◌, ◌≤◌, [], IfOk, IfErr, length};
@@ -27,12 +29,14 @@ use notes::{Conclusion, Note};
 use shogi_rules::Problem;
 use std::alloc::Global;
 
-/// The certificate of what a note says that depends on no repetition and is about the problem, for its attacker. It is a mate's or an
-/// escape's as the note concludes, and valid for the problem. It lists positions of the attacker that notes of the note's tree are about:
-/// a mate's each with the check of one of these notes, and half its height as the rank. The tree is walked depth first, in the order
-/// of the notes; a position that is met again is walked again only where the note is a lower mate. It lists `most` positions at most,
-/// and one at least, the problem's. Errors: the walk meets more than `most` different positions (always, where `most` is 0), not
-/// counting those that stand only under notes that it passes by; want of memory.
+/// The certificate of what a note says that depends on no repetition and is about the problem, for
+/// its attacker. It is a mate's or an escape's as the note concludes, and valid for the problem. It
+/// lists positions of the attacker that notes of the note's tree are about: a mate's each with the
+/// check of one of these notes, and half its height as the rank. The tree is walked depth first, in
+/// the order of the notes; a position that is met again is walked again only where the note is a
+/// lower mate. It lists `most` positions at most, and one at least, the problem's. Errors: the walk
+/// meets more than `most` different positions (always, where `most` is 0), not counting those that
+/// stand only under notes that it passes by; want of memory.
 pub fn extract(
     alloc: Global,
     problem: &Problem,
@@ -43,19 +47,23 @@ pub fn extract(
     requires about { position_of note.now ≡ problem.now.position }
     requires same_attacker { attacker_of note.now ≡ problem.now.position.side }
 
-    // It is of the kind that the note concludes, and valid for the problem, which it is about and lists.
-    ensures kind { IfOk result (λ certificate. claim_of certificate ≡ claim_by (conclusion_of note.now)) }
+    // It is of the kind that the note concludes, and valid for the problem, which it is about and
+    // lists.
+    ensures kind { IfOk result (λ certificate. claim_of certificate
+        ≡ claim_by (conclusion_of note.now)) }
     ensures valid { IfOk result (λ certificate. IsValid certificate problem.now.position) }
 
     // Whatever it lists comes from a note of the tree.
     ensures from { IfOk result (λ certificate. ComesFrom note.now certificate) }
 
-    // It lists no more than asked for; so it can be read once it is written, where no more is asked for than is read.
+    // It lists no more than asked for; so it can be read once it is written, where no more is asked
+    // for than is read.
     ensures count { IfOk result (λ certificate. length (positions_in certificate) ≤ most) }
     ensures readable { most ≤ MOST_ENTRIES → IfOk result IsReadable }
 
-    // It is refused only where a walk of the note's tree meets more of the attacker's positions than that; such a walk goes on from
-    // notes that it walks alone, and walks no position again but by a lower mate.
+    // It is refused only where a walk of the note's tree meets more of the attacker's positions
+    // than that; such a walk goes on from notes that it walks alone, and walks no position again
+    // but by a lower mate.
     ensures too_many { IfErr result (IsEndFor most problem.now.position note.now) }
 {
     match note.conclusion() {

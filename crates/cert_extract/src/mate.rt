@@ -37,8 +37,8 @@ fn entry_of(note: &Note) -> MateEntry
     }
 }
 
-/// The attacker's positions in the note's tree, each once, with the check and half the height of the lowest note that was met there; no
-/// more than so many.
+/// The attacker's positions in the note's tree, each once, with the check and half the height of
+/// the lowest note that was met there; no more than so many.
 pub(crate) fn entries(
     alloc: Global,
     problem: &Problem,
@@ -49,7 +49,8 @@ pub(crate) fn entries(
     requires same_attacker { attacker_of note.now ≡ problem.now.position.side }
     requires mate { conclusion_of note.now ≡ Mate }
     ensures entries { IfOk result (λ entries. AreMateEntries problem.now.position entries.items) }
-    ensures from { IfOk result (λ entries. (entry : MateEntry) → Contains entries.items entry → IsMateFrom note.now entry) }
+    ensures from { IfOk result (λ entries. (entry : MateEntry) → Contains entries.items entry
+        → IsMateFrom note.now entry) }
     ensures few { IfOk result (λ entries. length entries.items ≤ most) }
     ensures too_many { IfErr result (IsEndFor most problem.now.position note.now) }
 {

@@ -8,8 +8,8 @@ use Rattle.mate_def.specs.Mate.{IsClosed}
 use Rattle.cert_text.specs.Certificate.{IsEntry}
 use Rattle.mate_facts.specs.Entries.{AreApart, positions_of, IsBorneOut}
 
--- The entries of a mate: the problem is listed, each is borne out, none is listed twice, and each keeps what a certificate's
--- entry keeps.
+-- The entries of a mate: the problem is listed, each is borne out, none is listed twice, and each
+-- keeps what a certificate's entry keeps.
 pub record AreMateEntries (p : Board) (entries : List MateEntry) : Type 0 where
   pub listed : Contains (positions_of entries) p
   pub borne_out : (entry : MateEntry) → Contains entries entry → IsBorneOut entries p.side entry
@@ -18,8 +18,8 @@ pub record AreMateEntries (p : Board) (entries : List MateEntry) : Type 0 where
   pub texts : (entry : MateEntry) → Contains entries entry → HasText entry.by
   pub apart : AreApart (positions_of entries)
 
--- The entries of an escape: the problem is listed, they are closed, none is listed twice, and each keeps what a certificate's
--- entry keeps.
+-- The entries of an escape: the problem is listed, they are closed, none is listed twice, and each
+-- keeps what a certificate's entry keeps.
 pub record AreEscapeEntries (p : Board) (positions : List Board) : Type 0 where
   pub listed : Contains positions p
   pub closed : IsClosed p.side positions []

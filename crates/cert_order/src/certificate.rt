@@ -25,8 +25,9 @@ fn items_at<T: Copy>(alloc: Global, items: &[T], order: &[usize]) -> Result<Vec<
     Ok(picked)
 }
 
-/// The certificate of a mate's entries: it is about the problem, lists the same entries, each once, in the order of the bytes of their
-/// positions' SFEN texts, and is valid. Its text can be read, where a reader takes that many entries. Errors: want of memory alone.
+/// The certificate of a mate's entries: it is about the problem, lists the same entries, each once,
+/// in the order of the bytes of their positions' SFEN texts, and is valid. Its text can be read,
+/// where a reader takes that many entries. Errors: want of memory alone.
 pub fn mate_certificate(
     alloc: Global,
     problem: &Problem,
@@ -38,7 +39,8 @@ pub fn mate_certificate(
 
     // It has as many entries. Where that many are read, it can be read once it is written.
     ensures count { IfOk result (λ certificate. length certificate.entries ≡ length entries.now) }
-    ensures readable { IfOk result (λ certificate. IsReadCount (length certificate.entries) → IsReadableOf (mate_form certificate.problem) certificate) }
+    ensures readable { IfOk result (λ certificate. IsReadCount (length certificate.entries)
+        → IsReadableOf (mate_form certificate.problem) certificate) }
 {
     let mut positions = Vec::new(alloc);
     for entry in entries {
@@ -49,8 +51,9 @@ pub fn mate_certificate(
     Ok(MateCertificate::new(*problem, sorted))
 }
 
-/// The certificate of an escape's positions: it is about the problem, lists the same positions, each once, in the order of the bytes of
-/// their SFEN texts, and is valid. Its text can be read, where a reader takes that many entries. Errors: want of memory alone.
+/// The certificate of an escape's positions: it is about the problem, lists the same positions,
+/// each once, in the order of the bytes of their SFEN texts, and is valid. Its text can be read,
+/// where a reader takes that many entries. Errors: want of memory alone.
 pub fn escape_certificate(
     alloc: Global,
     problem: &Problem,
@@ -62,7 +65,8 @@ pub fn escape_certificate(
 
     // It has as many entries. Where that many are read, it can be read once it is written.
     ensures count { IfOk result (λ certificate. length certificate.entries ≡ length entries.now) }
-    ensures readable { IfOk result (λ certificate. IsReadCount (length certificate.entries) → IsReadableOf (escape_form certificate.problem) certificate) }
+    ensures readable { IfOk result (λ certificate. IsReadCount (length certificate.entries)
+        → IsReadableOf (escape_form certificate.problem) certificate) }
 {
     let order = text_order(alloc, entries)?;
     let sorted = items_at(alloc, entries, &order)?;

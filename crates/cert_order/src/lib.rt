@@ -1,8 +1,10 @@
 //! Certificates of entries that are yet to be put in order.
 //!
-//! Who finds a mate or an escape finds its entries in an order of his own. A certificate lists them in the order of the bytes of their
-//! positions' SFEN texts. [`mate_certificate`] and [`escape_certificate`] make it of entries that bear out what they claim: it lists the
-//! same entries, each once, is valid, and can be read once it is written, where a reader takes that many entries.
+//! Who finds a mate or an escape finds its entries in an order of his own. A certificate lists them
+//! in the order of the bytes of their positions' SFEN texts. [`mate_certificate`] and
+//! [`escape_certificate`] make it of entries that bear out what they claim: it lists the same
+//! entries, each once, is valid, and can be read once it is written, where a reader takes that many
+//! entries.
 #![tactic(auto)]
 
 mod certificate;

@@ -10,7 +10,8 @@ use sfen_text::write_sfen;
 use std::alloc::{AllocError, Global};
 use std::collections::BTreeMap;
 
-/// The places of positions, of which none stands twice, in the order of the bytes of their SFEN texts.
+/// The places of positions, of which none stands twice, in the order of the bytes of their SFEN
+/// texts.
 pub(crate) fn text_order(alloc: Global, positions: &[Position]) -> Result<Vec<usize>, AllocError>
     requires apart { AreApart positions.now }
     requires kept { (b : Board) → Contains positions.now b → IsKept b }

@@ -34,18 +34,21 @@ IsRising [] = Unit {0}
 IsRising (a ∷ []) = Unit {0}
 IsRising (a ∷ b ∷ rest) = IsBefore a b × IsRising (b ∷ rest)
 
--- A kind of entries: which may be listed in a certificate about a problem, the text of each, and its position.
+-- A kind of entries: which may be listed in a certificate about a problem, the text of each, and
+-- its position.
 pub record Form (Entry : Type 0) : Type 1 where
   pub Lists : Entry → Type 0
   pub text_of : Entry → List ℕ
   pub at : Entry → Board
 
--- A position may be listed in a certificate about the problem: it is a problem of the same side to move.
+-- A position may be listed in a certificate about the problem: it is a problem of the same side to
+-- move.
 pub record IsEntry (problem position : Board) : Type 0 where
   pub is_problem : IsProblem position
   pub side : position.side ≡ problem.side
 
--- A mate's entry may be listed in a certificate about the problem: its move has a text, and its position may be listed.
+-- A mate's entry may be listed in a certificate about the problem: its move has a text, and its
+-- position may be listed.
 pub record IsMateEntry (problem : Board) (entry : MateEntry) : Type 0 where
   pub has_text : HasText entry.by
   pub is_entry : IsEntry problem entry.at
@@ -63,8 +66,8 @@ pub record MayBeListed {Entry : Type 0} (form : Form Entry) (entry : Entry) : Ty
   pub kept : IsKept (form.at entry)
   pub listed : form.Lists entry
 
--- What a certificate keeps: its problem is one, its entries rise by the bytes of their positions' SFEN texts, and each may be
--- listed.
+-- What a certificate keeps: its problem is one, its entries rise by the bytes of their positions'
+-- SFEN texts, and each may be listed.
 pub record IsListing {Entry : Type 0} (form : Form Entry) (c : CertificateView Entry) : Type 0 where
   pub is_problem : IsProblem c.problem
   pub rising : IsRising (map form.at c.entries)

@@ -40,7 +40,8 @@ StopsAt form entries rest Behind = (behind : List ℕ) × (behind ≢ []) × (re
 StopsAt form entries rest BadLine = HasBadNext form rest
 StopsAt form entries rest NotRising = HasFallingNext form entries rest
 
--- At the front of a text good entries were read, the last with this SFEN text, up to where the reading stopped.
+-- At the front of a text good entries were read, the last with this SFEN text, up to where the
+-- reading stopped.
 pub record AreRead {Entry : Type 0} (form : Form Entry) (text : List ℕ) (entries : List Entry) (last : List ℕ) (stop : LinesStop) : Type 0 where
   pub rest : List ℕ
   pub read : HasRead form text entries rest last
@@ -58,7 +59,8 @@ IsStopAtEnd behind Behind = behind ≢ []
 IsStopAtEnd behind BadLine = ⊥
 IsStopAtEnd behind NotRising = ⊥
 
--- The fault where the reading stopped before the line of this number, or at the line `end` behind the wrong number of entries.
+-- The fault where the reading stopped before the line of this number, or at the line `end` behind
+-- the wrong number of entries.
 abbrev pub fault_of : LinesStop → ℕ → CertFault
 fault_of NoLine number = faults.NoEnd
 fault_of End number = faults.WrongCount

@@ -1,5 +1,5 @@
--- What a text is read as: the certificate whose text it is, or the text's first fault. Relations between whole texts and
--- outcomes.
+-- What a text is read as: the certificate whose text it is, or the text's first fault. Relations
+-- between whole texts and outcomes.
 use Rattle.std.specs.Prelude.{◌≡◌, ◌≢◌, ◌⊎◌, ◌+◌, ◌<◌, ◌≤◌, ℕ, List, [], ◌∷◌, ◌++◌, codes, length, map, Result, Ok, Err}
 use Rattle.std.specs.List.{AllByRecursion}
 use Rattle.board_core.specs.declared.moves.Move.{Move}
@@ -27,8 +27,8 @@ abbrev pub Lacks : ℕ → List ℕ → Type 0
 Lacks byte [] = Unit {0}
 Lacks byte (first ∷ text) = (first ≢ byte) × Lacks byte text
 
--- A line that may stand in front of a certificate: before an escape `checkmate nomate`, before a mate `checkmate` and one
--- or more moves, a space before each.
+-- A line that may stand in front of a certificate: before an escape `checkmate nomate`, before a
+-- mate `checkmate` and one or more moves, a space before each.
 abbrev pub IsFrontLine : Claim → List ℕ → Type 0
 IsFrontLine Escape text = text ≡ nomate_text
 IsFrontLine Mate text = (moves : List Move) × (0 < length moves) × AllHaveText moves × (text ≡ mate_text moves)
@@ -45,7 +45,8 @@ headed_text claim count sfen rest = claim_text claim count ++ 10 ∷ (codes "pro
 abbrev pub IsFrontOrNone : Claim → List ℕ → Type 0
 IsFrontOrNone claim front = (front ≡ []) ⊎ ((text : List ℕ) × IsFrontLine claim text × (front ≡ line text))
 
--- The text begins with the two lines of a head, perhaps behind the one front line, and then comes the rest.
+-- The text begins with the two lines of a head, perhaps behind the one front line, and then comes
+-- the rest.
 pub record IsHead (claim : Claim) (count : ℕ) (sfen rest bytes : List ℕ) : Type 0 where
   pub is_count : IsReadCount count
   pub is_line : Lacks 10 sfen
@@ -76,7 +77,8 @@ pub record HasBadLine {Entry : Type 0} (form : Form Entry) (number : ℕ) (bytes
   pub rest : List ℕ
   pub text : bytes ≡ entries_text form entries ++ (line bad ++ rest)
 
--- Behind good entries, one less than the number, comes an entry that may stand in a text and doesn't rise.
+-- Behind good entries, one less than the number, comes an entry that may stand in a text and
+-- doesn't rise.
 pub record HasFallingLine {Entry : Type 0} (form : Form Entry) (number : ℕ) (bytes : List ℕ) : Type 0 where
   pub entries : List Entry
   pub good : AreGood form entries
@@ -134,8 +136,8 @@ HasFirstFault bytes (NotRising number) = HasLaterFault bytes (NotRising number)
 HasFirstFault bytes WrongCount = HasLaterFault bytes WrongCount
 HasFirstFault bytes NoEnd = HasLaterFault bytes NoEnd
 
--- A certificate with such entries can be read: its problem is one, it has so many entries as are read, and they may stand in a
--- text and rise.
+-- A certificate with such entries can be read: its problem is one, it has so many entries as are
+-- read, and they may stand in a text and rise.
 pub record IsReadableOf {Entry : Type 0} (form : Form Entry) (c : CertificateView Entry) : Type 0 where
   pub kept : IsKept c.problem
   pub is_problem : IsProblem c.problem

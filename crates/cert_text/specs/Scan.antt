@@ -1,5 +1,5 @@
--- What the loops over a front line and over the entries' lines have read: it serves private functions alone, here and where lines of
--- other entries are read.
+-- What the loops over a front line and over the entries' lines have read: it serves private
+-- functions alone, here and where lines of other entries are read.
 use Rattle.std.specs.Prelude.{◌≡◌, ◌<◌, ◌↔◌, ℕ, List, [], ◌∷◌, ◌++◌, length, map}
 use Rattle.std.specs.List.{flat_map}
 use Rattle.std.specs.Ordering.{nat_cmp}

@@ -10,8 +10,8 @@ use mate_facts::MateEntry;
 use shogi_rules::Problem;
 use std::marker::Model;
 
-/// A certificate about a problem, with entries of one kind: they are in rising order of the bytes of their positions' SFEN
-/// texts, and each may be listed in a certificate about the problem.
+/// A certificate about a problem, with entries of one kind: they are in rising order of the bytes
+/// of their positions' SFEN texts, and each may be listed in a certificate about the problem.
 #[derive(Drop)]
 pub struct CertificateOf<E: Entry> {
     problem: Problem,
@@ -37,7 +37,8 @@ pub type EscapeCertificate = CertificateOf<Position>;
 impl<E: Entry> CertificateOf<E> {
     /// The certificate with these entries, which keep what a certificate keeps.
     pub fn new(problem: Problem, entries: Vec<E>) -> CertificateOf<E>
-        requires { IsListing (E.form problem.position) (record { problem = problem.position; entries = entries.items }) }
+        requires { IsListing (E.form problem.position)
+            (record { problem = problem.position; entries = entries.items }) }
         ensures { result ≡ record { problem = problem.position; entries = entries.items } }
     {
         CertificateOf { problem, entries }
@@ -61,7 +62,8 @@ impl<E: Entry> CertificateOf<E> {
         &self.entries
     }
 
-    /// A law: what every certificate keeps. Does nothing; whoever speaks of a certificate's entries calls it to know this.
+    /// A law: what every certificate keeps. Does nothing; whoever speaks of a certificate's entries
+    /// calls it to know this.
     pub fn laws(&self)
         ensures kept { IsListing (E.form self.now.problem) self.now }
         // No two entries have one position.
@@ -111,7 +113,8 @@ impl Certificate {
         }
     }
 
-    /// A law: what every certificate keeps. Does nothing; whoever speaks of a certificate's entries calls it to know this.
+    /// A law: what every certificate keeps. Does nothing; whoever speaks of a certificate's entries
+    /// calls it to know this.
     pub fn laws(&self)
         ensures kept { IsKeptBy self.now }
         // No position is listed twice.

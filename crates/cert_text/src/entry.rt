@@ -15,8 +15,8 @@ use shogi_rules::Problem;
 use std::alloc::AllocError;
 use usi_text::{read_move, write_move};
 
-/// What a certificate lists: a mate's entries are [`MateEntry`], an escape's are positions. Which a certificate may list, the
-/// text of each and its position are told by `form`.
+/// What a certificate lists: a mate's entries are [`MateEntry`], an escape's are positions. Which a
+/// certificate may list, the text of each and its position are told by `form`.
 pub trait Entry: Drop {
     ghost form: { Board → Form Self };
 
@@ -24,23 +24,31 @@ pub trait Entry: Drop {
     fn position(&self) -> &Position
         ensures { (problem : Board) → result.now ≡ (form problem).at self.now };
 
-    /// Writes its line behind what stands there already. Where memory is wanted, a part of it may stand there. Errors: want of
-    /// memory alone.
+    /// Writes its line behind what stands there already. Where memory is wanted, a part of it may
+    /// stand there. Errors: want of memory alone.
     fn append(&self, out: &mut Vec<u8>) -> Result<(), AllocError>
-        ensures text { (problem : Board) → OnOk result (out.new.items ≡ out.old.items ++ (form problem).text_of self.now) }
+        ensures text { (problem : Board)
+            → OnOk result (out.new.items ≡ out.old.items ++ (form problem).text_of self.now) }
         ensures kept { (problem : Board) → IsKept ((form problem).at self.now) };
 
-    /// The entry that a line (without its line feed) is in a certificate about the problem, and the SFEN text in the line; none
-    /// for any other line. `spelled` is room to write a position in: what stood there is lost. Errors: want of memory alone.
+    /// The entry that a line (without its line feed) is in a certificate about the problem, and the
+    /// SFEN text in the line; none for any other line. `spelled` is room to write a position in:
+    /// what stood there is lost. Errors: want of memory alone.
     fn of_line<'a>(
         text: &'a [u8],
         problem: &Problem,
         spelled: &mut Vec<u8>,
     ) -> Result<Option<(Self, &'a [u8])>, AllocError>
-        ensures fits { IfOk result (λ found. IfSome found (λ read. MayBeListed (form problem.now.position) read.0)) }
-        ensures text { IfOk result (λ found. IfSome found (λ read. (form problem.now.position).text_of read.0 ≡ line text.now)) }
-        ensures sfen { IfOk result (λ found. IfSome found (λ read. read.1.now ≡ sfen_of ((form problem.now.position).at read.0))) }
-        ensures none { IfOk result (λ found. IfNone found ((entry : Self) → MayBeListed (form problem.now.position) entry → (form problem.now.position).text_of entry ≡ line text.now → ⊥)) };
+        ensures fits { IfOk result
+            (λ found. IfSome found (λ read. MayBeListed (form problem.now.position) read.0)) }
+        ensures text { IfOk result
+            (λ found. IfSome found (λ read. (form problem.now.position).text_of read.0
+            ≡ line text.now)) }
+        ensures sfen { IfOk result (λ found. IfSome found (λ read. read.1.now
+            ≡ sfen_of ((form problem.now.position).at read.0))) }
+        ensures none { IfOk result (λ found. IfNone found ((entry : Self)
+            → MayBeListed (form problem.now.position) entry
+            → (form problem.now.position).text_of entry ≡ line text.now → ⊥)) };
 }
 
 impl Entry for MateEntry {

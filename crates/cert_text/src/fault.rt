@@ -6,15 +6,16 @@ ghost use Rattle.cert_text.specs.declared.fault.CertEnd.TheVariants as ends;
 use std::alloc::{AllocError, AllocFailed};
 use std::fmt::{self, Write};
 
-/// Why a text is no certificate: its first fault in reading order. Only what ends with a line feed is a line; the lines
-/// behind the problem's line are numbered from 1.
+/// Why a text is no certificate: its first fault in reading order. Only what ends with a line feed
+/// is a line; the lines behind the problem's line are numbered from 1.
 #[derive(Clone, Copy, PartialEq, Eq, Debug)]
 pub enum CertFault {
     /// The lines up to the problem's line are no head of a certificate.
     BadHead,
     /// The line with this number is neither `end` nor an entry of this certificate's kind.
     BadLine(u64),
-    /// The line with this number is an entry whose SFEN text doesn't come behind that of the line before.
+    /// The line with this number is an entry whose SFEN text doesn't come behind that of the line
+    /// before.
     NotRising(u64),
     /// The line `end` is the last, and the number of entries isn't the one in the first line.
     WrongCount,
@@ -28,8 +29,8 @@ impl fmt::Display for CertFault {
 
     ghost output = { λ fault. Some (certificate_fault_text fault) };
 
-    /// Prints the fault in words, with the number of the line: `bad head`, `bad line 3`, `not rising 3`, `wrong count`,
-    /// `no end`.
+    /// Prints the fault in words, with the number of the line: `bad head`, `bad line 3`, `not
+    /// rising 3`, `wrong count`, `no end`.
     fn fmt<W: Write>(&self, f: &mut fmt::Formatter<W>) -> fmt::Result {
         match self {
             CertFault::BadHead => write!(f, "bad head"),

@@ -83,7 +83,8 @@ fn claim_of_front(text: &[u8]) -> Option<Claim>
 fn claim_of_line(text: &[u8]) -> Option<(Claim, u32)>
     ensures count { IfSome result (λ found. IsReadCount found.1) }
     ensures text { IfSome result (λ found. text.now ≡ claim_text found.0 found.1) }
-    ensures none { IfNone result ((claim : Claim) (count : ℕ) → IsReadCount count → text.now ≡ claim_text claim count → ⊥) }
+    ensures none { IfNone result ((claim : Claim) (count : ℕ) → IsReadCount count → text.now
+        ≡ claim_text claim count → ⊥) }
 {
     if let Some(digits) = behind(text, b"certificate 1 mate ") {
         return Some((Claim::Mate, number_of_text(digits, MOST_ENTRIES)?));
@@ -96,8 +97,10 @@ fn claim_of_line(text: &[u8]) -> Option<(Claim, u32)>
 fn bare_head_of(text: &[u8]) -> Option<Head<'_>>
     ensures count { IfSome result (λ head. IsReadCount head.count) }
     ensures sfen { IfSome result (λ head. Lacks 10 head.sfen.now) }
-    ensures text { IfSome result (λ head. text.now ≡ headed_text head.claim head.count head.sfen.now head.rest.now) }
-    ensures none { IfNone result ((claim : Claim) (count : ℕ) (sfen rest : List ℕ) → IsReadCount count → Lacks 10 sfen → text.now ≡ headed_text claim count sfen rest → ⊥) }
+    ensures text { IfSome result (λ head. text.now
+        ≡ headed_text head.claim head.count head.sfen.now head.rest.now) }
+    ensures none { IfNone result ((claim : Claim) (count : ℕ) (sfen rest : List ℕ)
+        → IsReadCount count → Lacks 10 sfen → text.now ≡ headed_text claim count sfen rest → ⊥) }
 {
     let Some((first, more)) = cut(text, b'\n') else {
         return None;
@@ -121,8 +124,10 @@ fn bare_head_of(text: &[u8]) -> Option<Head<'_>>
 
 // The head at the front of a text, perhaps behind a front line.
 pub(crate) fn head_of(text: &[u8]) -> Option<Head<'_>>
-    ensures found { IfSome result (λ head. IsHead head.claim head.count head.sfen.now head.rest.now text.now) }
-    ensures none { IfNone result ((claim : Claim) (count : ℕ) (sfen rest : List ℕ) → IsHead claim count sfen rest text.now → ⊥) }
+    ensures found { IfSome result
+        (λ head. IsHead head.claim head.count head.sfen.now head.rest.now text.now) }
+    ensures none { IfNone result ((claim : Claim) (count : ℕ) (sfen rest : List ℕ)
+        → IsHead claim count sfen rest text.now → ⊥) }
 {
     let Some((first, more)) = cut(text, b'\n') else {
         return None;

@@ -1,13 +1,16 @@
 //! Certificates of a mate and of an escape: what they are, and their text.
 //!
-//! A certificate says of a problem that it is a mate, by positions with falling ranks and a check at each, or that it is
-//! none, by positions each check from which has an evasion back to one of them. Whether what it says is so is another crate's
-//! question. Here it keeps what its form promises: its positions rise by the bytes of their SFEN texts, so that none stands
-//! twice, each is a problem of the same side to move, ranks are from 1 to [`mate_facts::MOST_RANK`], and moves have a text.
+//! A certificate says of a problem that it is a mate, by positions with falling ranks and a check
+//! at each, or that it is none, by positions each check from which has an evasion back to one of
+//! them. Whether what it says is so is another crate's question. Here it keeps what its form
+//! promises: its positions rise by the bytes of their SFEN texts, so that none stands twice, each
+//! is a problem of the same side to move, ranks are from 1 to [`mate_facts::MOST_RANK`], and moves
+//! have a text.
 //!
-//! [`CertificateOf`] is a certificate with entries of one kind ([`Entry`]); [`Certificate`] is one of either kind. [`read_cert`] and
-//! [`write_cert`] are its text both ways, and [`cert_laws`] are facts about all of them. Who wants to read lines in several threads opens
-//! a text ([`OpenText`]), and reads stretches of its lines by themselves ([`read_lines`]).
+//! [`CertificateOf`] is a certificate with entries of one kind ([`Entry`]); [`Certificate`] is one
+//! of either kind. [`read_cert`] and [`write_cert`] are its text both ways, and [`cert_laws`] are
+//! facts about all of them. Who wants to read lines in several threads opens a text ([`OpenText`]),
+//! and reads stretches of its lines by themselves ([`read_lines`]).
 #![tactic(auto)]
 
 mod certificate;

@@ -51,9 +51,9 @@ fn stop_at_end(behind: &[u8]) -> LinesStop
     }
 }
 
-/// Reads lines behind a certificate's head by themselves, one after the other, up to the first that is no entry rising behind those
-/// before it: all the lines that a certificate has, or a stretch of them. Keeps the entries in a vector that doubles. Errors: want of
-/// memory alone.
+/// Reads lines behind a certificate's head by themselves, one after the other, up to the first that
+/// is no entry rising behind those before it: all the lines that a certificate has, or a stretch of
+/// them. Keeps the entries in a vector that doubles. Errors: want of memory alone.
 pub fn read_lines<'a, E: Entry>(
     alloc: Global,
     text: &'a [u8],

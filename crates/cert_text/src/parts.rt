@@ -20,7 +20,8 @@ use shogi_rules::{Problem, accept_problem};
 use std::alloc::AllocError;
 use std::cmp::Ordering;
 
-/// What stands before the first such byte, and behind it; none where the text has no such byte. Takes no memory.
+/// What stands before the first such byte, and behind it; none where the text has no such byte.
+/// Takes no memory.
 pub fn cut(text: &[u8], byte: u8) -> Option<(&[u8], &[u8])>
     ensures front { IfSome result (λ parts. Lacks byte parts.0.now) }
     ensures parts { IfSome result (λ parts. text.now ≡ parts.0.now ++ byte ∷ parts.1.now) }
@@ -70,7 +71,8 @@ pub(crate) fn number_of_text(text: &[u8], limit: u32) -> Option<u32>
     ensures from { IfSome result (λ number. 1 ≤ number) }
     ensures to { IfSome result (λ number. number ≤ limit) }
     ensures text { IfSome result (λ number. text.now ≡ decimal number) }
-    ensures none { IfNone result ((number : ℕ) → 1 ≤ number → number ≤ limit → text.now ≡ decimal number → ⊥) }
+    ensures none { IfNone result ((number : ℕ) → 1 ≤ number → number ≤ limit → text.now
+        ≡ decimal number → ⊥) }
 {
     let number = value_of_text(text)?;
     if number < 1 || number > limit || !is_decimal(text, number) {
@@ -79,8 +81,8 @@ pub(crate) fn number_of_text(text: &[u8], limit: u32) -> Option<u32>
     Some(number)
 }
 
-/// The rank whose text it is, 1 to [`MOST_RANK`] in decimal digits without a leading zero; none for any other text. Takes no
-/// memory.
+/// The rank whose text it is, 1 to [`MOST_RANK`] in decimal digits without a leading zero; none for
+/// any other text. Takes no memory.
 pub fn rank_of_text(text: &[u8]) -> Option<Rank>
     ensures text { IfSome result (λ rank. text.now ≡ decimal rank.number) }
     ensures none { IfNone result ((rank : Rank) → text.now ≡ decimal rank.number → ⊥) }
@@ -101,9 +103,11 @@ pub(crate) fn problem_of_text(
     text: &[u8],
     spelled: &mut Vec<u8>,
 ) -> Result<Option<Problem>, AllocError>
-    ensures found { IfOk result (λ found. IfSome found (λ problem. text.now ≡ sfen_of problem.position)) }
+    ensures found { IfOk result (λ found. IfSome found (λ problem. text.now
+        ≡ sfen_of problem.position)) }
     ensures kept { IfOk result (λ found. IfSome found (λ problem. IsKept problem.position)) }
-    ensures none { IfOk result (λ found. IfNone found ((p : Board) → IsKept p → IsProblem p → text.now ≡ sfen_of p → ⊥)) }
+    ensures none { IfOk result (λ found. IfNone found ((p : Board) → IsKept p → IsProblem p
+        → text.now ≡ sfen_of p → ⊥)) }
 {
     let Ok(position) = read_sfen(text) else {
         return Ok(None);
@@ -125,8 +129,9 @@ fn is_same(side: Side, with: Side) -> bool
     side == with
 }
 
-/// The position of a problem with this side to move whose text it is, spelled as [`sfen_text::write_sfen`] writes it; none for any
-/// other text. `spelled` is room to write a position in: what stood there is lost. Errors: want of memory alone.
+/// The position of a problem with this side to move whose text it is, spelled as
+/// [`sfen_text::write_sfen`] writes it; none for any other text. `spelled` is room to write a
+/// position in: what stood there is lost. Errors: want of memory alone.
 pub fn position_of_text(
     text: &[u8],
     side: Side,
@@ -136,7 +141,8 @@ pub fn position_of_text(
     ensures kept { IfOk result (λ found. IfSome found (λ p. IsKept p)) }
     ensures is_problem { IfOk result (λ found. IfSome found (λ p. IsProblem p)) }
     ensures side { IfOk result (λ found. IfSome found (λ p. p.side ≡ side)) }
-    ensures none { IfOk result (λ found. IfNone found ((p : Board) → IsKept p → IsProblem p → p.side ≡ side → text.now ≡ sfen_of p → ⊥)) }
+    ensures none { IfOk result (λ found. IfNone found ((p : Board) → IsKept p → IsProblem p
+        → p.side ≡ side → text.now ≡ sfen_of p → ⊥)) }
 {
     // No other position has this text.
     sfen_laws();

@@ -18,7 +18,8 @@ use shogi_rules::Problem;
 use std::alloc::Global;
 use usi_text::move_laws;
 
-/// A certificate's text, of which the head and the problem are read, and the lines behind them aren't.
+/// A certificate's text, of which the head and the problem are read, and the lines behind them
+/// aren't.
 #[derive(Drop)]
 pub struct OpenText<'a> {
     /// What the certificate claims of its problem.
@@ -54,7 +55,8 @@ fn listed<E: Entry>(lines: ReadLines<'_, E>, count: u32) -> Result<Vec<E>, CertF
 }
 
 impl<'a> OpenText<'a> {
-    /// Reads the head of a certificate's text, and its problem. Errors: a text without such a head, and want of memory.
+    /// Reads the head of a certificate's text, and its problem. Errors: a text without such a head,
+    /// and want of memory.
     pub fn open(alloc: Global, bytes: &'a [u8]) -> Result<OpenText<'a>, CertEnd>
         ensures begins { IfOk result (λ text.
             BeginsWith text.claim text.count text.problem.position text.rest.now bytes.now) }
@@ -75,7 +77,8 @@ impl<'a> OpenText<'a> {
         })
     }
 
-    /// The mate's certificate, from what was read of all its lines; else the text's first fault. Takes no memory.
+    /// The mate's certificate, from what was read of all its lines; else the text's first fault.
+    /// Takes no memory.
     pub fn mate(self, lines: ReadLines<'_, MateEntry>) -> Result<Certificate, CertEnd>
         requires { IsReadOf (mate_form self.problem.position) lines self.rest.now }
         ensures { (bytes : List ℕ)
@@ -90,7 +93,8 @@ impl<'a> OpenText<'a> {
     pub fn escape(self, lines: ReadLines<'_, Position>) -> Result<Certificate, CertEnd>
         requires { IsReadOf (escape_form self.problem.position) lines self.rest.now }
         ensures { (bytes : List ℕ)
-            → BeginsWith Escape self.entry.count self.entry.problem.position self.entry.rest.now bytes
+            → BeginsWith Escape self.entry.count self.entry.problem.position self.entry.rest.now
+            bytes
             → IsCertificateOutcome bytes result }
     {
         let entries = listed(lines, self.count)?;
@@ -117,12 +121,13 @@ fn certificate_of(alloc: Global, bytes: &[u8]) -> Result<Certificate, CertEnd>
     }
 }
 
-/// The certificate whose text it is (version 1, as [`write_cert`](crate::write_cert) writes it), perhaps behind one front
-/// line: `checkmate nomate` before an escape, `checkmate` and one or more moves before a mate (USI protocol). The moves of
-/// that line aren't compared with the certificate. A certificate has 1 to [`MOST_ENTRIES`](crate::MOST_ENTRIES) entries.
+/// The certificate whose text it is (version 1, as [`write_cert`](crate::write_cert) writes it),
+/// perhaps behind one front line: `checkmate nomate` before an escape, `checkmate` and one or more
+/// moves before a mate (USI protocol). The moves of that line aren't compared with the certificate.
+/// A certificate has 1 to [`MOST_ENTRIES`](crate::MOST_ENTRIES) entries.
 ///
-/// For any other text its first fault in reading order ([`CertFault`]). Errors: want of memory alone.
-/// Reads a line after the other, and keeps what it reads in a vector that doubles.
+/// For any other text its first fault in reading order ([`CertFault`]). Errors: want of memory
+/// alone. Reads a line after the other, and keeps what it reads in a vector that doubles.
 pub fn read_cert(alloc: Global, bytes: &[u8]) -> Result<Certificate, CertEnd>
     ensures exact { IsCertificateOutcome bytes.now result }
     // Each certificate that can be read is, from its text, unless memory is wanted.

@@ -15,7 +15,8 @@ use itoa::Buffer;
 use sfen_text::append_sfen;
 use std::alloc::{AllocError, Global};
 
-/// Writes a number in decimal digits behind what stands there already. Errors: want of memory alone.
+/// Writes a number in decimal digits behind what stands there already. Errors: want of memory
+/// alone.
 pub fn append_number(out: &mut Vec<u8>, number: u64) -> Result<(), AllocError>
     ensures { OnOk result (out.new.items ≡ out.old.items ++ decimal number) }
 {
@@ -50,7 +51,8 @@ fn append_head(
     count: usize,
     problem: &Position,
 ) -> Result<(), AllocError>
-    ensures text { OnOk result (out.new.items ≡ out.old.items ++ head_text claim count problem.now) }
+    ensures text { OnOk result (out.new.items
+        ≡ out.old.items ++ head_text claim count problem.now) }
     ensures kept { IsKept problem.now }
 {
     // What the problem keeps, even where memory is wanted.
@@ -64,8 +66,10 @@ fn append_listing<E: Entry>(
     claim: Claim,
     certificate: &CertificateOf<E>,
 ) -> Result<(), AllocError>
-    ensures text { OnOk result (out.new.items ≡ out.old.items ++ listing_text claim (E.form certificate.now.problem) certificate.now) }
-    ensures readable { IsOk result → IsReadCount (length certificate.now.entries) → IsReadableOf (E.form certificate.now.problem) certificate.now }
+    ensures text { OnOk result (out.new.items
+        ≡ out.old.items ++ listing_text claim (E.form certificate.now.problem) certificate.now) }
+    ensures readable { IsOk result → IsReadCount (length certificate.now.entries)
+        → IsReadableOf (E.form certificate.now.problem) certificate.now }
 {
     let entries = certificate.entries();
     append_head(out, claim, entries.len(), &certificate.problem().position)?;
@@ -76,12 +80,14 @@ fn append_listing<E: Entry>(
     Ok(())
 }
 
-/// Writes the text of a mate's certificate behind what stands there already: see [`write_cert`]. Where memory is wanted, a part
-/// of it may stand there. Errors: want of memory alone.
+/// Writes the text of a mate's certificate behind what stands there already: see [`write_cert`].
+/// Where memory is wanted, a part of it may stand there. Errors: want of memory alone.
 pub fn append_mate_cert(out: &mut Vec<u8>, certificate: &MateCertificate) -> Result<(), AllocError>
-    ensures text { OnOk result (out.new.items ≡ out.old.items ++ certificate_text (Mate certificate.now)) }
+    ensures text { OnOk result (out.new.items
+        ≡ out.old.items ++ certificate_text (Mate certificate.now)) }
     // What is written is read again, where it is within the limits: see `again` of `read_cert`.
-    ensures readable { IsOk result → IsWithinLimits (Mate certificate.now) → IsReadable (Mate certificate.now) }
+    ensures readable { IsOk result → IsWithinLimits (Mate certificate.now)
+        → IsReadable (Mate certificate.now) }
 {
     append_listing(out, Claim::Mate, certificate)
 }
@@ -91,15 +97,17 @@ pub fn append_escape_cert(
     out: &mut Vec<u8>,
     certificate: &EscapeCertificate,
 ) -> Result<(), AllocError>
-    ensures text { OnOk result (out.new.items ≡ out.old.items ++ certificate_text (Escape certificate.now)) }
+    ensures text { OnOk result (out.new.items
+        ≡ out.old.items ++ certificate_text (Escape certificate.now)) }
     // What is written is read again, where it is within the limits: see `again` of `read_cert`.
-    ensures readable { IsOk result → IsWithinLimits (Escape certificate.now) → IsReadable (Escape certificate.now) }
+    ensures readable { IsOk result → IsWithinLimits (Escape certificate.now)
+        → IsReadable (Escape certificate.now) }
 {
     append_listing(out, Claim::Escape, certificate)
 }
 
-/// Writes the text of a certificate behind what stands there already: see [`write_cert`]. Where memory is wanted, a part of it
-/// may stand there. Errors: want of memory alone.
+/// Writes the text of a certificate behind what stands there already: see [`write_cert`]. Where
+/// memory is wanted, a part of it may stand there. Errors: want of memory alone.
 pub fn append_cert(out: &mut Vec<u8>, certificate: &Certificate) -> Result<(), AllocError>
     ensures text { OnOk result (out.new.items ≡ out.old.items ++ certificate_text certificate.now) }
     // What is written is read again, where it is within the limits: see `again` of `read_cert`.
@@ -111,10 +119,11 @@ pub fn append_cert(out: &mut Vec<u8>, certificate: &Certificate) -> Result<(), A
     }
 }
 
-/// The text of a certificate, version 1: the line `certificate 1 KIND N` with its kind, `mate` or `escape`, and the number
-/// of its entries; the line `problem SFEN`; a line for each entry, `RANK MOVE SFEN` in a mate and `SFEN` in an escape; and
-/// the line `end`. Each line ends with a line feed. Positions are written as [`sfen_text::write_sfen`] does, moves as
-/// [`usi_text::write_move`] does. Errors: want of memory alone.
+/// The text of a certificate, version 1: the line `certificate 1 KIND N` with its kind, `mate` or
+/// `escape`, and the number of its entries; the line `problem SFEN`; a line for each entry, `RANK
+/// MOVE SFEN` in a mate and `SFEN` in an escape; and the line `end`. Each line ends with a line
+/// feed. Positions are written as [`sfen_text::write_sfen`] does, moves as [`usi_text::write_move`]
+/// does. Errors: want of memory alone.
 pub fn write_cert(alloc: Global, certificate: &Certificate) -> Result<Vec<u8>, AllocError>
     ensures text { IfOk result (λ text. text.items ≡ certificate_text certificate.now) }
     // What is written is read again, where it is within the limits: see `again` of `read_cert`.

@@ -346,7 +346,8 @@ promotable laws b from to piece there legal =
     let parts = and_parts (not piece.promoted) (can_promote piece.kind) both.0 in
     (not-true piece.promoted parts.0, parts.1)
 
--- the squares where a piece's move opens a line or aims at the king, as far as it may go there, are those of its checks
+-- the squares where a piece's move opens a line or aims at the king, as far as it may go there, are
+-- those of its checks
 pub board_checks_are : StepsAreNear → LegalBoardMoves → (b : Board) (end : ℕ) → StandsQuiet b end → (from to : Square) (promote : Bool) (piece : Piece)
     → piece_at b.cells from.number ≡ Some piece → (made wanted unveils aims : Mask)
     → Holds made to.number ↔ (Holds wanted to.number × ((why : Illegal) → ¬ RefusesBoard b from.number to.number promote why))
@@ -385,7 +386,8 @@ none_checks b from to promote empty check =
     let legal = check.legal in
     legal NotThere (λ own. let t = some_of (piece_at b.cells from.number) _ own in none_some {A = ⊥} (piece_at b.cells from.number) t.0 empty t.1)
 
--- the squares from which a dropped piece aims at the king, as far as it may be dropped there, are those of its checks
+-- the squares from which a dropped piece aims at the king, as far as it may be dropped there, are
+-- those of its checks
 pub drop_checks_are : LegalDrops → (b : Board) (end : ℕ) → StandsQuiet b end → (dropped : Kind) (to : Square) (made aims : Mask)
     → Holds made to.number ↔ (Holds aims to.number × ((why : Illegal) → ¬ RefusesDrop b dropped to.number why))
     → Holds aims to.number ↔ ((to.number < 81) × Reaches b.cells (plain_piece dropped b.side) to.number end)

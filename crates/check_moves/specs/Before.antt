@@ -1,4 +1,5 @@
--- What the list of checks is made of, a stretch of the order of moves at a time: it serves private functions alone.
+-- What the list of checks is made of, a stretch of the order of moves at a time: it serves private
+-- functions alone.
 use Rattle.std.specs.Prelude.{◌≡◌, ◌<◌, ℕ, List, length}
 use Rattle.bit_boards.specs.declared.piece.Side.{Side}
 use Rattle.board_core.specs.declared.moves.Move.{Move}

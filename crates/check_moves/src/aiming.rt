@@ -19,9 +19,12 @@ use board_core::{Kind, Piece, Position, Square};
 use legal_moves::{Guard, Landings};
 use shogi_rules::legal_laws;
 
-// The squares from which the piece, promoted, would reach the king; none where it can't be promoted.
+// The squares from which the piece, promoted, would reach the king; none where it can't be
+// promoted.
 fn promoted_aims(sight: &Sight, piece: Piece) -> Mask
-    ensures { (cells : List (Option Piece)) → IsSightOf cells sight.now → piece.promoted ≡ false → can_promote piece.kind ≡ true → (to : ℕ) → Holds result to ↔ ((to < 81) × Reaches cells (landed_piece true piece) to sight.now.square.number) }
+    ensures { (cells : List (Option Piece)) → IsSightOf cells sight.now → piece.promoted ≡ false
+        → can_promote piece.kind ≡ true → (to : ℕ) → Holds result to
+        ↔ ((to < 81) × Reaches cells (landed_piece true piece) to sight.now.square.number) }
 {
     if piece.promoted || !piece.kind.can_promote() {
         return Mask::empty();
@@ -36,8 +39,11 @@ fn promoted_aims(sight: &Sight, piece: Piece) -> Mask
 impl Aim {
     /// The aim at the defender's king, who stands on this square.
     pub(crate) fn of(position: &Position, king: Square) -> Aim
-        requires king { is_king_of (other position.now.side) (piece_at position.now.cells king.number) ≡ true }
-        requires only { (square : ℕ) → is_king_of (other position.now.side) (piece_at position.now.cells square) ≡ true → square ≡ king.number }
+        requires king { is_king_of (other position.now.side)
+            (piece_at position.now.cells king.number) ≡ true }
+        requires only { (square : ℕ)
+            → is_king_of (other position.now.side) (piece_at position.now.cells square) ≡ true
+            → square ≡ king.number }
         ensures { IsAimOf position.now result }
     {
         Aim {
@@ -47,12 +53,14 @@ impl Aim {
         }
     }
 
-    // The squares to which the piece on this one may go so that another piece attacks the king. It says nothing of those where a
-    // piece of its own side stands.
+    // The squares to which the piece on this one may go so that another piece attacks the king. It
+    // says nothing of those where a piece of its own side stands.
     fn opened(&self, position: &Position, from: Square) -> Mask
         requires aim { IsAimOf position.now self.now }
         requires quiet { IsQuiet position.now }
-        ensures { (to : ℕ) → to < 81 → ¬ IsOwn position.now to → Holds result to ↔ IsUnveiled position.now.cells position.now.side from.number to self.now.sight.square.number }
+        ensures { (to : ℕ) → to < 81 → ¬ IsOwn position.now to → Holds result to
+            ↔ IsUnveiled position.now.cells position.now.side from.number to
+            self.now.sight.square.number }
     {
         // Sets hold nothing but squares of the board, of which there are 81.
         mask_laws();
@@ -70,10 +78,13 @@ impl Aim {
         requires aim { IsAimOf position.now self.now }
         requires quiet { IsQuiet position.now }
         requires there { piece_at position.now.cells from.number ≡ Some piece }
-        ensures plain { (to : Square) → Holds result.plain to.number ↔ IsCheck position.now.side position.now (Board from to false) }
-        ensures promoted { (to : Square) → Holds result.promoted to.number ↔ IsCheck position.now.side position.now (Board from to true) }
+        ensures plain { (to : Square) → Holds result.plain to.number
+            ↔ IsCheck position.now.side position.now (Board from to false) }
+        ensures promoted { (to : Square) → Holds result.promoted to.number
+            ↔ IsCheck position.now.side position.now (Board from to true) }
     {
-        // A piece steps to near squares alone, a board has 81 squares, and what a legal move has is known.
+        // A piece steps to near squares alone, a board has 81 squares, and what a legal move has is
+        // known.
         mask_laws();
         position.laws();
         legal_laws();
@@ -89,8 +100,10 @@ impl Aim {
     pub(crate) fn board_checks(&self, position: &Position, from: Square) -> Landings
         requires aim { IsAimOf position.now self.now }
         requires quiet { IsQuiet position.now }
-        ensures plain { (to : Square) → Holds result.plain to.number ↔ IsCheck position.now.side position.now (Board from to false) }
-        ensures promoted { (to : Square) → Holds result.promoted to.number ↔ IsCheck position.now.side position.now (Board from to true) }
+        ensures plain { (to : Square) → Holds result.plain to.number
+            ↔ IsCheck position.now.side position.now (Board from to false) }
+        ensures promoted { (to : Square) → Holds result.promoted to.number
+            ↔ IsCheck position.now.side position.now (Board from to true) }
     {
         match position.piece_at(from) {
             Some(piece) => self.piece_checks(position, piece, from),
@@ -105,7 +118,8 @@ impl Aim {
     pub(crate) fn drop_checks(&self, position: &Position, kind: Kind) -> Mask
         requires aim { IsAimOf position.now self.now }
         requires quiet { IsQuiet position.now }
-        ensures { (to : Square) → Holds result to.number ↔ IsCheck position.now.side position.now (Drop kind to) }
+        ensures { (to : Square) → Holds result to.number
+            ↔ IsCheck position.now.side position.now (Drop kind to) }
     {
         // A board has 81 squares, and what a legal drop has is known.
         position.laws();

@@ -34,7 +34,8 @@ fn count_board_checks(aim: &Aim, position: &Position) -> u32
 fn count_drop_checks(aim: &Aim, position: &Position) -> u32
     requires aim { IsAimOf position.now aim.now }
     requires quiet { IsQuiet position.now }
-    ensures are { (before : ℕ) → AreChecksBefore position.now 13122 before → AreChecksBefore position.now 13689 (before + result) }
+    ensures are { (before : ℕ) → AreChecksBefore position.now 13122 before
+        → AreChecksBefore position.now 13689 (before + result) }
     ensures to { result ≤ 567 }
 {
     // No two moves have one place in the order.
@@ -46,16 +47,19 @@ fn count_drop_checks(aim: &Aim, position: &Position) -> u32
     count
 }
 
-/// How many checks there are at a position: as many as [`checks_into`](crate::checks_into) lists; none where the attacker isn't to
-/// move. Takes no memory.
+/// How many checks there are at a position: as many as [`checks_into`](crate::checks_into) lists;
+/// none where the attacker isn't to move. Takes no memory.
 ///
-/// The side not to move must not be in check. (The tsume rule: each move of the attacker is a check.)
+/// The side not to move must not be in check. (The tsume rule: each move of the attacker is a
+/// check.)
 pub fn count_checks(problem: &Problem, position: &Position) -> u32
     requires { IsQuiet position.now }
-    ensures count { (moves : List Move) → Lists (IsCheck problem.now.position.side position.now) moves → result ≡ length moves }
+    ensures count { (moves : List Move)
+        → Lists (IsCheck problem.now.position.side position.now) moves → result ≡ length moves }
     ensures to { result ≤ 13770 }
 {
-    // No two moves have one place in the order, what every position keeps holds of this one, and what a legal move has is known.
+    // No two moves have one place in the order, what every position keeps holds of this one, and
+    // what a legal move has is known.
     order_laws();
     position.laws();
     legal_laws();

@@ -19,7 +19,8 @@ fn add_board_checks(moves: &mut Moves, aim: &Aim, position: &Position) -> Result
     requires empty { moves.old ≡ [] }
     ensures { OnOk result (Lists (IsCheckBefore position.now.side position.now 13122) moves.new) }
 {
-    // No two moves have one place in the order, no two squares one number, and a legal move is one of an own piece.
+    // No two moves have one place in the order, no two squares one number, and a legal move is one
+    // of an own piece.
     order_laws();
     value_laws();
     legal_laws();
@@ -38,7 +39,8 @@ fn add_drop_checks(moves: &mut Moves, aim: &Aim, position: &Position) -> Result<
     requires before { Lists (IsCheckBefore position.now.side position.now 13122) moves.old }
     ensures { OnOk result (Lists (IsCheck position.now.side position.now) moves.new) }
 {
-    // No two moves have one place in the order, no two kinds one place in theirs, and no hand holds a king.
+    // No two moves have one place in the order, no two kinds one place in theirs, and no hand holds
+    // a king.
     order_laws();
     value_laws();
     position.laws();
@@ -48,11 +50,13 @@ fn add_drop_checks(moves: &mut Moves, aim: &Aim, position: &Position) -> Result<
     Ok(())
 }
 
-/// Makes the list that of the checks at a position: exactly the legal moves of the problem's attacker after which the defender's
-/// king is attacked, each once, in the order of moves; none where the attacker isn't to move. It takes memory only where the list
-/// has no room. Errors: want of memory alone; what the list has then isn't said.
+/// Makes the list that of the checks at a position: exactly the legal moves of the problem's
+/// attacker after which the defender's king is attacked, each once, in the order of moves; none
+/// where the attacker isn't to move. It takes memory only where the list has no room. Errors: want
+/// of memory alone; what the list has then isn't said.
 ///
-/// The side not to move must not be in check. (The tsume rule: each move of the attacker is a check.)
+/// The side not to move must not be in check. (The tsume rule: each move of the attacker is a
+/// check.)
 pub fn checks_into(
     problem: &Problem,
     position: &Position,
@@ -80,7 +84,8 @@ pub fn checks_into(
 
 /// The checks at a position, as [`checks_into`] lists them. Errors: want of memory alone.
 ///
-/// The side not to move must not be in check. (The tsume rule: each move of the attacker is a check.)
+/// The side not to move must not be in check. (The tsume rule: each move of the attacker is a
+/// check.)
 pub fn checks(alloc: Global, problem: &Problem, position: &Position) -> Result<Moves, AllocError>
     requires { IsQuiet position.now }
     ensures { IfOk result (λ moves. Lists (IsCheck problem.now.position.side position.now) moves) }

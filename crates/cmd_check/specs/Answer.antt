@@ -20,8 +20,8 @@ pub record IsAcceptance (p : Board) (c : Certificate) (claim : Claim) (entries :
   pub is_claim : claim ≡ claim_of c
   pub count : entries ≡ length (positions_in c)
 
--- A certificate was refused for a problem: it isn't valid for it, and this is the first reason. (Where it is about another, that is
--- that the problem isn't listed.)
+-- A certificate was refused for a problem: it isn't valid for it, and this is the first reason.
+-- (Where it is about another, that is that the problem isn't listed.)
 pub record IsRefusal (p : Board) (c : Certificate) (entry : ℕ) (why : Why) : Type 0 where
   pub invalid : ¬ IsValid c p
   pub first : IsFirstAgainst c p entry why
@@ -31,8 +31,8 @@ abbrev pub IsTrueOfCertificate : Board → Certificate → Judgement → Type 0
 IsTrueOfCertificate p c (Accepted claim entries) = IsAcceptance p c claim entries
 IsTrueOfCertificate p c (Refused entry why) = IsRefusal p c entry why
 
--- The bytes of an input are the text of one certificate, of which the judgement is true, for the problem whose text the words give, or
--- for its own.
+-- The bytes of an input are the text of one certificate, of which the judgement is true, for the
+-- problem whose text the words give, or for its own.
 pub record IsJudged (problem : Option (List ℕ)) (input : List ℕ) (judgement : Judgement) : Type 0 where
   pub certificate : Certificate
   pub read : IsCertificateOutcome input (Ok certificate)

@@ -18,7 +18,8 @@ check_in asked = option_map string_bytes asked.problem
 abbrev pub given_form : ProblemForm
 given_form = record { format = Sfen; rest = false }
 
--- The words give a problem that the certificate has to be for, and its text is none: this is its first fault.
+-- The words give a problem that the certificate has to be for, and its text is none: this is its
+-- first fault.
 abbrev pub IsGivenFault : Option (List ℕ) → ProblemFault → Type 0
 IsGivenFault None fault = ⊥
 IsGivenFault (Some text) fault = StandsFor given_form text (Err fault)
@@ -30,7 +31,8 @@ IsGivenProblem None (Some problem) = ⊥
 IsGivenProblem (Some text) None = ⊥
 IsGivenProblem (Some text) (Some problem) = StandsFor given_form text (Ok problem.position)
 
--- The problem for which a certificate is judged: the one whose text the words give, or its own where they give none.
+-- The problem for which a certificate is judged: the one whose text the words give, or its own
+-- where they give none.
 abbrev pub IsJudgedFor : Option (List ℕ) → Certificate → Board → Type 0
 IsJudgedFor None c p = p ≡ problem_of c
 IsJudgedFor (Some text) c p = StandsFor given_form text (Ok p)

@@ -21,8 +21,8 @@ use Rattle.cmd_check.specs.Answer.{IsJudged}
 use Rattle.cmd_check.specs.Asked.{IsJudgedFor}
 use Rattle.cmd_check.specs.Meaning.{check_meaning}
 
--- The bytes are the text of a certificate that claims this, lists so many positions, is valid for the problem whose text is given, or
--- for its own where none is, and shows what it claims.
+-- The bytes are the text of a certificate that claims this, lists so many positions, is valid for
+-- the problem whose text is given, or for its own where none is, and shows what it claims.
 pub record IsValidText (problem : Option (List ℕ)) (input : List ℕ) (claim : Claim) (entries : ℕ) : Type 0 where
   pub certificate : Certificate
   pub readable : IsReadable certificate
@@ -34,7 +34,8 @@ pub record IsValidText (problem : Option (List ℕ)) (input : List ℕ) (claim :
   pub valid : IsValid certificate board
   pub shows : Shows certificate board
 
--- The run was broken off: the source or the sink failed, more bytes came than are read, or memory was wanted.
+-- The run was broken off: the source or the sink failed, more bytes came than are read, or memory
+-- was wanted.
 abbrev pub IsBrokenOff : Ended Judgement CertFault → Type 0
 IsBrokenOff (Answered judgement) = ⊥
 IsBrokenOff (CutShort judgement) = ⊤
@@ -52,7 +53,8 @@ pub record IsCertificateGiven (left : Option (List ℕ)) : Type 0 where
   pub readable : IsReadable certificate
   pub text : IsTextOf certificate input
 
--- A run of `check` kept all that it promises, for whoever hands it on, whatever stops there are, which it leaves alone.
+-- A run of `check` kept all that it promises, for whoever hands it on, whatever stops there are,
+-- which it leaves alone.
 pub record IsCheckRun (problem : Option (List ℕ)) (source sink : Shown) (ended : Ended Judgement CertFault) : Type 0 where
   pub accepted : (input : List ℕ) (claim : Claim) (entries : ℕ) → source.told ≡ Some input → ¬ IsBrokenOff ended
       → ((ended ≡ Answered (Accepted claim entries)) ↔ IsValidText problem input claim entries)

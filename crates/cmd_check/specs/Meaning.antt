@@ -8,8 +8,9 @@ use Rattle.one_run.specs.Stops.{AreUnused}
 use Rattle.cmd_check.specs.declared.asked.TheConstants.{MOST_CERTIFICATE_BYTES}
 use Rattle.cmd_check.specs.Answer.{IsJudged, IsNoCertificate}
 
--- What `check` means, by the text of the problem that the words give, if any: a text has so many bytes at most; an answer is a judgement on
--- the certificate that the text is, and a fault the text's; the text of an answer is the judgement's; and no stop is used.
+-- What `check` means, by the text of the problem that the words give, if any: a text has so many
+-- bytes at most; an answer is a judgement on the certificate that the text is, and a fault the
+-- text's; the text of an answer is the judgement's; and no stop is used.
 abbrev pub check_meaning : Option (List ℕ) → Meaning Judgement CertFault
 check_meaning problem = record {
   limit = MOST_CERTIFICATE_BYTES;

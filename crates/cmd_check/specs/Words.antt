@@ -7,7 +7,8 @@ use Rattle.tsume_words.specs.Meaning.{CommandMeaning, no_tests}
 use Rattle.cmd_check.specs.declared.words.Check.{Check}
 use Rattle.cmd_check.specs.Line.{check_line}
 
--- What the words ask for: by how many workers, where that is said, and for which problem, where the certificate has to be for a given one.
+-- What the words ask for: by how many workers, where that is said, and for which problem, where the
+-- certificate has to be for a given one.
 pub record CheckView : Type 0 where
   pub workers : Option ℕ
   pub problem : Option Text

@@ -28,8 +28,8 @@ fn problem_for<'a>(asked: &'a Option<Problem>, certificate: &'a Certificate) -> 
     }
 }
 
-// How many pieces the lines are read in at a time, and the entries checked: as many as the words say,
-// or else as many as there can be.
+// How many pieces the lines are read in at a time, and the entries checked: as many as the words
+// say, or else as many as there can be.
 fn pieces(workers: Option<u32>) -> usize {
     match workers {
         Some(workers) => workers as usize,

@@ -46,12 +46,13 @@ fn check_through<R: Threads + Sync, S: Source, K: Sink>(
 
 /// Checks the certificate of the text that the source gives, of at most
 /// [`MOST_CERTIFICATE_BYTES`](crate::MOST_CERTIFICATE_BYTES), perhaps behind the line of the USI
-/// answer: writes to the sink whether it is valid for its own problem, or for the one that the words
-/// give, which was accepted ([`asked_problem`](crate::asked_problem)), or the first reason why it
-/// isn't. A certificate of another problem isn't valid for it. Positions are compared, and not
-/// texts. The entries are checked side by side, by as many workers as are asked for, or as there are
-/// processors ([`check_wide`](wide_check::check_wide)). Errors: a text that is no certificate, with its first fault, or is too long; a source or a
-/// sink that failed; want of memory.
+/// answer: writes to the sink whether it is valid for its own problem, or for the one that the
+/// words give, which was accepted ([`asked_problem`](crate::asked_problem)), or the first reason
+/// why it isn't. A certificate of another problem isn't valid for it. Positions are compared, and
+/// not texts. The entries are checked side by side, by as many workers as are asked for, or as
+/// there are processors ([`check_wide`](wide_check::check_wide)). Errors: a text that is no
+/// certificate, with its first fault, or is too long; a source or a sink that failed; want of
+/// memory.
 pub fn check<R: Threads + Sync, S: Source, K: Sink>(
     rt: &R,
     alloc: Global,
@@ -61,9 +62,9 @@ pub fn check<R: Threads + Sync, S: Source, K: Sink>(
     sink: &mut K,
 ) -> Ended<Judgement, CertFault>
     requires { IsGivenProblem (check_in asked.now) problem.now }
-    // In plain words. Where it wasn't broken off, it accepts exactly where the bytes are the text of
-    // a certificate that is valid for the problem whose text the words give, or for its own where
-    // they give none, with its claim and the number of its entries.
+    // In plain words. Where it wasn't broken off, it accepts exactly where the bytes are the text
+    // of a certificate that is valid for the problem whose text the words give, or for its own
+    // where they give none, with its claim and the number of its entries.
     ensures accepted { (input : List ℕ) (claim : Claim) (entries : ℕ)
         → S.left source.old ≡ Some input → ¬ IsBrokenOff result
         → ((result ≡ Ended.Answered (Judgement.Accepted claim entries))

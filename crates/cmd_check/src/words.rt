@@ -1,4 +1,5 @@
-// The words of `check`, and what they ask for. Lines of help end below 80 columns, where a test looks.
+// The words of `check`, and what they ask for. Lines of help end below 80 columns, where a test
+// looks.
 ghost use Rattle.std.specs.Prelude.{◌≡◌, codes, false};
 ghost use Rattle.std.specs.Option.{ForSome};
 ghost use Rattle.clap.specs.Words.{found_of, rows_of, rule_of};

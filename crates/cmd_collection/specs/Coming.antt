@@ -7,13 +7,15 @@ use Rattle.cmd_collection.specs.ReportText.{HasReportLine}
 use Rattle.problem_lines.specs.Lines.{NumberedLine}
 use Rattle.cmd_collection.specs.Reports.{IsTrueReport}
 
--- Reports that are still to come: with which settings and in which form they are made, and the lines that they are on.
+-- Reports that are still to come: with which settings and in which form they are made, and the
+-- lines that they are on.
 pub record Coming : Type 0 where
   pub settings : SettingsView
   pub form : CollectionView
   pub lines : List NumberedLine
 
--- A report is on the first line that was left, is true of it, and has a text; the others are still to come, with the same settings and in the same form.
+-- A report is on the first line that was left, is true of it, and has a text; the others are still
+-- to come, with the same settings and in the same form.
 pub record IsNext (before : Coming) (line : NumberedLine) (report : Report) (after : Coming) : Type 0 where
   pub first : before.lines ≡ line ∷ after.lines
   pub true_of : IsTrueReport before.settings before.form line report

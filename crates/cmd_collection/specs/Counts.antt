@@ -42,7 +42,8 @@ pub record AreCountsOf (reports : List Report) (counts : Counts) : Type 0 where
   pub unknowns : counts.unknowns ≡ count_by tells_unknown reports
   pub faults : counts.faults ≡ count_by tells_fault reports
 
--- One more report is counted: each count is one higher where the report tells it, and stays where it doesn't.
+-- One more report is counted: each count is one higher where the report tells it, and stays where
+-- it doesn't.
 pub record IsCounted (report : Report) (old new : Counts) : Type 0 where
   pub mates : new.mates ≡ old.mates + (if tells_mate report then 1 else 0)
   pub no_mates : new.no_mates ≡ old.no_mates + (if tells_no_mate report then 1 else 0)

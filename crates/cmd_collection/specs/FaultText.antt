@@ -4,7 +4,8 @@ use Rattle.app_texts.specs.FaultText.{problem_fault_text}
 use Rattle.cmd_collection.specs.declared.report.LineFault.{LineFault}
 use Rattle.cmd_collection.specs.declared.report.LineFault.TheVariants.{TooLong, Problem}
 
--- What is wrong with a line of a collection, in words: that it is too long, or the fault of its problem.
+-- What is wrong with a line of a collection, in words: that it is too long, or the fault of its
+-- problem.
 abbrev pub line_fault_text : LineFault → List ℕ
 line_fault_text TooLong = codes "too long"
 line_fault_text (Problem fault) = problem_fault_text fault

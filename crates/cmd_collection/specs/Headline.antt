@@ -12,7 +12,8 @@ use Rattle.cmd_collection.specs.declared.counts.Counts.{Counts}
 use Rattle.cmd_collection.specs.Meaning.{collection_meaning}
 use Rattle.cmd_collection.specs.Words.{CollectView}
 
--- All lines of a collection that hold a problem were decided, and the report of each was written in their order, and the counts behind them.
+-- All lines of a collection that hold a problem were decided, and the report of each was written in
+-- their order, and the counts behind them.
 abbrev pub IsCollected : CollectView → Shown → Shown → Counts → Type 0
 IsCollected asked source sink counts = AreAllTold (collection_meaning asked) source sink counts
 

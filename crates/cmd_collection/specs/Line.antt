@@ -12,7 +12,8 @@ threads_option = number_if_any_option (codes "threads") 1 MOST_THREADS
 abbrev pub certificates_flag : Rule
 certificates_flag = flag_option (codes "certificates")
 
--- `collection` has four numbers, of them 100,000 expansions where nothing is said, the threads, its two flags and the file.
+-- `collection` has four numbers, of them 100,000 expansions where nothing is said, the threads, its
+-- two flags and the file.
 unfoldable pub collection_line : App
 collection_line = with_rule
     (with_rule

@@ -10,8 +10,9 @@ use Rattle.cmd_collection.specs.Reports.{IsTrueReport}
 use Rattle.cmd_collection.specs.ReportText.{report_text}
 use Rattle.cmd_collection.specs.Words.{CollectView}
 
--- What `collection` means: a text has so many bytes at most, and no fault as a whole; its subjects are the lines that hold a problem, and a
--- part is a true report on one, whose text it has; the counts sum the reports up, and have a text of their own.
+-- What `collection` means: a text has so many bytes at most, and no fault as a whole; its subjects
+-- are the lines that hold a problem, and a part is a true report on one, whose text it has; the
+-- counts sum the reports up, and have a text of their own.
 abbrev pub collection_meaning : CollectView → Serial NumberedLine Report Counts NoFault
 collection_meaning asked = record {
   limit = MOST_COLLECTION_BYTES;

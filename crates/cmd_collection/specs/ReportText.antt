@@ -12,7 +12,8 @@ use Rattle.app_texts.specs.declared.answer.Solution.TheVariants.{Mate, NoMate, U
 use Rattle.cmd_collection.specs.declared.report.Report.{Report}
 use Rattle.cmd_collection.specs.declared.report.Report.TheVariants.{Solved, Fault}
 
--- How a line's problem ended: a mate with its main line, a space before each move; that there is none; why it is unknown; or the fault.
+-- How a line's problem ended: a mate with its main line, a space before each move; that there is
+-- none; why it is unknown; or the fault.
 abbrev pub ending_text : Report → List ℕ
 ending_text (Solved (Mate c moves)) = codes " mate" ++ flat_map spaced_move moves
 ending_text (Solved (NoMate c)) = codes " nomate"
@@ -26,8 +27,8 @@ proof_text (Solved (NoMate c)) = certificate_text (certificates.Escape c)
 proof_text (Solved (Unknown cause crew)) = []
 proof_text (Fault fault) = []
 
--- The text of a report, by whether certificates are told and by the number of its line: that number and how the problem ended, and the
--- certificate behind that line.
+-- The text of a report, by whether certificates are told and by the number of its line: that number
+-- and how the problem ended, and the certificate behind that line.
 abbrev pub report_text : Bool → ℕ → Report → List ℕ
 report_text certificates number report =
     line (decimal number ++ ending_text report) ++ (if certificates then proof_text report else [])

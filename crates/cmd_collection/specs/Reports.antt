@@ -23,14 +23,15 @@ pub record IsVerdictAlone (p : Board) (s : SettingsView) (solution : Solution) :
   pub alone : IsAlone p s (SearchSolved note)
   pub verdict : IsVerdictOf p note solution
 
--- A solution is true of a problem that was searched alone with these settings: it is the verdict of the search's note; or, where it is
--- unknown, the search gave up so.
+-- A solution is true of a problem that was searched alone with these settings: it is the verdict of
+-- the search's note; or, where it is unknown, the search gave up so.
 abbrev pub IsFoundAlone : Board → SettingsView → Solution → Type 0
 IsFoundAlone p s (Mate c moves) = IsVerdictAlone p s (Mate c moves)
 IsFoundAlone p s (NoMate c) = IsVerdictAlone p s (NoMate c)
 IsFoundAlone p s (Unknown cause crew) = IsAlone p s (SearchUnknown cause crew) ⊎ IsVerdictAlone p s (Unknown cause crew)
 
--- The problem of a line is written as SFEN, and the defender is given the rest of the pieces where that is asked for.
+-- The problem of a line is written as SFEN, and the defender is given the rest of the pieces where
+-- that is asked for.
 abbrev pub line_form : CollectionView → ProblemForm
 line_form form = record { format = Sfen; rest = form.rest }
 
@@ -41,7 +42,8 @@ pub record IsLineSolved (settings : SettingsView) (form : CollectionView) (line 
   pub stands_for : StandsFor (line_form form) line.content (Ok problem)
   pub found : IsFoundAlone problem settings solution
 
--- A report is true of a line: a solution of its problem; or that it is too long; or the first fault of its text.
+-- A report is true of a line: a solution of its problem; or that it is too long; or the first fault
+-- of its text.
 abbrev pub IsTrueReport : SettingsView → CollectionView → NumberedLine → Report → Type 0
 IsTrueReport settings form line (Solved solution) = IsLineSolved settings form line solution
 IsTrueReport settings form line (Fault TooLong) = line.is_too_long ≡ true

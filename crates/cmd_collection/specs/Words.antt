@@ -8,8 +8,9 @@ use Rattle.cmd_collection.specs.declared.form.TheConstants.{MOST_THREADS}
 use Rattle.cmd_collection.specs.declared.form.CollectionForm.{CollectionForm}
 use Rattle.cmd_collection.specs.Line.{collection_line}
 
--- How the problems of a collection are decided: whether the defender is given the rest of the pieces, whether certificates are told,
--- and how many problems are decided side by side, where that is said.
+-- How the problems of a collection are decided: whether the defender is given the rest of the
+-- pieces, whether certificates are told, and how many problems are decided side by side, where that
+-- is said.
 pub record CollectionView : Type 0 where
   pub rest : Bool
   pub certificates : Bool

@@ -21,8 +21,8 @@ pub struct Collection {
     pub ghost alone: { settings.workers ≡ 1 },
 }
 
-/// What is wrong with a whole collection: nothing is, whatever its text, as its meaning says, so that no run ends with it. What is wrong
-/// with a line is told of that line.
+/// What is wrong with a whole collection: nothing is, whatever its text, as its meaning says, so
+/// that no run ends with it. What is wrong with a line is told of that line.
 #[derive(Clone, Copy, Debug)]
 pub struct NoFault;
 

@@ -41,7 +41,8 @@ impl Counts {
     pub fn problems(&self) -> u64
         ensures sum { result ≡ problems_of self.now }
         // Each report is counted once, so it is how many there are.
-        ensures all { (reports : List Report) → AreCountsOf reports self.now → result ≡ length reports }
+        ensures all { (reports : List Report) → AreCountsOf reports self.now → result
+            ≡ length reports }
     {
         self.mates + self.no_mates + self.unknowns + self.faults
     }
@@ -53,7 +54,8 @@ impl Counts {
         ensures one { IsCounted report.now self.old self.new }
         ensures problems { problems_of self.new ≡ problems_of self.old + 1 }
         // So they stay the counts of all reports so far.
-        ensures counts { (reports : List Report) → AreCountsOf reports self.old → AreCountsOf (reports ++ report.now ∷ []) self.new }
+        ensures counts { (reports : List Report) → AreCountsOf reports self.old
+            → AreCountsOf (reports ++ report.now ∷ []) self.new }
     {
         match report {
             Report::Solved(Solution::Mate(_, _)) => self.mates += 1,

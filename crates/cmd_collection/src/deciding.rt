@@ -36,8 +36,11 @@ fn found_alone(
 
 // The problem of a line, or its first fault.
 fn problem_of(line: &Line<'_>, form: &CollectionForm) -> Result<Problem, ProblemFault>
-    ensures { MatchResult result (λ problem. StandsFor (line_form (collection_in form.now)) (seen line.now).content (Ok problem.position))
-        (λ fault. StandsFor (line_form (collection_in form.now)) (seen line.now).content (Err fault)) }
+    ensures { MatchResult result
+        (λ problem. StandsFor (line_form (collection_in form.now)) (seen line.now).content
+        (Ok problem.position))
+        (λ fault. StandsFor (line_form (collection_in form.now)) (seen line.now).content
+        (Err fault)) }
 {
     let form = ProblemForm {
         format: Format::Sfen,
@@ -46,8 +49,8 @@ fn problem_of(line: &Line<'_>, form: &CollectionForm) -> Result<Problem, Problem
     read_problem(line.content, form)
 }
 
-/// What is told of a line: what a search alone finds of its problem; or that the line is too long; or its first fault. The table is emptied for it.
-/// Errors: want of memory alone.
+/// What is told of a line: what a search alone finds of its problem; or that the line is too long;
+/// or its first fault. The table is emptied for it. Errors: want of memory alone.
 pub(crate) fn report_on(
     alloc: Global,
     table: &mut Table,
@@ -55,7 +58,8 @@ pub(crate) fn report_on(
     settings: &Settings,
     form: &CollectionForm,
 ) -> Result<Report, AllocError>
-    ensures true_of { IfOk result (IsTrueReport (settings_in settings.now) (collection_in form.now) (seen line.now)) }
+    ensures true_of { IfOk result
+        (IsTrueReport (settings_in settings.now) (collection_in form.now) (seen line.now)) }
     ensures line { IfOk result HasReportLine }
 {
     if line.is_too_long {

@@ -9,11 +9,13 @@ pub const MOST_THREADS: u64 = 64;
 /// How the problems of a collection are decided, and what is told of them.
 #[derive(Clone, Copy, Debug, PartialEq, Eq)]
 pub struct CollectionForm {
-    /// Whether the defender of each is given all pieces but kings that are neither on the board nor in a hand.
+    /// Whether the defender of each is given all pieces but kings that are neither on the board nor
+    /// in a hand.
     pub rest: bool,
     /// Whether the certificate of a verdict is told behind its line.
     pub certificates: bool,
-    /// How many problems are decided side by side, 1 to [`MOST_THREADS`]; none where nothing is said.
+    /// How many problems are decided side by side, 1 to [`MOST_THREADS`]; none where nothing is
+    /// said.
     pub threads: Option<u32>,
     pub ghost threads_in_range: { ForSome threads (IsFromTo 1 MOST_THREADS) },
 }

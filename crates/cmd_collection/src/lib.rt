@@ -1,11 +1,12 @@
-//! The command `collection`: it reads a text with a problem in each line, and tells of each line, in order,
-//! that its problem is a mate, with a main line, that it is none, that it was given up, or what is wrong with
-//! it; and how many ended in which way behind the last.
+//! The command `collection`: it reads a text with a problem in each line, and tells of each line,
+//! in order, that its problem is a mate, with a main line, that it is none, that it was given up,
+//! or what is wrong with it; and how many ended in which way behind the last.
 //!
-//! What its words ask for is a [`Collection`], which has its line of the command line and reads them; what is told of one line is a [`Report`] ([`append_report`]), and
-//! behind the last the [`Counts`] ([`counts_text`]). [`Reports`] goes over the lines: a search of its own
-//! decides each, many at a time over threads, and the reports come in the order of the lines. [`collection`]
-//! is one run of the command, whose clauses are what it promises, in plain words first.
+//! What its words ask for is a [`Collection`], which has its line of the command line and reads
+//! them; what is told of one line is a [`Report`] ([`append_report`]), and behind the last the
+//! [`Counts`] ([`counts_text`]). [`Reports`] goes over the lines: a search of its own decides each,
+//! many at a time over threads, and the reports come in the order of the lines. [`collection`] is
+//! one run of the command, whose clauses are what it promises, in plain words first.
 #![tactic(auto)]
 
 mod asked;

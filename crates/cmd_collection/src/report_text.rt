@@ -1,4 +1,5 @@
-// The texts of a report, and of the counts behind the last one. Each part is appended to the one text.
+// The texts of a report, and of the counts behind the last one. Each part is appended to the one
+// text.
 ghost use Rattle.std.specs.Prelude.{◌≡◌, ◌++◌, OnOk, IfOk, codes};
 ghost use Rattle.std.specs.List.{flat_map};
 ghost use Rattle.usi_text.specs.Lines.{spaced_move};
@@ -65,9 +66,10 @@ fn append_proof(out: &mut Vec<u8>, report: &Report) -> Result<(), AllocError>
     }
 }
 
-/// Writes what is told of a collection's line of this number behind what stands there already: the number and how its problem
-/// ended, and behind a verdict its certificate where `certificates` says so. The moves of a mate have texts. Where memory is wanted,
-/// nothing is said of what stands there then. Errors: want of memory alone.
+/// Writes what is told of a collection's line of this number behind what stands there already: the
+/// number and how its problem ended, and behind a verdict its certificate where `certificates` says
+/// so. The moves of a mate have texts. Where memory is wanted, nothing is said of what stands there
+/// then. Errors: want of memory alone.
 pub fn append_report(
     out: &mut Vec<u8>,
     number: u64,
@@ -75,7 +77,8 @@ pub fn append_report(
     certificates: bool,
 ) -> Result<(), AllocError>
     requires { HasReportLine report.now }
-    ensures { OnOk result (out.new.items ≡ out.old.items ++ report_text certificates number report.now) }
+    ensures { OnOk result (out.new.items
+        ≡ out.old.items ++ report_text certificates number report.now) }
 {
     append_number(out, number)?;
     append_ending(out, report)?;

@@ -29,9 +29,10 @@ pub struct Reported<'a> {
     pub report: Report,
 }
 
-/// Goes over the lines of a collection that hold problems, and gives what is told of each. The problems of a stretch of lines are decided
-/// side by side by a [`Team`], each by a search of its own with one worker; how many there are in it changes no report (by tests; no
-/// clause says it). Contracts see the settings, the form, and the lines that are still to come.
+/// Goes over the lines of a collection that hold problems, and gives what is told of each. The
+/// problems of a stretch of lines are decided side by side by a [`Team`], each by a search of its
+/// own with one worker; how many there are in it changes no report (by tests; no clause says it).
+/// Contracts see the settings, the form, and the lines that are still to come.
 #[derive(Drop)]
 pub struct Reports<'a> {
     lines: Lines<'a>,
@@ -65,7 +66,8 @@ fn most_threads(form: &CollectionForm) -> usize {
     }
 }
 
-// The next lines, as many as there are up to this number, which is none only where there are none left.
+// The next lines, as many as there are up to this number, which is none only where there are none
+// left.
 fn stretch<'a>(
     alloc: Global,
     lines: &mut Lines<'a>,
@@ -95,7 +97,9 @@ fn decided<'a, R: Threads + Sync>(
     form: &CollectionForm,
 ) -> Result<VecDeque<Reported<'a>>, AllocError>
     ensures lines { IfOk result (λ all. map (λ one. one.line) all.items ≡ lines.now) }
-    ensures reports { IfOk result (λ all. All (λ one. IsReportOn (settings_in settings.now) (collection_in form.now) one.line one.report) all.items) }
+    ensures reports { IfOk result
+        (λ all. All (λ one. IsReportOn (settings_in settings.now) (collection_in form.now) one.line
+        one.report) all.items) }
 {
     let jobs = LineJobs {
         lines,
@@ -123,9 +127,13 @@ fn refill<'a, R: Threads + Sync>(
     settings: &Settings,
     form: &CollectionForm,
 ) -> Result<(), AllocError>
-    requires { All (λ one. IsReportOn (settings_in settings.now) (collection_in form.now) one.line one.report) ahead.old.items }
-    ensures reports { All (λ one. IsReportOn (settings_in settings.now) (collection_in form.now) one.line one.report) ahead.new.items }
-    ensures same { OnOk result (map (λ one. seen one.line) ahead.old.items ++ lines.old ≡ map (λ one. seen one.line) ahead.new.items ++ lines.new) }
+    requires { All (λ one. IsReportOn (settings_in settings.now) (collection_in form.now) one.line
+        one.report) ahead.old.items }
+    ensures reports { All
+        (λ one. IsReportOn (settings_in settings.now) (collection_in form.now) one.line one.report)
+        ahead.new.items }
+    ensures same { OnOk result (map (λ one. seen one.line) ahead.old.items ++ lines.old
+        ≡ map (λ one. seen one.line) ahead.new.items ++ lines.new) }
     ensures none { OnOk result (ahead.new.items ≡ [] → lines.new ≡ []) }
 {
     if !has_none(ahead) {
@@ -138,8 +146,9 @@ fn refill<'a, R: Threads + Sync>(
 }
 
 impl<'a> Reports<'a> {
-    /// The reports on the lines of a text, made with these settings and in this form. Takes memory for each thread's place alone; the
-    /// tables are made with the first problems. Errors: want of memory alone.
+    /// The reports on the lines of a text, made with these settings and in this form. Takes memory
+    /// for each thread's place alone; the tables are made with the first problems. Errors: want of
+    /// memory alone.
     pub fn new<R: Threads>(
         rt: &R,
         alloc: Global,
@@ -147,7 +156,13 @@ impl<'a> Reports<'a> {
         settings: &Settings,
         form: &CollectionForm,
     ) -> Result<Reports<'a>, AllocError>
-        ensures { IfOk result (λ reports. reports ≡ record { settings = settings_in settings.now; form = collection_in form.now; lines = problem_lines text.now }) }
+        ensures { IfOk result (λ reports. reports
+            ≡ record {
+              settings = settings_in settings.now;
+              form = collection_in form.now;
+              lines =
+                  problem_lines text.now;
+            }) }
     {
         Ok(Reports {
             lines: Lines::new(text),
@@ -158,14 +173,16 @@ impl<'a> Reports<'a> {
         })
     }
 
-    /// The next line that holds a problem, and what is told of it; none where there is none left. Takes memory for the reports on a
-    /// stretch of lines, and for a table and notes for each thread. Errors: want of memory alone, and then nothing more is to be asked.
+    /// The next line that holds a problem, and what is told of it; none where there is none left.
+    /// Takes memory for the reports on a stretch of lines, and for a table and notes for each
+    /// thread. Errors: want of memory alone, and then nothing more is to be asked.
     pub fn next<R: Threads + Sync>(
         &mut self,
         rt: &R,
         alloc: Global,
     ) -> Result<Option<Reported<'a>>, AllocError>
-        ensures { IfOk result (λ next. MatchOption next ((self.old.lines ≡ []) × (self.new ≡ self.old)) (λ one. IsNext self.old (seen one.line) one.report self.new)) }
+        ensures { IfOk result (λ next. MatchOption next ((self.old.lines ≡ [])
+            × (self.new ≡ self.old)) (λ one. IsNext self.old (seen one.line) one.report self.new)) }
     {
         refill(
             rt,

@@ -42,8 +42,8 @@ fn line_text(
     Ok(text)
 }
 
-// Decides the lines of a collection, many at a time, and writes each report in their order once it is
-// known, and the counts behind the last.
+// Decides the lines of a collection, many at a time, and writes each report in their order once it
+// is known, and the counts behind the last.
 fn collected<R: Threads + Sync, K: Sink>(
     rt: &R,
     alloc: Global,
@@ -97,10 +97,10 @@ fn collect_through<R: Threads + Sync, S: Source, K: Sink>(
 }
 
 /// Decides every problem of the collection that the source gives, of at most
-/// [`MOST_COLLECTION_BYTES`](crate::MOST_COLLECTION_BYTES), which is read whole first, and writes to the
-/// sink what is told of each line, in order, once it is known, and the counts behind the last. A line that
-/// is no problem doesn't end the run. Errors: a text that is too long; a source or a sink that failed; want
-/// of memory, behind whole lines.
+/// [`MOST_COLLECTION_BYTES`](crate::MOST_COLLECTION_BYTES), which is read whole first, and writes
+/// to the sink what is told of each line, in order, once it is known, and the counts behind the
+/// last. A line that is no problem doesn't end the run. Errors: a text that is too long; a source
+/// or a sink that failed; want of memory, behind whole lines.
 pub fn collection<R: Threads + Sync, S: Source, K: Sink>(
     rt: &R,
     alloc: Global,
@@ -108,21 +108,22 @@ pub fn collection<R: Threads + Sync, S: Source, K: Sink>(
     source: &mut S,
     sink: &mut K,
 ) -> Ended<Counts, NoFault>
-    // In plain words. Where it was answered, each line that holds a problem was told by a true report,
-    // in their order, and the counts behind them.
+    // In plain words. Where it was answered, each line that holds a problem was told by a true
+    // report, in their order, and the counts behind them.
     ensures collected { (counts : Counts) → result ≡ Ended.Answered counts
         → IsCollected (collect_in asked.now) (shown S.left S.faults source.old source.new)
         (shown K.kept K.faults sink.old sink.new) counts }
 
-    // In full: how it ended, what was written where it is cut short or fails, and the cause of each fault;
-    // the counts of faults rise only where the run ends for it.
+    // In full: how it ended, what was written where it is cut short or fails, and the cause of each
+    // fault; the counts of faults rise only where the run ends for it.
     ensures run { IsSerialRun (collection_meaning (collect_in asked.now))
         (shown S.left S.faults source.old source.new)
         (shown K.kept K.faults sink.old sink.new) result }
 
-    // Any text, told by the source and not too long, is answered, unless the outside fails or memory is
-    // wanted.
-    ensures complete { IsTextGiven (S.left source.old) → ¬ Rose (S.faults source.old) (S.faults source.new)
+    // Any text, told by the source and not too long, is answered, unless the outside fails or
+    // memory is wanted.
+    ensures complete { IsTextGiven (S.left source.old)
+        → ¬ Rose (S.faults source.old) (S.faults source.new)
         → ¬ Rose (K.faults sink.old) (K.faults sink.new) → IsAnswered result ⊎ WantsMemory result }
 {
     collect_through(rt, alloc, asked, source, sink)

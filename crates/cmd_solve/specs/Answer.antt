@@ -14,14 +14,15 @@ use Rattle.problem_answers.specs.Answer.{IsVerdictOf}
 use Rattle.problem_answers.specs.Reading.{StandsFor}
 use Rattle.one_run.specs.Stops.{Signals}
 
--- A verdict is that of a note with which a search of these settings is solved, whose workers poll a stop each.
+-- A verdict is that of a note with which a search of these settings is solved, whose workers poll a
+-- stop each.
 pub record IsVerdictFound (p : Board) (s : SettingsView) (stops : Signals) (solution : Solution) : Type 0 where
   pub note : Derivation
   pub search : IsSearchEnd p s stops.before stops.after (SearchSolved note)
   pub verdict : IsVerdictOf p note solution
 
--- A search gave up for its cause: so a search of these settings ends, with these workers, which poll a stop each; and
--- that one was stopped is the cause only where its stop signalled.
+-- A search gave up for its cause: so a search of these settings ends, with these workers, which
+-- poll a stop each; and that one was stopped is the cause only where its stop signalled.
 abbrev pub IsGivenUp : Board → SettingsView → Signals → Cause → List WorkerView → Type 0
 IsGivenUp p s stops cause crew = IsSearchEnd p s stops.before stops.after (SearchUnknown cause crew)
 

@@ -8,7 +8,8 @@ use Rattle.tsume_words.specs.Options.{deadline_option, expansions_option, file_w
 abbrev pub workers_option : Rule
 workers_option = number_option (codes "workers") 1 MOST_WORKERS (codes "1")
 
--- `solve` has the five numbers, of them 1,000,000 expansions where nothing is said, the deadline, the three flags and the file.
+-- `solve` has the five numbers, of them 1,000,000 expansions where nothing is said, the deadline,
+-- the three flags and the file.
 unfoldable pub solve_line : App
 solve_line = with_rule
     (with_rule

@@ -1,8 +1,8 @@
 //! The command `solve`: it reads the text of a problem, and tells that it is a mate, with a main
 //! line, or that it is none, each with a certificate; or that it was given up, and why.
 //!
-//! What its words ask for is a [`Solve`], which has its line of the command line and reads them, and
-//! is a command of [`one_run`]. [`solve`] is one run of it, whose clauses are what the command
+//! What its words ask for is a [`Solve`], which has its line of the command line and reads them,
+//! and is a command of [`one_run`]. [`solve`] is one run of it, whose clauses are what the command
 //! promises, in plain words first.
 #![tactic(auto)]
 

@@ -77,8 +77,8 @@ fn solve_through<R: Threads + Wait + Sync, S: Source, K: Sink, G: Gate, T: Stop 
 /// where a limit was used up first, a worker's stop signalled, or the certificate might have more
 /// entries than are read, that it is unknown, and why. Errors: a text that is no problem, with its
 /// first fault, or is too long; a source or a sink that failed; want of memory. The gate is passed
-/// for each visit of a position, as the worker that visits it (no clause says it). (The tsume rule; USI protocol:
-/// `checkmate`.)
+/// for each visit of a position, as the worker that visits it (no clause says it). (The tsume rule;
+/// USI protocol: `checkmate`.)
 pub fn solve<R: Threads + Wait + Sync, S: Source, K: Sink, G: Gate, T: Stop + Drop>(
     rt: &R,
     alloc: Global,
@@ -126,8 +126,8 @@ pub fn solve<R: Threads + Wait + Sync, S: Source, K: Sink, G: Gate, T: Stop + Dr
         (shown K.kept K.faults sink.old sink.new) result }
 
     // Each stop is armed once, for the deadline or for none, where the text stands for a problem,
-    // before any is polled; and only the workers' are polled, worker w's at place w. Else no stop is
-    // used; where memory is wanted, either.
+    // before any is polled; and only the workers' are polled, worker w's at place w. Else no stop
+    // is used; where memory is wanted, either.
     ensures used { AreUsedTill (solve_meaning (solve_in asked.now))
         (signals T.signal stops.old.items stops.new.items) result }
 
@@ -146,7 +146,8 @@ pub fn solve<R: Threads + Wait + Sync, S: Source, K: Sink, G: Gate, T: Stop + Dr
     solve_through(rt, alloc, asked, source, sink, gate, stops)
 }
 
-/// The same by one worker: it waits for nobody, so it returns where source, sink, gate and stops do.
+/// The same by one worker: it waits for nobody, so it returns where source, sink, gate and stops
+/// do.
 pub fn solve_alone<S: Source, K: Sink, G: Gate, T: Stop>(
     alloc: Global,
     asked: &Solve,

@@ -75,8 +75,8 @@ fn posed(asked: &Solve, input: &[u8]) -> Result<Problem, Unanswered<ProblemFault
     }
 }
 
-/// What is answered to the bytes of a problem's text by one worker, which polls the first stop: a verdict
-/// on the problem that they stand for, or that it was given up; or their first fault.
+/// What is answered to the bytes of a problem's text by one worker, which polls the first stop: a
+/// verdict on the problem that they stand for, or that it was given up; or their first fault.
 pub(crate) fn answer_alone<G: Gate, T: Stop>(
     alloc: Global,
     asked: &Solve,

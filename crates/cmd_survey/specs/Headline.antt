@@ -9,12 +9,14 @@ use Rattle.one_run.specs.Written.{Statement, IsStatedRun}
 use Rattle.cmd_survey.specs.Summary.{summary_text}
 use Rattle.cmd_survey.specs.declared.summary.Summary.{Summary}
 
--- A survey's summary is true: it begins with the number that was asked for, and its tallies are those of as many numbers as were asked for.
+-- A survey's summary is true: it begins with the number that was asked for, and its tallies are
+-- those of as many numbers as were asked for.
 pub record IsSurvey (range : SurveyView) (summary : Summary) : Type 0 where
   pub seed : summary.seed ≡ range.seed
   pub tallied : AreTallied range.seed range.count range.expansions summary.tallies
 
--- What `survey` means: an answer is a true summary of the numbers that were asked for, and its text is the summary's.
+-- What `survey` means: an answer is a true summary of the numbers that were asked for, and its text
+-- is the summary's.
 abbrev pub survey_meaning : SurveyView → Statement Summary
 survey_meaning range = record { IsTrue = IsSurvey range; text_of = summary_text }
 

@@ -12,6 +12,7 @@ seed_option = number_option (codes "seed") 0 MOST_SEED (codes "0")
 abbrev pub count_option : Rule
 count_option = number_option (codes "count") 1 MOST_COUNT (codes "100")
 
--- `survey` has the seed, the count, and the expansions, 10,000 where nothing is said. It reads no file.
+-- `survey` has the seed, the count, and the expansions, 10,000 where nothing is said. It reads no
+-- file.
 unfoldable pub survey_line : App
 survey_line = with_rule (with_rule (with_rule (new_app (codes "survey")) seed_option) count_option) (expansions_option (codes "10000"))

@@ -24,8 +24,8 @@ is_unknown Mate = false
 is_unknown NoMate = false
 is_unknown (Unknown cause) = true
 
--- The text of a survey: the number of its first problem and how many there were; how many of them are mates, how many have none, and of
--- how many neither was found.
+-- The text of a survey: the number of its first problem and how many there were; how many of them
+-- are mates, how many have none, and of how many neither was found.
 abbrev pub summary_text : Summary → List ℕ
 summary_text s = line (codes "survey " ++ decimal s.seed ++ 32 ∷ decimal (length s.tallies))
     ++ line (codes "mate " ++ decimal (count_by is_mate s.tallies))

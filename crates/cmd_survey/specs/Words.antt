@@ -8,7 +8,8 @@ use Rattle.tsume_words.specs.Meaning.{CommandMeaning, no_tests}
 use Rattle.cmd_survey.specs.declared.words.SurveyRange.{SurveyRange}
 use Rattle.cmd_survey.specs.Line.{survey_line}
 
--- Which of the problems that the generator makes are solved: from which number on, how many, and with how many expansions each.
+-- Which of the problems that the generator makes are solved: from which number on, how many, and
+-- with how many expansions each.
 pub record SurveyView : Type 0 where
   pub seed : ℕ
   pub count : ℕ

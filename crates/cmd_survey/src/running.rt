@@ -26,9 +26,9 @@ fn summary_of<R: Threads + Sync>(
     })
 }
 
-/// Surveys the problems of a range of numbers: decides them side by side, and writes to the sink how
-/// many ended in which way. Nothing is read. The whole text is made before the first write. Errors: a
-/// sink that failed; want of memory.
+/// Surveys the problems of a range of numbers: decides them side by side, and writes to the sink
+/// how many ended in which way. Nothing is read. The whole text is made before the first write.
+/// Errors: a sink that failed; want of memory.
 pub fn survey<R: Threads + Sync, K: Sink>(
     rt: &R,
     alloc: Global,

@@ -6,7 +6,8 @@ use run_telling::Status;
 use search_pool::Tally;
 use std::marker::Model;
 
-/// How the searches of a survey ended, by the rising number of their problems. Contracts see the list.
+/// How the searches of a survey ended, by the rising number of their problems. Contracts see the
+/// list.
 #[derive(Drop)]
 pub struct Tallies {
     tallies: Vec<Tally>,

@@ -1,4 +1,5 @@
-// The words of `survey`, and what they ask for. Lines of help end below 80 columns, where a test looks.
+// The words of `survey`, and what they ask for. Lines of help end below 80 columns, where a test
+// looks.
 ghost use Rattle.std.specs.Prelude.{◌≡◌, ◌≤◌, codes, false};
 ghost use Rattle.clap.specs.Words.{found_of, rows_of, rule_of};
 ghost use Rattle.search_limits.specs.Sizes.{IsFromTo};
@@ -11,7 +12,8 @@ use search_limits::{Expansions, MOST_COUNT, MOST_SEED};
 use std::alloc::{AllocError, Global};
 use tsume_words::{CommandWords, WordsEnd, expansions, expansions_option, number, number_option};
 
-/// What `survey` is asked: which of the problems that the generator makes are solved, and how long each is tried.
+/// What `survey` is asked: which of the problems that the generator makes are solved, and how long
+/// each is tried.
 #[derive(Clone, Copy, Debug, PartialEq, Eq)]
 pub struct SurveyRange {
     /// The number of the first, 0 to [`MOST_SEED`](search_limits::MOST_SEED).

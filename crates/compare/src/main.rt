@@ -1,9 +1,11 @@
-//! Compares the two searches: the one by proof numbers, whose certificate is extracted from its note, and the plain one, level by level.
+//! Compares the two searches: the one by proof numbers, whose certificate is extracted from its
+//! note, and the plain one, level by level.
 //!
-//! Both search the problems in the lines of standard input, as the command `collection` takes them (a line that is no problem is left
-//! out), or where there is none the problems 0 to 49 of the generator. The line that is printed says how many these are, how many each
-//! search decided, how many both did, and of how many of these the verdicts differ. Each certificate is checked; one that is refused ends the
-//! run with status 1, as want of memory and a failed read or write do.
+//! Both search the problems in the lines of standard input, as the command `collection` takes them
+//! (a line that is no problem is left out), or where there is none the problems 0 to 49 of the
+//! generator. The line that is printed says how many these are, how many each search decided, how
+//! many both did, and of how many of these the verdicts differ. Each certificate is checked; one
+//! that is refused ends the run with status 1, as want of memory and a failed read or write do.
 #![tactic(auto)]
 
 ghost use Rattle.visit_log.specs.Frame.{task_for};
@@ -28,7 +30,8 @@ const PROBLEMS: u64 = 50;
 
 const EXPANSIONS: u64 = 20_000;
 
-// How many problems each search decided, how many both did, and of how many of these the verdicts differ.
+// How many problems each search decided, how many both did, and of how many of these the verdicts
+// differ.
 #[derive(Clone, Copy)]
 struct Counts {
     problems: u64,

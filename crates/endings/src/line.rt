@@ -1,8 +1,8 @@
 // A line that says what to run.
 use std::alloc::{AllocError, Global};
 
-// What to run: what is arranged (`read`, `write`, `poll`, `blanks`, or nothing) with its number, the words, and the
-// input as it is spelled.
+// What to run: what is arranged (`read`, `write`, `poll`, `blanks`, or nothing) with its number,
+// the words, and the input as it is spelled.
 #[derive(Clone, Copy)]
 pub struct Line<'a> {
     arranged: &'a str,

@@ -15,7 +15,8 @@ use tsume_io::{MemSink, MemSource};
 
 const ROOM: usize = 65_536;
 
-// A stop for each worker that there may be; the first signals at its poll of this number, 0 for none.
+// A stop for each worker that there may be; the first signals at its poll of this number, 0 for
+// none.
 fn stops_at(alloc: Global, poll: u64) -> Result<Vec<MemStop>, AllocError>
     ensures { IfOk result (λ stops. vec_len stops ≡ MOST_WORKERS) }
 {
@@ -27,7 +28,8 @@ fn stops_at(alloc: Global, poll: u64) -> Result<Vec<MemStop>, AllocError>
     Ok(stops)
 }
 
-// A text with a mark before each of its lines, and a line that says so where its last one has no end.
+// A text with a mark before each of its lines, and a line that says so where its last one has no
+// end.
 fn write_marked<W: Write>(output: &mut W, mark: &str, text: &[u8]) -> io::Result<()> {
     let mut begins = true;
     for byte in text {

@@ -14,6 +14,7 @@ abbrev pub is_drop_on : ℕ → Move → Bool
 is_drop_on square (moves.Board from to promote) = false
 is_drop_on square (moves.Drop dropped to) = to.number == square
 
--- How many answers a list has: its moves of pieces on the board, plus the number of different squares on which its drops fall.
+-- How many answers a list has: its moves of pieces on the board, plus the number of different
+-- squares on which its drops fall.
 abbrev pub answers_of : List Move → ℕ
 answers_of list = count_by is_on_board list + count_by (λ square. list_any (is_drop_on square) list) (range_with_len 0 81)

@@ -1,4 +1,5 @@
--- What the list of evasions is made of and counted from, a stretch of the order of moves at a time: it serves private functions alone.
+-- What the list of evasions is made of and counted from, a stretch of the order of moves at a time:
+-- it serves private functions alone.
 use Rattle.std.specs.Prelude.{◌≡◌, ◌<◌, ◌↔◌, ℕ, List, length}
 use Rattle.bit_boards.specs.declared.piece.Kind.{Kind}
 use Rattle.bit_boards.specs.declared.piece.Side.{Side}
@@ -22,12 +23,14 @@ pub record AreEvasionsBefore (b : Board) (place many : ℕ) : Type 0 where
   pub lists : Lists (IsEvasionBefore (other b.side) b place) moves
   pub long : length moves ≡ many
 
--- The drop of a piece of some kind on the square is an evasion, and the kind comes before a place in the order of kinds.
+-- The drop of a piece of some kind on the square is an evasion, and the kind comes before a place
+-- in the order of kinds.
 pub record IsDropSquare (b : Board) (place : ℕ) (to : Square) : Type 0 where
   pub dropped : Kind
   pub evades : IsEvasion (other b.side) b (moves.Drop dropped to)
   pub early : place_of dropped < place
 
--- The set has exactly the squares on which the drop of a piece of one of the first kinds, up to a place in their order, is an evasion.
+-- The set has exactly the squares on which the drop of a piece of one of the first kinds, up to a
+-- place in their order, is an evasion.
 abbrev pub AreDropSquares : Board → ℕ → Mask → Type 0
 AreDropSquares b place squares = (to : Square) → Holds squares to.number ↔ IsDropSquare b place to

@@ -46,15 +46,19 @@ fn drop_squares(guard: &Guard, position: &Position) -> Mask
     squares
 }
 
-/// How many answers the defender has at a position: the evasions on the board, and the squares on which he may drop, drops on one
-/// square counted once; none where the defender isn't to move. So it is fewer than [`answers`](crate::answers) lists where two drops
-/// fall on one square. Takes no memory.
+/// How many answers the defender has at a position: the evasions on the board, and the squares on
+/// which he may drop, drops on one square counted once; none where the defender isn't to move. So
+/// it is fewer than [`answers`](crate::answers) lists where two drops fall on one square. Takes no
+/// memory.
 ///
-/// The side not to move must not be in check. (The tsume rule: the defender may make any legal move. Drops on one square between
-/// the king and a piece that checks from afar are one task for whoever wants to mate.)
+/// The side not to move must not be in check. (The tsume rule: the defender may make any legal
+/// move. Drops on one square between the king and a piece that checks from afar are one task for
+/// whoever wants to mate.)
 pub fn count_answers(problem: &Problem, position: &Position) -> u32
     requires { IsQuiet position.now }
-    ensures count { (moves : List Move) → Lists (IsEvasion problem.now.position.side position.now) moves → result ≡ answers_of moves }
+    ensures count { (moves : List Move)
+        → Lists (IsEvasion problem.now.position.side position.now) moves → result
+        ≡ answers_of moves }
     ensures to { result ≤ 13770 }
 {
     // No two moves have one place in the order of moves, and no king is in hand.

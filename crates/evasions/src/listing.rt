@@ -18,9 +18,11 @@ use std::alloc::{AllocError, Global};
 fn add_board_moves(moves: &mut Moves, guard: &Guard, position: &Position) -> Result<(), AllocError>
     requires guard { IsGuardOf position.now guard.now }
     requires empty { moves.old ≡ [] }
-    ensures { OnOk result (Lists (IsEvasionBefore (other position.now.side) position.now 13122) moves.new) }
+    ensures { OnOk result
+        (Lists (IsEvasionBefore (other position.now.side) position.now 13122) moves.new) }
 {
-    // No two moves have one place in the order, no two squares one number; and what a legal move has.
+    // No two moves have one place in the order, no two squares one number; and what a legal move
+    // has.
     order_laws();
     value_laws();
     legal_laws();
@@ -39,7 +41,8 @@ fn add_drops(moves: &mut Moves, guard: &Guard, position: &Position) -> Result<()
     requires before { Lists (IsEvasionBefore (other position.now.side) position.now 13122) moves.old }
     ensures { OnOk result (Lists (IsEvasion (other position.now.side) position.now) moves.new) }
 {
-    // No two moves have one place in the order, and no two kinds one place in theirs; and no king is in hand.
+    // No two moves have one place in the order, and no two kinds one place in theirs; and no king
+    // is in hand.
     order_laws();
     value_laws();
     position.laws();
@@ -49,11 +52,13 @@ fn add_drops(moves: &mut Moves, guard: &Guard, position: &Position) -> Result<()
     Ok(())
 }
 
-/// Makes the list that of the evasions at a position: exactly the legal moves of the problem's defender, each once, in the order of
-/// moves; none where the defender isn't to move. It takes memory only where the list has no room. Errors: want of memory alone; the
-/// list isn't to be used then.
+/// Makes the list that of the evasions at a position: exactly the legal moves of the problem's
+/// defender, each once, in the order of moves; none where the defender isn't to move. It takes
+/// memory only where the list has no room. Errors: want of memory alone; the list isn't to be used
+/// then.
 ///
-/// The side not to move must not be in check. (The tsume rule: the defender may make any legal move.)
+/// The side not to move must not be in check. (The tsume rule: the defender may make any legal
+/// move.)
 pub fn answers_into(
     problem: &Problem,
     position: &Position,
@@ -73,7 +78,8 @@ pub fn answers_into(
 
 /// The evasions at a position, as [`answers_into`] lists them. Errors: want of memory alone.
 ///
-/// The side not to move must not be in check. (The tsume rule: the defender may make any legal move.)
+/// The side not to move must not be in check. (The tsume rule: the defender may make any legal
+/// move.)
 pub fn answers(alloc: Global, problem: &Problem, position: &Position) -> Result<Moves, AllocError>
     requires { IsQuiet position.now }
     ensures { IfOk result (λ moves. Lists (IsEvasion problem.now.position.side position.now) moves) }

@@ -9,7 +9,8 @@ use std::alloc::Global;
 use std::process::Abort;
 use std::test::Fail;
 
-/// A rook chases a king round two positions. In each it has four checks; after three of them the king takes it.
+/// A rook chases a king round two positions. In each it has four checks; after three of them the
+/// king takes it.
 #[derive(Drop)]
 pub struct Chase {
     /// The problem, whose position is the first.
@@ -120,7 +121,8 @@ impl Chase {
         escaped_by(alloc, &self.problem, &self.second_checked, self.back, first)
     }
 
-    /// The escape after the check that goes on from the second position, which gets back to the first.
+    /// The escape after the check that goes on from the second position, which gets back to the
+    /// first.
     pub fn repeated(&self, alloc: Global) -> Result<Note, Unmade> {
         repeated(alloc, &self.problem, &self.second_checked, self.back)
     }

@@ -60,7 +60,8 @@ fn says(
     note: &Note,
 ) -> bool
     requires { IsQuiet position.now }
-    ensures { IsTrue result → Says conclusion problem.now.position.side (after position.now by) note.now }
+    ensures { IsTrue result
+        → Says conclusion problem.now.position.side (after position.now by) note.now }
 {
     if legal(position, by).is_err() {
         return false;
@@ -74,7 +75,8 @@ fn says(
     note.position().is_same(&apply(position, by))
 }
 
-// Whether there is a note for each of the moves, in their order, which concludes this about the position after it.
+// Whether there is a note for each of the moves, in their order, which concludes this about the
+// position after it.
 fn say_each(
     conclusion: Conclusion,
     problem: &Problem,
@@ -83,7 +85,8 @@ fn say_each(
     notes: &[Note],
 ) -> bool
     requires { IsQuiet position.now }
-    ensures { IsTrue result → SayEach conclusion problem.now.position.side position.now moves.now notes.now }
+    ensures { IsTrue result
+        → SayEach conclusion problem.now.position.side position.now moves.now notes.now }
 {
     if moves.len() != notes.len() {
         return false;
@@ -116,7 +119,8 @@ fn is_defender_in_check(problem: &Problem, position: &Position) -> bool
 // Whether the attacker is to move and has no check.
 fn ends_in_escape(alloc: Global, problem: &Problem, position: &Position) -> Result<bool, AllocError>
     requires { IsQuiet position.now }
-    ensures { IfOk result (λ ends. IsTrue ends → EndsInEscape problem.now.position.side position.now) }
+    ensures { IfOk result (λ ends. IsTrue ends
+        → EndsInEscape problem.now.position.side position.now) }
 {
     if !is_attackers(problem, position) {
         return Ok(false);
@@ -131,7 +135,8 @@ fn ends_in_escape(alloc: Global, problem: &Problem, position: &Position) -> Resu
 // Whether the defender is in check and has no evasion.
 fn ends_in_mate(alloc: Global, problem: &Problem, position: &Position) -> Result<bool, AllocError>
     requires { IsQuiet position.now }
-    ensures { IfOk result (λ ends. IsTrue ends → EndsInMate problem.now.position.side position.now) }
+    ensures { IfOk result (λ ends. IsTrue ends
+        → EndsInMate problem.now.position.side position.now) }
 {
     if !is_defender_in_check(problem, position) {
         return Ok(false);
@@ -151,7 +156,8 @@ fn escapes_after_all(
     notes: &[Note],
 ) -> Result<bool, AllocError>
     requires { IsQuiet position.now }
-    ensures { IfOk result (λ all. IsTrue all → EscapesAfterAll problem.now.position.side position.now notes.now) }
+    ensures { IfOk result (λ all. IsTrue all
+        → EscapesAfterAll problem.now.position.side position.now notes.now) }
 {
     let checks = checks(alloc, problem, position)?;
     if checks.len() == 0 {
@@ -174,7 +180,8 @@ fn mates_after_all(
     notes: &[Note],
 ) -> Result<bool, AllocError>
     requires { IsQuiet position.now }
-    ensures { IfOk result (λ all. IsTrue all → MatesAfterAll problem.now.position.side position.now notes.now) }
+    ensures { IfOk result (λ all. IsTrue all
+        → MatesAfterAll problem.now.position.side position.now notes.now) }
 {
     let evasions = answers(alloc, problem, position)?;
     if evasions.len() == 0 {

@@ -1,4 +1,5 @@
-// The checker on certificates whose verdicts are known from elsewhere, on one thread and on several.
+// The checker on certificates whose verdicts are known from elsewhere, on one thread and on
+// several.
 use crate::same::same;
 use crate::texts::{CHASE, MATE_IN_ONE, TWO_ROOKS};
 use board_core::{Kind, Move, Square};

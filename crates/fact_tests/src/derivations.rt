@@ -77,8 +77,9 @@ fn no_note_is_higher_than_the_limit_and_the_highest_is_dropped(
     Ok(())
 }
 
-// A check of the first position, the king's step after it, and what a bishop has there: a check after which the king
-// takes it, and one after which he steps back to the first position, with the bishop where it was.
+// A check of the first position, the king's step after it, and what a bishop has there: a check
+// after which the king takes it, and one after which he steps back to the first position, with the
+// bishop where it was.
 #[derive(Drop)]
 struct Detour {
     checked: Position,
@@ -136,8 +137,8 @@ impl Detour {
     }
 }
 
-// Each escape from the first position stands on the one before it twice, so that the last one's tree has more than
-// 2 ^ 1023 paths.
+// Each escape from the first position stands on the one before it twice, so that the last one's
+// tree has more than 2 ^ 1023 paths.
 #[test]
 fn a_note_that_the_next_holds_twice_is_one_note(rt: HostRuntime) -> Result<(), Fail> {
     let alloc = rt.alloc();

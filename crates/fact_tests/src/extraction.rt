@@ -1,4 +1,5 @@
-// Notes of mates and escapes that are known by the rules of shogi, and the texts of their certificates.
+// Notes of mates and escapes that are known by the rules of shogi, and the texts of their
+// certificates.
 use crate::chase::Chase;
 use crate::checked::{ended_mate, mated_all, mated_by};
 use crate::letters::{by, moved, problem};
@@ -21,8 +22,8 @@ const ROOKS_AGAIN: &str =
 // What stands for the text of a certificate with more entries than asked for at most.
 const TOO_MANY: &str = "too many";
 
-// The text of the certificate of so many entries at most that a note is extracted to; nothing, where it isn't closed or isn't about
-// the problem.
+// The text of the certificate of so many entries at most that a note is extracted to; nothing,
+// where it isn't closed or isn't about the problem.
 fn text_of(alloc: Global, problem: &Problem, note: &Note, most: usize) -> Result<Vec<u8>, Fail> {
     if !note.is_closed() {
         return Ok(Vec::new(alloc));

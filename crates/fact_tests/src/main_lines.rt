@@ -12,7 +12,8 @@ use usi_text::mate_line;
 const LONGEST_AT_LAST: &str =
     "certificate 1 mate 4\nproblem 9/4k4/8R/9/9/9/9/9/9 b R\n2 1c1a 3k5/R8/8R/9/9/9/9/9/9 b -\n1 1c1a 4k4/R8/8R/9/9/9/9/9/9 b -\n1 1c1a 5k3/R8/8R/9/9/9/9/9/9 b -\n3 R*9b 9/4k4/8R/9/9/9/9/9/9 b R\nend\n";
 
-// What is said of the main line of a mate's certificate; nothing, where it isn't valid for its own problem.
+// What is said of the main line of a mate's certificate; nothing, where it isn't valid for its own
+// problem.
 fn line_of(alloc: Global, text: &str) -> Result<Vec<u8>, Fail> {
     let certificate = read_cert(alloc, text.as_bytes())?;
     if let Certificate::Mate(mate) = &certificate {

@@ -1,4 +1,5 @@
-// Certificates read on one thread and on several: what is read, and the first fault wherever it stands.
+// Certificates read on one thread and on several: what is read, and the first fault wherever it
+// stands.
 use crate::same::{same, shown};
 use crate::texts::{CHASE, MATE_IN_ONE, TWO_ROOKS};
 use cert_text::{CertEnd, write_cert};
@@ -37,7 +38,8 @@ fn line_of(letter: char) -> &'static str {
     }
 }
 
-// Each fault in the first, a middle and the last stretch, where each line is one, and before others.
+// Each fault in the first, a middle and the last stretch, where each line is one, and before
+// others.
 #[test]
 fn the_first_fault_is_the_same_by_any_number_of_pieces(rt: HostRuntime) -> Result<(), Fail> {
     for (lines, wanted) in [

@@ -14,7 +14,8 @@ is_plain byte = byte == 10 || is_in_range 32 126 byte
 abbrev pub IsPlain : List ℕ → Type 0
 IsPlain bytes = list_all is_plain bytes ≡ true
 
--- Whether a character is plain or stands in Japanese texts: in a block of punctuation, of kana, of ideographs or of wide forms.
+-- Whether a character is plain or stands in Japanese texts: in a block of punctuation, of kana, of
+-- ideographs or of wide forms.
 abbrev pub is_readable : ℕ → Bool
 is_readable character = is_plain character || (is_in_range 0x3000 0x30ff character
     || (is_in_range 0x4e00 0x9fff character || is_in_range 0xff01 0xff5e character))

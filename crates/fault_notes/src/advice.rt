@@ -37,7 +37,8 @@ const ON_ANSWER: &str =
 const ON_GIVING_UP: &str =
     "This looks like the answer of a search that gave up. There is no problem in it.\n";
 
-/// What is said of a text that looks like something else than a KIF file, where there is something to say; else none.
+/// What is said of a text that looks like something else than a KIF file, where there is something
+/// to say; else none.
 pub(crate) fn advice_on_diagram_look(look: Look) -> Option<&'static str>
     ensures { IfSome result (λ advice. IsPlain advice.now) }
 {
@@ -53,7 +54,8 @@ pub(crate) fn advice_on_diagram_look(look: Look) -> Option<&'static str>
     }
 }
 
-/// What is said of a text that looks like something else than a certificate, where there is something to say; else none.
+/// What is said of a text that looks like something else than a certificate, where there is
+/// something to say; else none.
 pub(crate) fn advice_on_certificate_look(look: Look) -> Option<&'static str>
     ensures { IfSome result (λ advice. IsPlain advice.now) }
 {

@@ -8,7 +8,8 @@ use crate::look::{Look, holds, look_of};
 use kif_text::KifFault;
 use std::alloc::{AllocError, Global};
 
-// The most characters of a line that are shown: where each takes two columns, they take less than 80 behind four spaces.
+// The most characters of a line that are shown: where each takes two columns, they take less than
+// 80 behind four spaces.
 const MOST_CHARACTERS: usize = 36;
 
 // The text whose lines are counted: without the byte-order mark in front.
@@ -98,7 +99,8 @@ fn append_text_line(
     append_text(alloc, out, input, number)
 }
 
-// The number of the line with this row of the diagram, both from 1; of the last line where there are fewer rows.
+// The number of the line with this row of the diagram, both from 1; of the last line where there
+// are fewer rows.
 fn number_of_row(text: &str, row: u8) -> usize {
     let mut left = row;
     let mut number: usize = 0;
@@ -114,8 +116,8 @@ fn number_of_row(text: &str, row: u8) -> usize {
     number
 }
 
-// Writes the line with this row of the diagram, and marks the cell in this column. The bar takes one column of the line, and
-// each cell three: its second character is a wide one.
+// Writes the line with this row of the diagram, and marks the cell in this column. The bar takes
+// one column of the line, and each cell three: its second character is a wide one.
 #[tactic(auto, using(crate::proofs::Plain::plain_append, crate::proofs::Plain::plain_decimal))]
 fn append_cell(
     alloc: Global,

@@ -23,7 +23,8 @@ pub(crate) fn line_of(text: &[u8], number: usize) -> Line<'_> {
     Line { bytes, number }
 }
 
-/// The line on which this byte of the text stands, from 0, and how many bytes of the line stand before it.
+/// The line on which this byte of the text stands, from 0, and how many bytes of the line stand
+/// before it.
 pub(crate) fn line_at(text: &[u8], at: usize) -> (Line<'_>, usize) {
     let mut before = at;
     let mut number: usize = 1;
@@ -102,7 +103,8 @@ pub(crate) fn append_mark(out: &mut Vec<u8>, spaces: usize) -> Result<(), AllocE
     append(out, b"^")
 }
 
-/// Writes the line on which this byte of the text stands, from 0, cut around it where it is long, and marks the byte.
+/// Writes the line on which this byte of the text stands, from 0, cut around it where it is long,
+/// and marks the byte.
 #[tactic(auto, using(crate::proofs::Plain::plain_append, crate::proofs::Plain::plain_decimal))]
 pub(crate) fn append_place(
     alloc: Global,

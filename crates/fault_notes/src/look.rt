@@ -40,7 +40,8 @@ fn is_utf16(text: &[u8]) -> bool {
         || text.iter().take(2).any(|byte| *byte == 0)
 }
 
-// Words that stand in records and diagrams, in ASCII, UTF-8 and Shift JIS (in Japanese: handicap, in hand, moves to come).
+// Words that stand in records and diagrams, in ASCII, UTF-8 and Shift JIS (in Japanese: handicap,
+// in hand, moves to come).
 const WORDS_OF_RECORDS: [&[u8]; 8] = [
     b"+----",
     b"P1-",
@@ -60,7 +61,8 @@ fn is_record(text: &[u8]) -> bool {
     text.starts_with(b"#") || has_words_of_records(text)
 }
 
-/// Whether the line may be a problem's: printable ASCII and tabs, with a `/`, as stands between an SFEN's rows.
+/// Whether the line may be a problem's: printable ASCII and tabs, with a `/`, as stands between an
+/// SFEN's rows.
 pub(crate) fn is_like_problem(line: &[u8]) -> bool {
     let line = line.trim_ascii_end();
     holds(line, b"/") && line.iter().all(|byte| matches!(*byte, b'\t' | b' '..=b'~'))

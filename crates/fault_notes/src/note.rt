@@ -68,7 +68,8 @@ fn advice_at(fault: TextFault, text: &[u8], at: usize) -> &'static str
     advice_on_problem(fault)
 }
 
-// What is said of a text that is well formed and no position's. White is to move where the second field says so.
+// What is said of a text that is well formed and no position's. White is to move where the second
+// field says so.
 fn advice_on_whole(fault: TextFault, text: &[u8]) -> &'static str
     ensures { IsPlain result.now }
 {
@@ -116,8 +117,8 @@ fn is_claim(line: &[u8]) -> bool {
     behind.is_some_and(is_number)
 }
 
-// The line of the head that isn't as it has to be: the one with the claim; else the problem's, where no line stands before these or it isn't
-// an SFEN's; else the first of all.
+// The line of the head that isn't as it has to be: the one with the claim; else the problem's,
+// where no line stands before these or it isn't an SFEN's; else the first of all.
 fn number_of_bad_line(text: &[u8]) -> usize {
     let claim = number_of_claim(text);
     if !is_claim(line_of(text, claim).bytes) {
@@ -206,13 +207,15 @@ fn append_certificate_note(
     }
 }
 
-/// What is told of a trouble behind its first line: where a line of the input is at fault, that line with its number, and with the place
-/// marked where there is one, unless the text looks like something else; then what was expected, or what to do. The input is the whole text at fault; of a trouble that isn't a
-/// text's it doesn't count. Lines are of some 80 columns at most, and end with a line feed. They are of printable ASCII, but of a KIF text,
-/// where they also have the Japanese characters that such texts are written in. Errors: want of memory alone.
+/// What is told of a trouble behind its first line: where a line of the input is at fault, that
+/// line with its number, and with the place marked where there is one, unless the text looks like
+/// something else; then what was expected, or what to do. The input is the whole text at fault; of
+/// a trouble that isn't a text's it doesn't count. Lines are of some 80 columns at most, and end
+/// with a line feed. They are of printable ASCII, but of a KIF text, where they also have the
+/// Japanese characters that such texts are written in. Errors: want of memory alone.
 pub fn explain(alloc: Global, trouble: Trouble, input: &[u8]) -> Result<Vec<u8>, AllocError>
-    // Whatever the input's bytes are, what is told of them is of printable ASCII and line feeds, and of a diagram's of Japanese
-    // characters too.
+    // Whatever the input's bytes are, what is told of them is of printable ASCII and line feeds,
+    // and of a diagram's of Japanese characters too.
     ensures harmless { IfOk result (λ note. IsHarmless trouble note.items) }
 {
     let mut out = Vec::new(alloc);

@@ -18,7 +18,8 @@ use Rattle.hand_dominance.proofs.Moves.{handed, same_board, legal_as, own_after,
 
 -- 1. SO MANY LESS FOR THE ATTACKER, SO MANY MORE FOR THE DEFENDER.
 
--- with these hands the attacker has so many less than in the position, and the defender so many more
+-- with these hands the attacker has so many less than in the position, and the defender so many
+-- more
 pub record IsShifted (attacker : Side) (less more : List ℕ) (b : Board) (black white : List ℕ) : Type 0 where
   pub own : by_side attacker black white ≡ less_by (hand_of b attacker) less
   pub fits : Fits less (hand_of b attacker)

@@ -71,7 +71,8 @@ rank_above attacker entries entry position borne listed kept above =
 
 -- 3. ESCAPES.
 
--- the evasion that answers a check at the position above answers it below, and leads below what it led to
+-- the evasion that answers a check at the position above answers it below, and leads below what it
+-- led to
 pub none_below : (attacker : Side) (s : List Board) → IsClosedBelow attacker s → (n : ℕ) (position : Board) → IsKept position
     → IsBelowListed attacker s position → RankAtMost attacker n position → ⊥
 none_below attacker s closed zero position kept low h = h

@@ -76,7 +76,8 @@ drop_as b black white dropped to TwoPawns none r = r
 drop_as b black white dropped to KingLeft none r = r
 drop_as b black white dropped to PawnMate none r = pawn_as b black white dropped to r
 
--- a move that is legal with these hands is legal with others, where no kind is out of hand that these have
+-- a move that is legal with these hands is legal with others, where no kind is out of hand that
+-- these have
 pub legal_as : (b : Board) (black white : List ℕ) (move : Move)
     → ((dropped : Kind) → hand_count (hand_of b b.side) dropped ≡ 0 → hand_count (by_side b.side black white) dropped ≡ 0)
     → IsLegal (handed b black white) move → IsLegal b move

@@ -1,4 +1,5 @@
--- What lists of positions say by dominance: when entries of a mate, and when the positions of an escape, bear out what they claim.
+-- What lists of positions say by dominance: when entries of a mate, and when the positions of an
+-- escape, bear out what they claim.
 use Rattle.std.specs.Prelude.{◌≡◌, ◌<◌, ℕ, List, Contains}
 use Rattle.bit_boards.specs.declared.piece.Side.{Side}
 use Rattle.board_core.specs.declared.moves.Move.{Move}
@@ -19,8 +20,8 @@ pub record IsAboveListed (attacker : Side) (entries : List MateEntry) (rank : �
   pub above : Dominates attacker position entry.at
   pub lower : entry.rank.number < rank
 
--- An entry of a mate is borne out by dominance: its move is a check of its position, and each evasion to it leads to a position that dominates
--- a listed one of lower rank.
+-- An entry of a mate is borne out by dominance: its move is a check of its position, and each
+-- evasion to it leads to a position that dominates a listed one of lower rank.
 pub record IsBorneOutAbove (entries : List MateEntry) (attacker : Side) (entry : MateEntry) : Type 0 where
   pub check : IsCheck attacker entry.at entry.by
   pub evasions : (evasion : Move) → IsEvasion attacker (after entry.at entry.by) evasion
@@ -30,7 +31,8 @@ pub record IsBorneOutAbove (entries : List MateEntry) (attacker : Side) (entry :
 abbrev pub AreBorneOutAbove : List MateEntry → Side → Type 0
 AreBorneOutAbove entries attacker = (entry : MateEntry) → Contains entries entry → IsKept entry.at × IsBorneOutAbove entries attacker entry
 
--- A law: whatever dominates the position of an entry that is so borne out with all the others is a mate within its rank.
+-- A law: whatever dominates the position of an entry that is so borne out with all the others is a
+-- mate within its rank.
 abbrev pub RanksByDominance : Type 0
 RanksByDominance = (attacker : Side) (entries : List MateEntry) (entry : MateEntry) (position : Board) → AreBorneOutAbove entries attacker
     → Contains entries entry → IsKept position → Dominates attacker position entry.at → RankAtMost attacker entry.rank.number position
@@ -43,8 +45,8 @@ pub record IsBelowListed (attacker : Side) (s : List Board) (position : Board) :
   pub inside : Contains s listed
   pub below : Dominates attacker listed position
 
--- The positions are closed by dominance: at each the attacker is to move, and each check from it has an evasion that leads to a position that
--- one of them dominates.
+-- The positions are closed by dominance: at each the attacker is to move, and each check from it
+-- has an evasion that leads to a position that one of them dominates.
 pub record IsClosedBelow (attacker : Side) (s : List Board) : Type 0 where
   pub turn : (b : Board) → Contains s b → b.side ≡ attacker
   pub kept : (b : Board) → Contains s b → IsKept b

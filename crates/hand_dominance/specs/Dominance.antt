@@ -7,15 +7,17 @@ use Rattle.board_core.specs.Board.{Board, hand_count, hand_of}
 use Rattle.board_core.specs.Kept.{IsKept}
 use Rattle.mate_def.specs.Mate.{RankAtMost, IsMatedWithin, Escapes, CanEvadeTo}
 
--- The one position dominates the other, for this attacker: the same board, the same side to move, and, kind by kind, the attacker has at
--- least as many in hand as in the other, the defender at most as many.
+-- The one position dominates the other, for this attacker: the same board, the same side to move,
+-- and, kind by kind, the attacker has at least as many in hand as in the other, the defender at
+-- most as many.
 pub record Dominates (attacker : Side) (over under : Board) : Type 0 where
   pub cells : over.cells ≡ under.cells
   pub turn : over.side ≡ under.side
   pub more : (kind : Kind) → hand_count (hand_of under attacker) kind ≤ hand_count (hand_of over attacker) kind
   pub less : (kind : Kind) → hand_count (hand_of over (other attacker)) kind ≤ hand_count (hand_of under (other attacker)) kind
 
--- What carries up: of two positions, both kept, one of which dominates the other, it is true of that one if of the other.
+-- What carries up: of two positions, both kept, one of which dominates the other, it is true of
+-- that one if of the other.
 abbrev pub CarriesUp : (Side → Board → Type 0) → Type 0
 CarriesUp P = (attacker : Side) (over under : Board) → IsKept over → IsKept under → Dominates attacker over under → P attacker under → P attacker over
 

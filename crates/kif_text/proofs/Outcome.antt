@@ -153,7 +153,8 @@ abbrev as_kif : Result Board Bad → Result Board KifFault
 as_kif (Ok p) = Ok p
 as_kif (Err bad) = Err (faults.BadPosition bad)
 
--- The four ways of an input: it isn't UTF-8; a line is faulty; rows are missing; or its lines show the parts of a position.
+-- The four ways of an input: it isn't UTF-8; a line is faulty; rows are missing; or its lines show
+-- the parts of a position.
 data Way (input : List ℕ) (outcome : Result Board KifFault) : Type 0 where
   broken : (IsUtf8 input → ⊥) → outcome ≡ Err (faults.NotUtf8 (utf8_valid_len input)) → Way input outcome
   faulty : IsUtf8 input → (fault : KifFault) → HasFirst HasLineFault (header_of input) fault → outcome ≡ Err fault → Way input outcome

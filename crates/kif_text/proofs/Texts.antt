@@ -106,7 +106,8 @@ text_is text other r e t = (slice_eq-Decides Decides-eqb text other r e).0 t
 pub text_is_not : (text other : List ℕ) (r : Bool) → r ≡ pointwise eqb text other → r ≡ false → text ≡ other → ⊥
 text_is_not text other r e f same = let t : r ≡ true = (slice_eq-Decides Decides-eqb text other r e).1 same in cc
 
--- A word that has a character comes first; one that has none doesn't count; where nothing stands, no word does.
+-- A word that has a character comes first; one that has none doesn't count; where nothing stands,
+-- no word does.
 pub word_next : (text word rest : List ℕ) → IsUtf8 word → 0 < length word → words (chars text) ≡ some_of (chars word ∷ []) ++ words (chars rest) → words (chars text) ≡ chars word ∷ words (chars rest)
 word_next text word rest utf8 some cut = cut ∙ ap (λ (l : List (List ℕ)). l ++ words (chars rest)) one
   where

@@ -44,8 +44,8 @@ abbrev pub cell_with : Option Piece → Option (Option Piece)
 cell_with None = None
 cell_with (Some piece) = Some (Some piece)
 
--- What stands in a cell of two characters, a mark and what it shows: nothing behind a space, or a piece of the mark's side;
--- where the two are a cell at all.
+-- What stands in a cell of two characters, a mark and what it shows: nothing behind a space, or a
+-- piece of the mark's side; where the two are a cell at all.
 abbrev pub cell_of : ℕ → ℕ → Option (Option Piece)
 cell_of mark shown =
     if is mark " " && is shown "・" then Some None

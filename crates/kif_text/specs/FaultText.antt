@@ -5,7 +5,8 @@ use Rattle.sfen_text.specs.FaultText.{bad_position_text}
 use Rattle.kif_text.specs.declared.fault.KifFault.{KifFault}
 use Rattle.kif_text.specs.declared.fault.KifFault.TheVariants.{NotUtf8, HandicapName, BadCell, BadHand, BadCount, HandTwice, NoDiagram, BadPosition}
 
--- What is wrong with a text, in words, with its byte, its line, or its row and column; or what is wrong with the position.
+-- What is wrong with a text, in words, with its byte, its line, or its row and column; or what is
+-- wrong with the position.
 abbrev pub fault_text : KifFault → List ℕ
 fault_text (NotUtf8 at) = codes "not UTF-8 at " ++ decimal at
 fault_text (HandicapName line) = codes "handicap name in line " ++ decimal line

@@ -53,8 +53,9 @@ HasFaultSaid line rows (turn side) fault = ⊥
 abbrev pub HasLineFault : List (List ℕ) → List ℕ → KifFault → Type 0
 HasLineFault before line fault = HasFaultSaid (length before + 1) (length (rows_of before)) (meaning line) fault
 
--- The lines give these cells, hands and side: no line is faulty, there are nine rows, each hand is what the last line of it
--- names, and the side to move is the one that is named last; Black, where none is.
+-- The lines give these cells, hands and side: no line is faulty, there are nine rows, each hand is
+-- what the last line of it names, and the side to move is the one that is named last; Black, where
+-- none is.
 pub record Shows (list : List (List ℕ)) (b : Board) : Type 0 where
   pub well : HasNone HasLineFault list
   pub nine : length (rows_of list) ≡ 9

@@ -21,8 +21,9 @@ begins line word = starts_with nat_eq line (utf8 word)
 abbrev pub behind : List ℕ → String → List ℕ
 behind line word = drop (length (utf8 word)) line
 
--- What a line says: nothing that counts, that the game is a handicap game, a side's pieces in hand by the text behind the
--- colon, a row of the diagram by the characters behind the bar, or whose turn it is.
+-- What a line says: nothing that counts, that the game is a handicap game, a side's pieces in hand
+-- by the text behind the colon, a row of the diagram by the characters behind the bar, or whose
+-- turn it is.
 pub data Meaning : Type 0 where
   other : Meaning
   handicap : Meaning
@@ -61,7 +62,7 @@ without_mark text = if starts_with nat_eq text (0xEF ∷ 0xBB ∷ 0xBF ∷ []) t
 abbrev pub goes_on : List ℕ → Bool
 goes_on line = not (begins line "手数----")
 
--- The lines of the header: those before the first that begins with `手数----`. A line feed ends a line, and a carriage
--- return before it doesn't count.
+-- The lines of the header: those before the first that begins with `手数----`. A line feed ends a
+-- line, and a carriage return before it doesn't count.
 unfoldable pub header_lines : List ℕ → List (List ℕ)
 header_lines text = take_while goes_on (lines text)

@@ -14,12 +14,14 @@ use Rattle.kif_text.specs.Words.{HasWordFault, hand_with, HasHandFault, hand_of}
 use Rattle.kif_text.specs.Rows.{cell_in, is_well, HasBadColumn, HasRowFault}
 use Rattle.kif_text.specs.Header.{rows_of, hand_said, turn_said, last_said, HasLineFault}
 
--- The text of a hand in this line was read: it has no fault, and names the hand; or it has the fault.
+-- The text of a hand in this line was read: it has no fault, and names the hand; or it has the
+-- fault.
 abbrev pub IsHandRead : ℕ → List ℕ → Result (List ℕ) KifFault → Type 0
 IsHandRead line text (Ok hand) = ((fault : KifFault) → HasHandFault line text fault → ⊥) × (hand ≡ hand_of (Some text))
 IsHandRead line text (Err fault) = HasHandFault line text fault
 
--- A word behind these words of the line was read: it has no fault, and the hand has it too; or it has the fault.
+-- A word behind these words of the line was read: it has no fault, and the hand has it too; or it
+-- has the fault.
 abbrev pub IsWordRead : ℕ → List (List ℕ) → List ℕ → Result (List ℕ) KifFault → Type 0
 IsWordRead line before word (Ok hand) = ((fault : KifFault) → HasWordFault line before word fault → ⊥) × (hand ≡ hand_with (before ++ word ∷ []))
 IsWordRead line before word (Err fault) = HasWordFault line before word fault
@@ -29,7 +31,8 @@ abbrev pub IsCellSplit : List ℕ → Option (Option Piece × Bor (List ℕ)) �
 IsCellSplit characters None = cell_of (slice_index characters 0) (slice_index characters 1) ≡ None
 IsCellSplit characters (Some split) = (cell_of (slice_index characters 0) (slice_index characters 1) ≡ Some split.0) × (chars split.1.now ≡ drop 2 characters)
 
--- A row behind so many rows was read: each column is as it must be, and these are its cells; or it has the fault.
+-- A row behind so many rows was read: each column is as it must be, and these are its cells; or it
+-- has the fault.
 abbrev pub IsRowRead : ℕ → List ℕ → Result (List (Option Piece)) KifFault → Type 0
 IsRowRead before row (Ok cells) = ((column : ℕ) → 1 ≤ column → column ≤ 10 → is_well row column ≡ true) × ((column : ℕ) → 1 ≤ column → column ≤ 9 → piece_at cells (column - 1) ≡ content_of (cell_in row column))
 IsRowRead before row (Err fault) = (column : ℕ) × HasBadColumn row column × (fault ≡ BadCell (before + 1) column)

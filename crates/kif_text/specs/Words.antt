@@ -1,4 +1,5 @@
--- The pieces in hand, as the text of a hand names them: items between blanks, each a kind's character and a count.
+-- The pieces in hand, as the text of a hand names them: items between blanks, each a kind's
+-- character and a count.
 use Rattle.std.specs.Prelude.{◌≡◌, ◌≢◌, ℕ, List, [], ◌∷◌, length, map, filter, replicate, is_some, Option, Some, None, nat_lt, unwrap_or, if◌then◌else◌, codes}
 use Rattle.std.specs.List.{slice_split, sum_by}
 use Rattle.std.specs.Str.{chars, encode_utf8_all}
@@ -45,8 +46,8 @@ count_for kind list = sum_by (count_in kind) list
 abbrev pub hand_with : List (List ℕ) → List ℕ
 hand_with list = map (λ kind. count_for kind list) (Pawn ∷ Lance ∷ Knight ∷ Silver ∷ Gold ∷ Bishop ∷ Rook ∷ [])
 
--- The fault of a word in this line whose first character names this kind, or none, and whose others name this count, or none:
--- no kind, a kind that the words in front named already, or no count.
+-- The fault of a word in this line whose first character names this kind, or none, and whose others
+-- name this count, or none: no kind, a kind that the words in front named already, or no count.
 abbrev pub fault_of : ℕ → List (List ℕ) → Option Kind → Option ℕ → Option KifFault
 fault_of line before None count = Some (BadHand line)
 fault_of line before (Some kind) count =
@@ -60,7 +61,8 @@ HasWordFault line before word fault = fault_of line before (word_kind word) (wor
 abbrev pub HasHandFault : ℕ → List ℕ → KifFault → Type 0
 HasHandFault line text fault = (text ≢ encode_utf8_all (codes "なし")) × HasFirst (HasWordFault line) (words (chars text)) fault
 
--- The hand that a text names; the empty one where there is no text, and for `なし`, which names no kind.
+-- The hand that a text names; the empty one where there is no text, and for `なし`, which names no
+-- kind.
 abbrev pub hand_of : Option (List ℕ) → List ℕ
 hand_of None = replicate 7 0
 hand_of (Some text) = hand_with (words (chars text))

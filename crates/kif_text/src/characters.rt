@@ -9,7 +9,8 @@ use board_core::{Kind, Piece, Side};
 
 // The first character of a text, and what stands behind it.
 pub fn split_first(text: &str) -> Option<(char, &str)>
-    ensures split { MatchOption result (chars text.now ≡ []) (λ x. chars text.now ≡ x.0 ∷ chars x.1.now) }
+    ensures split { MatchOption result (chars text.now ≡ []) (λ x. chars text.now
+        ≡ x.0 ∷ chars x.1.now) }
     ensures text { IfSome result (λ x. IsUtf8 x.1.now) }
 {
     let mut characters = text.chars();

@@ -22,7 +22,8 @@ fn with_count(hand: Hand, kind: Kind, count: u8) -> Hand
 // What stands before the first blank, and what stands behind it.
 fn cut_word(text: &str) -> (&str, &str)
     requires { 0 < length text.now }
-    ensures words { words (chars text.now) ≡ some_of (chars result.0.now ∷ []) ++ words (chars result.1.now) }
+    ensures words { words (chars text.now)
+        ≡ some_of (chars result.0.now ∷ []) ++ words (chars result.1.now) }
     ensures shorter { length result.1.now < length text.now }
     ensures word { IsUtf8 result.0.now }
     ensures rest { IsUtf8 result.1.now }
@@ -35,7 +36,8 @@ fn cut_word(text: &str) -> (&str, &str)
 
 // The hand with one more item.
 fn take_item(hand: Hand, item: &str, line: usize) -> Result<Hand, KifFault>
-    ensures { (before : List (List ℕ)) → hand ≡ hand_with before → IsWordRead line before (chars item.now) result }
+    ensures { (before : List (List ℕ)) → hand ≡ hand_with before
+        → IsWordRead line before (chars item.now) result }
 {
     let Some((first, rest)) = split_first(item) else {
         return Err(KifFault::BadHand(line));

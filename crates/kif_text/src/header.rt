@@ -10,7 +10,8 @@ use crate::lines::{Line, begins, line_of};
 use crate::row::cells_of;
 use board_core::{Hand, Piece, Side};
 
-// What was read so far: how many rows, their cells by the number of the square, the hands and the side to move.
+// What was read so far: how many rows, their cells by the number of the square, the hands and the
+// side to move.
 #[derive(Clone, Copy)]
 pub struct Diagram {
     pub rows: u8,
@@ -59,7 +60,8 @@ impl Diagram {
     // Reads one more line, of this number.
     fn take_line(&mut self, line: &str, number: usize) -> Result<(), KifFault>
         requires { self.old.rows ≤ 9 }
-        ensures { (list : List (List ℕ)) → IsReadFrom list self.old → number ≡ length list + 1 → IsLineRead list line.now self.new result }
+        ensures { (list : List (List ℕ)) → IsReadFrom list self.old → number ≡ length list + 1
+            → IsLineRead list line.now self.new result }
     {
         match line_of(line) {
             Line::Other => {}

@@ -8,7 +8,8 @@ use board_core::Side;
 // What a line says.
 #[derive(Clone, Copy)]
 pub enum Line<'a> {
-    // Nothing that counts here: names and values, the frame, the numbers of the files, comments, empty lines.
+    // Nothing that counts here: names and values, the frame, the numbers of the files, comments,
+    // empty lines.
     Other,
     // That the game is a handicap game.
     Handicap,
@@ -28,14 +29,17 @@ pub fn begins(line: &str, word: &str) -> bool
 
 // Whether a line begins with one of two words.
 fn begins_either(line: &str, word: &str, other: &str) -> bool
-    ensures { result ≡ (starts_with nat_eq line.now word.now || starts_with nat_eq line.now other.now) }
+    ensures { result ≡ (starts_with nat_eq line.now word.now || starts_with nat_eq line.now
+        other.now) }
 {
     begins(line, word) || begins(line, other)
 }
 
 // What stands behind a word at the front of a line.
 fn behind<'a>(line: &'a str, word: &str) -> Option<&'a str>
-    ensures { MatchOption result (starts_with nat_eq line.now word.now ≡ false) (λ rest. (starts_with nat_eq line.now word.now ≡ true) × (rest.now ≡ drop (length word.now) line.now)) }
+    ensures { MatchOption result (starts_with nat_eq line.now word.now
+        ≡ false) (λ rest. (starts_with nat_eq line.now word.now ≡ true)
+        × (rest.now ≡ drop (length word.now) line.now)) }
 {
     line.strip_prefix(word)
 }

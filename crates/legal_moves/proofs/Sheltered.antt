@@ -248,7 +248,8 @@ king_dropped old new side to piece king d plain k = record {
   ];
 }
 
--- who attacks after the drop, and isn't the piece that was dropped, attacked before, and it doesn't stand between
+-- who attacks after the drop, and isn't the piece that was dropped, attacked before, and it doesn't
+-- stand between
 pub attacked_before : (old new : List (Option Piece)) (side : Side) (to : ℕ) (piece : Piece) (s end : ℕ) → Dropped old new to piece → s ≢ to
     → AttacksFrom new side s end → AttacksFrom old side s end × (¬ IsBetween s to end)
 attacked_before old new side to piece s end d apart attack =

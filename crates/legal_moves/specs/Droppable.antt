@@ -7,15 +7,16 @@ use Rattle.bit_boards.specs.Piece.{is_dead, plain_piece}
 use Rattle.board_core.specs.Board.{Board, piece_at, hand_count, hand_of, is_king_of}
 use Rattle.shogi_rules.specs.Rules.{IsInCheck, HasPawnOnFile, after_drop}
 
--- What a drop has against which nothing speaks but perhaps what it means for the kings: the square is empty, the piece is in hand and
--- could move from there, and it is no second pawn on the file.
+-- What a drop has against which nothing speaks but perhaps what it means for the kings: the square
+-- is empty, the piece is in hand and could move from there, and it is no second pawn on the file.
 pub record MayDrop (b : Board) (kind : Kind) (to : ℕ) : Type 0 where
   pub empty : piece_at b.cells to ≡ None
   pub in_hand : 0 < hand_count (hand_of b b.side) kind
   pub alive : is_dead to (Some (plain_piece kind b.side)) ≡ false
   pub pawn : ¬ ((kind ≡ Pawn) × HasPawnOnFile b.cells b.side to)
 
--- The square is empty, the piece could move from there, and the mover's king isn't attacked once it stands there.
+-- The square is empty, the piece could move from there, and the mover's king isn't attacked once it
+-- stands there.
 pub record IsFreeFor (b : Board) (kind : Kind) (to : ℕ) : Type 0 where
   pub on_board : to < 81
   pub empty : piece_at b.cells to ≡ None

@@ -1,4 +1,5 @@
--- Legal moves by the numbers of squares of the board, and what the king of the side to move needs to be safe.
+-- Legal moves by the numbers of squares of the board, and what the king of the side to move needs
+-- to be safe.
 use Rattle.std.specs.Prelude.{◌≡◌, ◌<◌, ◌↔◌, ◌⊎◌, ℕ, Option, Some, None, Bool, true, false}
 use Rattle.bit_boards.specs.declared.piece.Kind.{Kind}
 use Rattle.bit_boards.specs.declared.square.Square.{Square}
@@ -12,8 +13,8 @@ use Rattle.shogi_rules.specs.declared.illegal.Illegal.{Illegal}
 use Rattle.attack_lines.specs.Lines.{AttacksWithout, IsShield}
 use Rattle.legal_moves.specs.declared.guard.Guard.{Guard}
 
--- Nothing speaks against the move from the one square of the board to the other, promoting where the last argument says so, else not
--- promoting.
+-- Nothing speaks against the move from the one square of the board to the other, promoting where
+-- the last argument says so, else not promoting.
 abbrev pub IsLegalBoard : Board → ℕ → ℕ → Bool → Type 0
 IsLegalBoard b from to promote = (why : Illegal) → ¬ RefusesBoard b from to promote why
 
@@ -21,17 +22,19 @@ IsLegalBoard b from to promote = (why : Illegal) → ¬ RefusesBoard b from to p
 abbrev pub IsLegalDrop : Board → Kind → ℕ → Type 0
 IsLegalDrop b kind to = (why : Illegal) → ¬ RefusesDrop b kind to why
 
--- A piece of the side to move that comes to the square `to` stops whoever attacks the square `king` now: it takes him, or stands between.
+-- A piece of the side to move that comes to the square `to` stops whoever attacks the square `king`
+-- now: it takes him, or stands between.
 abbrev pub StopsAttackers : Board → ℕ → ℕ → Type 0
 StopsAttackers b to king = (from : ℕ) → from < 81 → AttacksFrom b.cells (other b.side) from king → (to ≡ from) ⊎ IsBetween from to king
 
--- A piece that goes from the one square to `to` stops whoever attacks the square `king` once that piece has left: it takes him, or
--- stands between.
+-- A piece that goes from the one square to `to` stops whoever attacks the square `king` once that
+-- piece has left: it takes him, or stands between.
 abbrev pub StopsOnceLeft : Board → ℕ → ℕ → ℕ → Type 0
 StopsOnceLeft b left to king = (from : ℕ) → from < 81 → AttacksWithout b.cells (other b.side) left from king → (to ≡ from) ⊎ IsBetween from to king
 
--- The one king of the side to move stands there; the one set are the squares on which another piece stops each of his attackers, the
--- other those on which a piece, of either side, alone keeps an enemy piece from attacking him.
+-- The one king of the side to move stands there; the one set are the squares on which another piece
+-- stops each of his attackers, the other those on which a piece, of either side, alone keeps an
+-- enemy piece from attacking him.
 pub record IsGuarded (b : Board) (king : Square) (stopping shielding : Mask) : Type 0 where
   pub here : is_king_of b.side (piece_at b.cells king.number) ≡ true
   pub only : (square : ℕ) → is_king_of b.side (piece_at b.cells square) ≡ true → square ≡ king.number

@@ -19,14 +19,16 @@ KeepsKing b (Some king) from to = StopsOnceLeft b from to king.number
 abbrev pub IsOpenTo : Board → ℕ → ℕ → Type 0
 IsOpenTo b king to = (from : ℕ) → from < 81 → ¬ AttacksWithout b.cells (other b.side) king from to
 
--- The piece of the side to move stands there, and every square of the set is another one, where no piece of that side stands.
+-- The piece of the side to move stands there, and every square of the set is another one, where no
+-- piece of that side stands.
 pub record LeavesFor (b : Board) (from : ℕ) (piece : Piece) (squares : Mask) : Type 0 where
   pub there : piece_at b.cells from ≡ Some piece
   pub own : piece.side ≡ b.side
   pub apart : (to : ℕ) → Holds squares to → from ≢ to
   pub free : (to : ℕ) → Holds squares to → ¬ IsOwn b to
 
--- The piece reaches the square from this one, none of the side to move stands there, and its king isn't attacked after the move.
+-- The piece reaches the square from this one, none of the side to move stands there, and its king
+-- isn't attacked after the move.
 pub record MayGo (b : Board) (from to : ℕ) (promote : Bool) (piece : Piece) : Type 0 where
   pub on_board : to < 81
   pub reach : Reaches b.cells piece from to

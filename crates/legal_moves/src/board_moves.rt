@@ -17,7 +17,8 @@ use shogi_rules::legal_laws;
 
 // The piece on the square, where one of the side to move stands there.
 fn own_piece(position: &Position, square: Square) -> Option<Piece>
-    ensures there { IfSome result (λ piece. piece_at position.now.cells square.number ≡ Some piece) }
+    ensures there { IfSome result (λ piece. piece_at position.now.cells square.number
+        ≡ Some piece) }
     ensures own { IfSome result (λ piece. piece.side ≡ position.now.side) }
     ensures none { IfNone result (¬ IsOwn position.now square.number) }
 {
@@ -31,7 +32,9 @@ fn own_piece(position: &Position, square: Square) -> Option<Piece>
 
 // The set without the square, where the king would be attacked there.
 fn without_attacked(position: &Position, king: Square, to: Square, squares: Mask) -> Mask
-    ensures { (square : ℕ) → Holds result square ↔ (Holds squares square × (square ≡ to.number → IsOpenTo position.now king.number to.number)) }
+    ensures { (square : ℕ) → Holds result square
+        ↔ (Holds squares square
+        × (square ≡ to.number → IsOpenTo position.now king.number to.number)) }
 {
     if attackers_without(position, king, to, position.side().other()).is_empty() {
         return squares;
@@ -41,7 +44,8 @@ fn without_attacked(position: &Position, king: Square, to: Square, squares: Mask
 
 // Of these squares those to which the king may go from his.
 fn king_steps(position: &Position, king: Square, wanted: Mask) -> Mask
-    ensures { (to : ℕ) → Holds result to ↔ (Holds wanted to × IsOpenTo position.now king.number to) }
+    ensures { (to : ℕ) → Holds result to
+        ↔ (Holds wanted to × IsOpenTo position.now king.number to) }
 {
     let mut safe = wanted;
     let mut left = wanted;
@@ -53,17 +57,20 @@ fn king_steps(position: &Position, king: Square, wanted: Mask) -> Mask
 
 // The squares on which a piece that left a square stops whoever attacks the king then.
 fn stops_once_left(position: &Position, from: Square, king: Square) -> Mask
-    ensures { (to : ℕ) → Holds result to ↔ ((to < 81) × StopsOnceLeft position.now from.number to king.number) }
+    ensures { (to : ℕ) → Holds result to
+        ↔ ((to < 81) × StopsOnceLeft position.now from.number to king.number) }
 {
     let by = position.side().other();
     blocks(attackers_without(position, from, king, by), king)
 }
 
 impl Guard {
-    // Of these squares those to which the piece, not the king, may go from this one without leaving the king there attacked.
+    // Of these squares those to which the piece, not the king, may go from this one without leaving
+    // the king there attacked.
     fn keeps_king(&self, position: &Position, king: Square, from: Square, wanted: Mask) -> Mask
         requires guard { IsGuarded position.now king self.now.blocks self.now.shields }
-        ensures { (to : ℕ) → Holds result to ↔ (Holds wanted to × StopsOnceLeft position.now from.number to king.number) }
+        ensures { (to : ℕ) → Holds result to
+            ↔ (Holds wanted to × StopsOnceLeft position.now from.number to king.number) }
     {
         // Sets hold nothing but squares of the board.
         mask_laws();
@@ -73,10 +80,12 @@ impl Guard {
         wanted.and(self.blocks)
     }
 
-    // Of these squares those to which the piece, not the king, may go from this one without leaving its king attacked.
+    // Of these squares those to which the piece, not the king, may go from this one without leaving
+    // its king attacked.
     fn keeps(&self, position: &Position, from: Square, wanted: Mask) -> Mask
         requires { IsGuardOf position.now self.now }
-        ensures { (to : ℕ) → Holds result to ↔ (Holds wanted to × KeepsKing position.now self.now.king from.number to) }
+        ensures { (to : ℕ) → Holds result to
+            ↔ (Holds wanted to × KeepsKing position.now self.now.king from.number to) }
     {
         // Sets hold nothing but squares of the board.
         mask_laws();
@@ -86,11 +95,14 @@ impl Guard {
         }
     }
 
-    // Of these squares those to which the piece may go from this one without leaving its king attacked.
+    // Of these squares those to which the piece may go from this one without leaving its king
+    // attacked.
     fn safe(&self, position: &Position, piece: Piece, from: Square, wanted: Mask) -> Mask
         requires guard { IsGuardOf position.now self.now }
         requires leaves { LeavesFor position.now from.number piece wanted }
-        ensures { (to : ℕ) (promote : Bool) → Holds result to ↔ (Holds wanted to × (¬ IsInCheck (after_board position.now from.number to promote).cells position.now.side)) }
+        ensures { (to : ℕ) (promote : Bool) → Holds result to
+            ↔ (Holds wanted to ×
+            (¬ IsInCheck (after_board position.now from.number to promote).cells position.now.side)) }
     {
         // Steps go to near squares, slides along lines; and every position has 81 squares.
         mask_laws();
@@ -101,13 +113,14 @@ impl Guard {
         self.keeps(position, from, wanted)
     }
 
-    // Of these squares those that the side's piece reaches from this one, where none of its side stands, without leaving its king
-    // attacked.
+    // Of these squares those that the side's piece reaches from this one, where none of its side
+    // stands, without leaving its king attacked.
     fn goes(&self, position: &Position, piece: Piece, from: Square, wanted: Mask) -> Mask
         requires guard { IsGuardOf position.now self.now }
         requires there { piece_at position.now.cells from.number ≡ Some piece }
         requires own { piece.side ≡ position.now.side }
-        ensures { (to : ℕ) (promote : Bool) → Holds result to ↔ (Holds wanted to × MayGo position.now from.number to promote piece) }
+        ensures { (to : ℕ) (promote : Bool) → Holds result to
+            ↔ (Holds wanted to × MayGo position.now from.number to promote piece) }
     {
         // Sets hold nothing but squares of the board.
         mask_laws();
@@ -128,8 +141,10 @@ impl Guard {
         requires guard { IsGuardOf position.now self.now }
         requires there { piece_at position.now.cells from.number ≡ Some piece }
         requires own { piece.side ≡ position.now.side }
-        ensures plain { (to : ℕ) → Holds result.plain to ↔ (Holds wanted.plain to × IsLegalBoard position.now from.number to false) }
-        ensures promoted { (to : ℕ) → Holds result.promoted to ↔ (Holds wanted.promoted to × IsLegalBoard position.now from.number to true) }
+        ensures plain { (to : ℕ) → Holds result.plain to
+            ↔ (Holds wanted.plain to × IsLegalBoard position.now from.number to false) }
+        ensures promoted { (to : ℕ) → Holds result.promoted to
+            ↔ (Holds wanted.promoted to × IsLegalBoard position.now from.number to true) }
     {
         // Sets hold nothing but squares of the board; and what a legal move has.
         mask_laws();
@@ -143,12 +158,15 @@ impl Guard {
         }
     }
 
-    /// Of these squares those to which the piece on a square may legally go; no square where no piece of the side to move stands there.
-    /// The guard must be that of this position. Takes no memory. (Rules of shogi: legal moves.)
+    /// Of these squares those to which the piece on a square may legally go; no square where no
+    /// piece of the side to move stands there. The guard must be that of this position. Takes no
+    /// memory. (Rules of shogi: legal moves.)
     pub fn board_moves(&self, position: &Position, from: Square, wanted: Landings) -> Landings
         requires { IsGuardOf position.now self.now }
-        ensures plain { (to : ℕ) → Holds result.plain to ↔ (Holds wanted.plain to × IsLegalBoard position.now from.number to false) }
-        ensures promoted { (to : ℕ) → Holds result.promoted to ↔ (Holds wanted.promoted to × IsLegalBoard position.now from.number to true) }
+        ensures plain { (to : ℕ) → Holds result.plain to
+            ↔ (Holds wanted.plain to × IsLegalBoard position.now from.number to false) }
+        ensures promoted { (to : ℕ) → Holds result.promoted to
+            ↔ (Holds wanted.promoted to × IsLegalBoard position.now from.number to true) }
     {
         // What a legal move has.
         legal_laws();
@@ -172,8 +190,8 @@ impl Guard {
         !found.plain.or(found.promoted).is_empty()
     }
 
-    /// Whether the side to move has a legal move on the board. The guard must be that of this position. Takes no memory. (Rules of
-    /// shogi: legal moves.)
+    /// Whether the side to move has a legal move on the board. The guard must be that of this
+    /// position. Takes no memory. (Rules of shogi: legal moves.)
     pub fn has_board_move(&self, position: &Position) -> bool
         requires { IsGuardOf position.now self.now }
         ensures { IsTrue result ↔ BoardMove position.now }

@@ -40,7 +40,8 @@ fn pawn_files(position: &Position, side: Side) -> Mask
     files
 }
 
-// Whether the drop of a pawn is mate; nothing may speak against it but perhaps what it means for the kings.
+// Whether the drop of a pawn is mate; nothing may speak against it but perhaps what it means for
+// the kings.
 fn mates(position: &Position, to: Square) -> bool
     requires { MayDrop position.now Pawn to.number }
     ensures { IsTrue result ↔ IsPawnMate position.now Pawn to.number }
@@ -57,7 +58,8 @@ fn without_mate_of(position: &Position, king: Square, squares: Mask) -> Mask
     requires quiet { IsQuiet position.now }
     requires king { IsEnemyKing position.now king.number }
     requires squares { (to : ℕ) → Holds squares to → MayDrop position.now Pawn to }
-    ensures { (to : ℕ) → Holds result to ↔ (Holds squares to × (¬ IsPawnMate position.now Pawn to)) }
+    ensures { (to : ℕ) → Holds result to
+        ↔ (Holds squares to × (¬ IsPawnMate position.now Pawn to)) }
 {
     // Sets hold nothing but squares of the board, of which every position has 81.
     mask_laws();
@@ -78,7 +80,8 @@ fn without_mate_of(position: &Position, king: Square, squares: Mask) -> Mask
 fn without_mate(position: &Position, squares: Mask) -> Mask
     requires quiet { IsQuiet position.now }
     requires squares { (to : ℕ) → Holds squares to → MayDrop position.now Pawn to }
-    ensures { (to : ℕ) → Holds result to ↔ (Holds squares to × (¬ IsPawnMate position.now Pawn to)) }
+    ensures { (to : ℕ) → Holds result to
+        ↔ (Holds squares to × (¬ IsPawnMate position.now Pawn to)) }
 {
     // Sets hold nothing but squares of the board, of which every position has 81.
     mask_laws();
@@ -90,7 +93,8 @@ fn without_mate(position: &Position, squares: Mask) -> Mask
 }
 
 impl Guard {
-    // Of these squares the empty ones from which a piece of the kind could move, and which leave its king unattacked.
+    // Of these squares the empty ones from which a piece of the kind could move, and which leave
+    // its king unattacked.
     fn free(&self, position: &Position, kind: Kind, wanted: Mask) -> Mask
         requires guard { IsGuardOf position.now self.now }
         requires king { kind ≢ King }
@@ -105,13 +109,15 @@ impl Guard {
             .and(self.blocks)
     }
 
-    /// Of these squares those on which a piece of the kind may legally be dropped; no square where the side to move has none in hand.
-    /// The guard must be that of this position, and the side not to move must not be in check. Takes no memory. (Rules of shogi: drops,
-    /// two pawns, mate by a dropped pawn.)
+    /// Of these squares those on which a piece of the kind may legally be dropped; no square where
+    /// the side to move has none in hand. The guard must be that of this position, and the side not
+    /// to move must not be in check. Takes no memory. (Rules of shogi: drops, two pawns, mate by a
+    /// dropped pawn.)
     pub fn drops(&self, position: &Position, kind: Kind, wanted: Mask) -> Mask
         requires guard { IsGuardOf position.now self.now }
         requires quiet { IsQuiet position.now }
-        ensures { (to : ℕ) → Holds result to ↔ (Holds wanted to × IsLegalDrop position.now kind to) }
+        ensures { (to : ℕ) → Holds result to
+            ↔ (Holds wanted to × IsLegalDrop position.now kind to) }
     {
         // Sets hold nothing but squares of the board; and what a legal drop has.
         mask_laws();

@@ -2,8 +2,9 @@
 use bit_boards::Mask;
 use board_core::Square;
 
-/// What the king of the side to move needs to be safe: where he stands, where his attackers are stopped, and which squares shield
-/// him, with a piece of either side on them. It is made once for a position and asked for each piece. Takes 48 bytes.
+/// What the king of the side to move needs to be safe: where he stands, where his attackers are
+/// stopped, and which squares shield him, with a piece of either side on them. It is made once for
+/// a position and asked for each piece. Takes 48 bytes.
 #[derive(Clone, Copy)]
 pub struct Guard {
     // Where the king stands; none where the side has no king.

@@ -10,7 +10,9 @@ use board_core::{Position, Square};
 
 fn guard_of(position: &Position, king: Square) -> Guard
     requires here { is_king_of position.now.side (piece_at position.now.cells king.number) ≡ true }
-    requires only { (square : ℕ) → is_king_of position.now.side (piece_at position.now.cells square) ≡ true → square ≡ king.number }
+    requires only { (square : ℕ)
+        → is_king_of position.now.side (piece_at position.now.cells square) ≡ true → square
+        ≡ king.number }
     ensures { IsGuardOf position.now result }
 {
     // Sets hold nothing but squares of the board.

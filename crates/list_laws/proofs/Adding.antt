@@ -1,4 +1,5 @@
--- A list up to a place in the order of moves, to which the moves from a square or the drops of a kind are added, reaches past them.
+-- A list up to a place in the order of moves, to which the moves from a square or the drops of a
+-- kind are added, reaches past them.
 use Rattle.std.proofs.Common.{◌≡◌, ◌<◌, ◌≤◌, ◌+◌, ◌*◌, ◌↔◌, ◌&&◌, ◌==◌, not, inl, inr, ap, ◌∙◌, eq-eqb, ne_eqb, ℕ, zero, suc, List, [], ◌∷◌, true, false, Bool, arith, refl, sym, subst, slice_index_or}
 use Rattle.std.proofs.lemmas.Bool.{cases_lt, and_parts, and_from}
 use Rattle.bit_boards.specs.declared.square.Square.{Square}

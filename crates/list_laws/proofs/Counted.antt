@@ -1,4 +1,5 @@
--- How many moves with a property there are in a stretch of their order, by the squares to which they go.
+-- How many moves with a property there are in a stretch of their order, by the squares to which
+-- they go.
 use Rattle.std.proofs.Common.{◌≡◌, ◌<◌, ◌+◌, ◌*◌, ◌↔◌, ℕ, zero, suc, List, [], ◌∷◌, ◌++◌, length, Bool, true, false, arith, refl, ◌∙◌, subst}
 use Rattle.std.specs.Prelude.{count_by, cond}
 use Rattle.std.specs.List.{range_with_len}

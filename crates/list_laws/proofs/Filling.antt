@@ -1,4 +1,5 @@
--- A list of moves that is filled from the squares of a set in rising order, then with the drops of each kind in turn.
+-- A list of moves that is filled from the squares of a set in rising order, then with the drops of
+-- each kind in turn.
 use Rattle.std.proofs.Common.{◌≡◌, ◌<◌, ◌≤◌, ◌+◌, ◌*◌, inl, inr, ℕ, List, [], arith, sym, ◌∙◌, subst, true, false, Bool}
 use Rattle.std.proofs.lemmas.Bool.{cases_eq, cases_lt, true≢false}
 use Rattle.board_core.specs.declared.moves.Move.{Move}
@@ -6,8 +7,8 @@ use Rattle.board_core.specs.declared.moves.Move.TheVariants as moves
 use Rattle.board_core.specs.Order.{order_of, Lists, OrdersByOrigin}
 use Rattle.list_laws.proofs.MoveLists.{Before, lists_none, lists_until}
 
--- The list holds the moves with the property from all squares of the first set before some place; the second set holds the squares of the
--- first that are left, none of them before that place.
+-- The list holds the moves with the property from all squares of the first set before some place;
+-- the second set holds the squares of the first that are left, none of them before that place.
 pub record Fills (P : Move → Type 0) (own left : ℕ → Bool) (xs : List Move) : Type 0 where
   pub place : ℕ
   pub within : place ≤ 81

@@ -112,7 +112,8 @@ first_of (x ∷ xs) some = (x, (zero, omega arith, refl))
 pub none_in_none : {X : Type 0} (x : X) → Contains [] x → ⊥
 none_in_none x c = let inside = c.1 in omega arith
 
--- what holds of each of a list holds of each once one more of which it holds may have been put behind
+-- what holds of each of a list holds of each once one more of which it holds may have been put
+-- behind
 pub all_pushed : {X : Type 0} (P : X → Type 0) (before after : List X) (x : X) (b : Bool) → after ≡ (if b then before ++ x ∷ [] else before)
     → All P before → P x → All P after
 all_pushed P before after x true e all one = subst (All P) (sym e) (All-push P before x all one)

@@ -7,7 +7,8 @@ use Rattle.bit_boards.specs.Mask.{Holds}
 use Rattle.board_core.specs.declared.moves.Move.{Move}
 use Rattle.board_core.specs.declared.moves.Move.TheVariants as moves
 
--- The move goes from the square, unpromoted to a square of the first set, or promoted to one of the second.
+-- The move goes from the square, unpromoted to a square of the first set, or promoted to one of the
+-- second.
 abbrev pub GoesFrom : Square → Mask → Mask → Move → Type 0
 GoesFrom from plain promoted (moves.Board origin to false) = (origin ≡ from) × Holds plain to.number
 GoesFrom from plain promoted (moves.Board origin to true) = (origin ≡ from) × Holds promoted to.number

@@ -212,7 +212,8 @@ refuse_turns port path after key numbers p n seen long at within too enters =
 
 -- 5. LEAVING.
 
--- A row of the table once one of its slots was left: it has as many entries, and they are for the attacker as before.
+-- A row of the table once one of its slots was left: it has as many entries, and they are for the
+-- attacker as before.
 pub record IsLeft (port : LonePortView) (key : Key) (update : Update) (after : List (List EntryView)) : Type 0 where
   pub row : List EntryView
   pub is : after ≡ with_row port.rows key row

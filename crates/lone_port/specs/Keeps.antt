@@ -19,7 +19,8 @@ pub record MayAsk (port : LonePortView) (event : Exchange) : Type 0 where
   pub sound : IsSoundRequest (task_for port.desk.position 1) event.0
   pub held : (word : ℕ) → leaves (word_of (length port.pins)) event word ≤ held_by port.pins word
 
--- What is kept stays kept; and what is held, and what was given, changes by what the event enters, leaves and gives, and by nothing else.
+-- What is kept stays kept; and what is held, and what was given, changes by what the event enters,
+-- leaves and gives, and by nothing else.
 pub record IsCountedBy (event : Exchange) (before after : LonePortView) : Type 0 where
   pub kept : IsKeptPort after
   pub as_many : length after.pins ≡ length before.pins

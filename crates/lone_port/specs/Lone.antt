@@ -1,4 +1,5 @@
--- A table, the counts of workers below its slots, and a desk: how a worker alone sees them, and what each request does with them.
+-- A table, the counts of workers below its slots, and a desk: how a worker alone sees them, and
+-- what each request does with them.
 use Rattle.std.specs.Prelude.{◌≡◌, ◌<◌, ◌+◌, ◌-◌, ◌/◌, ◌%◌, ◌⊎◌, ℕ, Bool, true, false, List, [], Option, Some, None, All, length, replicate, slice_set, slice_index, slice_index_or, sum, sum_by, if◌then◌else◌}
 use Rattle.board_core.specs.Board.{Board}
 use Rattle.board_core.specs.declared.keys.Key.{Key}
@@ -21,8 +22,9 @@ use Rattle.worker_core.specs.Port.{Book, ends_by}
 
 -- 1. WHAT IT IS.
 
--- The rows of the table, how many visits are below each slot of each row, the desk, whether it goes on (it said neither that all is done
--- or spent nor that there is no room), and whether it says that the worker is to stop.
+-- The rows of the table, how many visits are below each slot of each row, the desk, whether it goes
+-- on (it said neither that all is done or spent nor that there is no room), and whether it says
+-- that the worker is to stop.
 pub record LonePortView : Type 0 where
   pub rows : List (List EntryView)
   pub pins : List (List ℕ)
@@ -56,7 +58,8 @@ abbrev pub unpinned : List (List ℕ) → Key → Kept → List (List ℕ)
 unpinned pins key Unkept = pins
 unpinned pins key (Slot slot) = with_pins pins key (slice_set (pins_of pins key) slot (slice_index (pins_of pins key) slot - 1))
 
--- How often the slot of a word is entered and not left: the eight words of a row are the counts of its slots.
+-- How often the slot of a word is entered and not left: the eight words of a row are the counts of
+-- its slots.
 abbrev pub held_by : List (List ℕ) → ℕ → ℕ
 held_by pins word = slice_index (slice_index_or pins (word / 8) []) (word % 8)
 
@@ -76,7 +79,8 @@ worker_at_first problem number = record { task = task_for problem number; state 
 
 -- 2. WHAT IT KEEPS.
 
--- It has a row; there are eight counts for each row; a slot with visits below it has an entry; and all notes are for the problem's attacker.
+-- It has a row; there are eight counts for each row; a slot with visits below it has an entry; and
+-- all notes are for the problem's attacker.
 pub record IsLone (port : LonePortView) : Type 0 where
   pub some : 0 < length port.rows
   pub as_many : length port.pins ≡ length port.rows
@@ -90,14 +94,16 @@ pub record IsLone (port : LonePortView) : Type 0 where
 abbrev pub goes_on : Reply → Bool → Bool
 goes_on answer going = if ends_by (Some answer) then false else going
 
--- The rows after what was entered so is left with an update: the slot's entry is updated where it is the key's; else nothing changes.
+-- The rows after what was entered so is left with an update: the slot's entry is updated where it
+-- is the key's; else nothing changes.
 abbrev pub IsLeftIn : List (List EntryView) → Kept → Key → Update → List (List EntryView) → Type 0
 IsLeftIn rows Unkept key update after = after ≡ rows
 IsLeftIn rows (Slot slot) key update after = IsLeftAt rows slot key update after
 
--- From one state to the next, by a request of a worker on this path and its answer. It says whether the worker is to stop. The desk draws, claims
--- and keeps what is posted; the table shows what its rows do on the path, or there is no memory for it; the key's row enters the key,
--- and leaves it; and what is entered in a slot is counted until it is left.
+-- From one state to the next, by a request of a worker on this path and its answer. It says whether
+-- the worker is to stop. The desk draws, claims and keeps what is posted; the table shows what its
+-- rows do on the path, or there is no memory for it; the key's row enters the key, and leaves it;
+-- and what is entered in a slot is counted until it is left.
 abbrev pub Turns : LonePortView → List Key → Request → Option Reply → LonePortView → Type 0
 Turns before path Poll (Some (Polled stop)) after = (stop ≡ before.stops) × (after ≡ before)
 Turns before path Draw (Some (Drew draw)) after =

@@ -1,4 +1,5 @@
--- A world: a table and a desk that several workers share, and what happens in it, one thing after the other, by any schedule.
+-- A world: a table and a desk that several workers share, and what happens in it, one thing after
+-- the other, by any schedule.
 use Rattle.std.specs.Prelude.{◌≡◌, ◌+◌, ◌++◌, ◌⊎◌, ℕ, zero, suc, Bool, true, false, List, [], ◌∷◌, Some, None, replicate, slice_get, slice_set, slice_index_or, if◌then◌else◌}
 use Rattle.board_core.specs.Board.{Board}
 use Rattle.search_limits.specs.Sizes.{SettingsView}
@@ -13,8 +14,8 @@ use Rattle.lone_port.specs.declared.event.Event.TheVariants.{Step, Raise, Starve
 
 -- 1. A STEP.
 
--- A worker makes a request, and the table and the desk answer it, which say that it is to stop where that was signalled. (None is the answer
--- to a look that is refused memory.)
+-- A worker makes a request, and the table and the desk answer it, which say that it is to stop
+-- where that was signalled. (None is the answer to a look that is refused memory.)
 pub record Steps (stops : Bool) (port : LonePortView) (worker : WorkerView) (exchange : Exchange) (after : LonePortView) (later : WorkerView) : Type 0 where
   pub turns : Turns (opened port stops) (path_of worker.task worker.state.frames) exchange.0 exchange.1 after
   pub goes : Goes worker.task worker.state exchange later.state
@@ -23,13 +24,15 @@ pub record Steps (stops : Bool) (port : LonePortView) (worker : WorkerView) (exc
 
 -- 2. A WORLD.
 
--- The table and the desk; the workers, the first first; and of each whether a stop was signalled to it since it polled last.
+-- The table and the desk; the workers, the first first; and of each whether a stop was signalled to
+-- it since it polled last.
 pub record World : Type 0 where
   pub port : LonePortView
   pub workers : List WorkerView
   pub raised : List Bool
 
--- So many workers in the search of a problem, numbered from the first number, before they ask anything.
+-- So many workers in the search of a problem, numbered from the first number, before they ask
+-- anything.
 abbrev pub workers_from : Board → ℕ → ℕ → List WorkerView
 workers_from problem first zero = []
 workers_from problem first (suc more) = worker_at_first problem first ∷ workers_from problem (first + 1) more
@@ -52,7 +55,8 @@ pub record IsAtWork (world : World) (number place : ℕ) (worker : WorkerView) :
 abbrev pub IsIdle : World → ℕ → Type 0
 IsIdle world number = (place : ℕ) (worker : WorkerView) → IsAtWork world number place worker → ⊥
 
--- The worker at the place makes its request, and is answered. A poll takes in that a stop was signalled.
+-- The worker at the place makes its request, and is answered. A poll takes in that a stop was
+-- signalled.
 pub record StepsAt (world : World) (place : ℕ) (worker : WorkerView) (exchange : Exchange) (after : World) : Type 0 where
   pub later : WorkerView
   pub steps : Steps (slice_index_or world.raised place false) world.port worker exchange after.port later
@@ -70,8 +74,8 @@ StarvesAt world place worker after =
 
 -- 3. A SCHEDULE.
 
--- What an event does, and which request it has answered, if one, with the number of its worker. One of a worker that isn't there, or has ended,
--- changes nothing.
+-- What an event does, and which request it has answered, if one, with the number of its worker. One
+-- of a worker that isn't there, or has ended, changes nothing.
 abbrev pub Happens : World → Event → List (ℕ × Exchange) → World → Type 0
 Happens world (Step number) log after =
     ((place : ℕ) × (worker : WorkerView) × (exchange : Exchange) × IsAtWork world number place worker × StepsAt world place worker exchange after
@@ -84,7 +88,8 @@ Happens world (Starve number) log after =
     ((place : ℕ) × (worker : WorkerView) × IsAtWork world number place worker × StarvesAt world place worker after × (log ≡ []))
     ⊎ (IsIdle world number × (log ≡ []) × (after ≡ world))
 
--- The events of a schedule happen, one after the other; the log has what was asked and answered, in order.
+-- The events of a schedule happen, one after the other; the log has what was asked and answered, in
+-- order.
 abbrev pub Plays : World → List Event → List (ℕ × Exchange) → World → Type 0
 Plays world [] log after = (log ≡ []) × (world ≡ after)
 Plays world (event ∷ events) log after =

@@ -19,7 +19,8 @@ use worker_core::Port;
 
 /// The table of positions and the desk of a search, for one worker at a time.
 ///
-/// It keeps that a slot of the table with visits below it has an entry, and that all notes in the table are for the problem's attacker.
+/// It keeps that a slot of the table with visits below it has an entry, and that all notes in the
+/// table are for the problem's attacker.
 #[derive(Drop)]
 pub struct LonePort {
     shard: Shard,
@@ -47,17 +48,21 @@ impl Model for LonePort {
 }
 
 impl LonePort {
-    /// The table and the desk of a problem, with the rows, the units and the room of the settings; nothing is known, drawn, claimed or
-    /// posted. Takes all the table's memory but for that of the notes. Errors: want of memory alone.
+    /// The table and the desk of a problem, with the rows, the units and the room of the settings;
+    /// nothing is known, drawn, claimed or posted. Takes all the table's memory but for that of the
+    /// notes. Errors: want of memory alone.
     #[tactic(auto, using(crate::proofs::Asked::alone_suits))]
     pub fn make(
         alloc: Global,
         problem: &Problem,
         settings: &Settings,
     ) -> Result<LonePort, AllocError>
-        ensures made { IfOk result (λ port. port ≡ alone_at_first problem.now.position settings.now.expansions settings.now.room settings.now.rows) }
+        ensures made { IfOk result (λ port. port
+            ≡ alone_at_first problem.now.position settings.now.expansions settings.now.room
+            settings.now.rows) }
         // A worker in the search of the problem may begin to work over it.
-        ensures suits { IfOk result (λ port. (number : ℕ) → Suits (worker_at_first problem.now.position number) (book_of port)) }
+        ensures suits { IfOk result (λ port. (number : ℕ)
+            → Suits (worker_at_first problem.now.position number) (book_of port)) }
     {
         let rows = settings.rows as usize;
         let shard = Shard::make(alloc, rows)?;
@@ -74,14 +79,18 @@ impl LonePort {
         })
     }
 
-    /// Begins anew with another problem, with the units and the room of these settings and as many rows as before: nothing is known, drawn, claimed
-    /// or posted, as where it was just made. In the time of the rows that had entries. Takes no memory.
+    /// Begins anew with another problem, with the units and the room of these settings and as many
+    /// rows as before: nothing is known, drawn, claimed or posted, as where it was just made. In
+    /// the time of the rows that had entries. Takes no memory.
     #[tactic(auto, using(crate::proofs::Asked::alone_suits))]
     pub fn renew(&mut self, problem: &Problem, settings: &Settings)
         requires { length self.old.rows ≡ settings.now.rows }
-        ensures made { self.new ≡ alone_at_first problem.now.position settings.now.expansions settings.now.room settings.now.rows }
+        ensures made { self.new
+            ≡ alone_at_first problem.now.position settings.now.expansions settings.now.room
+            settings.now.rows }
         // A worker in the search of the problem may begin to work over it.
-        ensures suits { (number : ℕ) → Suits (worker_at_first problem.now.position number) (book_of self.new) }
+        ensures suits { (number : ℕ)
+            → Suits (worker_at_first problem.now.position number) (book_of self.new) }
     {
         self.shard.empty(self.pins.as_mut_slice());
         self.desk = Desk::make(problem, settings);
@@ -89,8 +98,8 @@ impl LonePort {
         self.stops = false;
     }
 
-    /// Opens it for a turn of a worker that doesn't wind up: it goes on, and says so whether the worker is to stop. Nothing else changes. Takes no
-    /// memory.
+    /// Opens it for a turn of a worker that doesn't wind up: it goes on, and says so whether the
+    /// worker is to stop. Nothing else changes. Takes no memory.
     pub fn open(&mut self, stops: bool)
         ensures { self.new ≡ opened self.old stops }
     {
@@ -133,7 +142,8 @@ impl LonePort {
         self.desk.into_note()
     }
 
-    /// How many visits are below the slot of the key's entry; 0 where its row has none. Takes no memory.
+    /// How many visits are below the slot of the key's entry; 0 where its row has none. Takes no
+    /// memory.
     pub fn below(&self, key: &Key) -> u64
         ensures { IsBelow self.now.rows self.now.pins key.now result }
     {
@@ -145,8 +155,8 @@ impl LonePort {
         self.pins[spot.place][slot]
     }
 
-    /// What the type keeps, and what its desk and its rows do: what is posted answers the problem, and each entry is true. Does nothing;
-    /// whoever wants to know this calls it. Takes no memory.
+    /// What the type keeps, and what its desk and its rows do: what is posted answers the problem,
+    /// and each entry is true. Does nothing; whoever wants to know this calls it. Takes no memory.
     pub fn laws(&self)
         ensures lone { IsLone self.now }
         ensures desk { IsDesk self.now.desk }

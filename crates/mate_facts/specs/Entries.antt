@@ -23,8 +23,8 @@ pub record IsListedBelow (entries : List MateEntry) (rank : ℕ) (position : Boa
   pub same : entry.at ≡ position
   pub lower : entry.rank.number < rank
 
--- An entry of a mate is borne out: its move is a check of its position, and each evasion to it leads to a listed position of
--- lower rank.
+-- An entry of a mate is borne out: its move is a check of its position, and each evasion to it
+-- leads to a listed position of lower rank.
 pub record IsBorneOut (entries : List MateEntry) (attacker : Side) (entry : MateEntry) : Type 0 where
   pub check : IsCheck attacker entry.at entry.by
   pub evasions : (evasion : Move) → IsEvasion attacker (after entry.at entry.by) evasion

@@ -1,7 +1,8 @@
 // What is true of all entries of a mate.
 ghost use Rattle.mate_facts.specs.Laws.{EntriesStand, EntriesAreListed, EntriesApart, EntriesAreFound};
 
-/// Laws about a mate's entries: where they and their positions stand. Does nothing; whoever looks entries up calls it to know this.
+/// Laws about a mate's entries: where they and their positions stand. Does nothing; whoever looks
+/// entries up calls it to know this.
 pub fn entry_laws()
     // An entry's position stands at the entry's place, so it is listed.
     ensures stand { EntriesStand }

@@ -5,8 +5,8 @@ ghost use Rattle.mate_facts.specs.declared.rank.TheConstants.{MOST_RANK};
 /// The greatest rank that an entry of a mate may have.
 pub const MOST_RANK: u32 = 999_999_999;
 
-/// A rank as an entry states it, 1 to [`MOST_RANK`]. Where the entry is borne out, the mate takes at most so many of the
-/// attacker's moves.
+/// A rank as an entry states it, 1 to [`MOST_RANK`]. Where the entry is borne out, the mate takes
+/// at most so many of the attacker's moves.
 #[derive(Clone, Copy, PartialEq, Eq, PartialOrd, Ord, Debug)]
 pub struct Rank {
     /// From 1 to [`MOST_RANK`].

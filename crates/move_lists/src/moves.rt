@@ -10,7 +10,8 @@ use board_core::{Kind, Move, Square, value_laws};
 use std::alloc::{AllocError, Global};
 use std::marker::Model;
 
-/// Moves in the order of moves, each once. Cleared, it keeps the room that it took, to be filled again. Contracts see the list.
+/// Moves in the order of moves, each once. Cleared, it keeps the room that it took, to be filled
+/// again. Contracts see the list.
 #[derive(Drop)]
 pub struct Moves {
     list: Vec<Move>,
@@ -60,10 +61,12 @@ impl Moves {
         &self.list
     }
 
-    /// Adds the moves from a square: unpromoted to the squares of the first set, promoted to those of the second. All moves that it
-    /// has must come before any from this square. Errors: want of memory alone; what it has then isn't said.
+    /// Adds the moves from a square: unpromoted to the squares of the first set, promoted to those
+    /// of the second. All moves that it has must come before any from this square. Errors: want of
+    /// memory alone; what it has then isn't said.
     pub fn add_board(&mut self, from: Square, plain: Mask, promoted: Mask) -> Result<(), AllocError>
-        requires later { (move : Move) → Contains self.old move → order_of move < 162 * from.number }
+        requires later { (move : Move) → Contains self.old move
+            → order_of move < 162 * from.number }
         ensures added { OnOk result (Adds (GoesFrom from plain promoted) self.old self.new) }
         ensures rises { OnOk result (RisesFrom 0 self.new) }
     {
@@ -88,10 +91,11 @@ impl Moves {
         Ok(())
     }
 
-    /// Adds the drops of a kind on the squares of a set. All moves that it has must come before any drop of this kind. Errors: want of
-    /// memory alone; what it has then isn't said.
+    /// Adds the drops of a kind on the squares of a set. All moves that it has must come before any
+    /// drop of this kind. Errors: want of memory alone; what it has then isn't said.
     pub fn add_drops(&mut self, kind: Kind, squares: Mask) -> Result<(), AllocError>
-        requires later { (move : Move) → Contains self.old move → order_of move < 13122 + 81 * place_of kind }
+        requires later { (move : Move) → Contains self.old move
+            → order_of move < 13122 + 81 * place_of kind }
         ensures added { OnOk result (Adds (IsDropOn kind squares) self.old self.new) }
         ensures rises { OnOk result (RisesFrom 0 self.new) }
     {

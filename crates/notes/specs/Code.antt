@@ -1,5 +1,5 @@
--- Serves the model of a note, which no public clause names: how the logic stores a derivation, as a tree of pairs, where it is told
--- how a step is stored.
+-- Serves the model of a note, which no public clause names: how the logic stores a derivation, as a
+-- tree of pairs, where it is told how a step is stored.
 use Rattle.std.specs.Prelude.{◌≡◌, ℕ}
 use Rattle.std.proofs.Common.{ap, arith, sym, refl}
 use base.Stored.{Gv, gnil, gnum, gcons, Coded}

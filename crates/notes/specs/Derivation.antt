@@ -8,8 +8,8 @@ use Rattle.notes.specs.declared.rule.Rule.TheVariants.{MateEnd, MateAll, MateBy,
 use Rattle.notes.specs.declared.rule.Conclusion.{Conclusion}
 use Rattle.notes.specs.declared.rule.Conclusion.TheVariants.{Mate, Escape}
 
--- A step: its rule, the side that attacks, the position that it is about, its tag (the keys, rising, of the positions on whose
--- repetition it depends), and its height.
+-- A step: its rule, the side that attacks, the position that it is about, its tag (the keys,
+-- rising, of the positions on whose repetition it depends), and its height.
 pub record Step : Type 0 where
   pub rule : Rule
   pub attacker : Side

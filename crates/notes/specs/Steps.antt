@@ -1,4 +1,5 @@
--- Serves the model of a note, which no public clause names: the notes under a step have fewer steps.
+-- Serves the model of a note, which no public clause names: the notes under a step have fewer
+-- steps.
 use Rattle.std.proofs.Common.{◌≤◌, ◌+◌, List, [], ◌∷◌, arith}
 use denote.Param.Weighed.{most}
 use Rattle.notes.specs.Derivation.{Derivation, derivations, steps_of, steps_under}

@@ -15,21 +15,23 @@ use Rattle.notes.specs.Valid.{IsValid}
 abbrev pub StandFor : List Key → List Board → Type 0
 StandFor tag t = (key : Key) → Contains tag key → (q : Board) × Contains t q × IsKept q × (key.0 ≡ key_of q)
 
--- Of a mate where the attacker is to move: its height is twice a number of moves within which the position is mate.
+-- Of a mate where the attacker is to move: its height is twice a number of moves within which the
+-- position is mate.
 abbrev pub IsTrueMate : Derivation → Type 0
 IsTrueMate note = (n : ℕ) × (height_of note ≡ 2 * n) × RankAtMost (attacker_of note) n (position_of note)
 
--- Of a mate where the defender is to move: its height is one more than twice a number of moves within which each position is mate
--- to which an evasion leads.
+-- Of a mate where the defender is to move: its height is one more than twice a number of moves
+-- within which each position is mate to which an evasion leads.
 abbrev pub IsTrueMated : Derivation → Type 0
 IsTrueMated note = (n : ℕ) × (height_of note ≡ 2 * n + 1) × IsMatedWithin (attacker_of note) n (position_of note)
 
--- Of an escape where the attacker is to move: the position escapes into any positions that stand for the tag.
+-- Of an escape where the attacker is to move: the position escapes into any positions that stand
+-- for the tag.
 abbrev pub IsTrueEscape : Derivation → Type 0
 IsTrueEscape note = (t : List Board) → StandFor (tag_of note) t → EscapesInto (attacker_of note) (position_of note) t
 
--- Of an escape where the defender is to move: he has an evasion that leads to one of any positions that stand for the tag, or to one
--- that escapes into these.
+-- Of an escape where the defender is to move: he has an evasion that leads to one of any positions
+-- that stand for the tag, or to one that escapes into these.
 abbrev pub IsTrueEvading : Derivation → Type 0
 IsTrueEvading note = (t : List Board) → StandFor (tag_of note) t
     → CanEvadeTo (attacker_of note) (λ q. Contains t q ⊎ EscapesInto (attacker_of note) q t) (position_of note)
@@ -38,8 +40,9 @@ IsTrueEvading note = (t : List Board) → StandFor (tag_of note) t
 abbrev pub IsToMove : Side → Derivation → Type 0
 IsToMove side note = (position_of note).side ≡ side
 
--- What a note says, by its conclusion and by who is to move, is true; a mate has no tag; an escape of the attacker's position without
--- one is an escape; and each key of a tag is that of a position, so that there are positions that stand for it.
+-- What a note says, by its conclusion and by who is to move, is true; a mate has no tag; an escape
+-- of the attacker's position without one is an escape; and each key of a tag is that of a position,
+-- so that there are positions that stand for it.
 pub record IsTrueNote (note : Derivation) : Type 0 where
   pub mate : conclusion_of note ≡ Mate → IsToMove (attacker_of note) note → IsTrueMate note
   pub mated : conclusion_of note ≡ Mate → IsToMove (other (attacker_of note)) note → IsTrueMated note

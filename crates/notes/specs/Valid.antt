@@ -28,7 +28,8 @@ pub record Says (conclusion : Conclusion) (attacker : Side) (b : Board) (note : 
   pub same_attacker : attacker_of note ≡ attacker
   pub about : position_of note ≡ b
 
--- There is a note for each of the moves, in their order, and it concludes this about the position after the move.
+-- There is a note for each of the moves, in their order, and it concludes this about the position
+-- after the move.
 pub record SayEach (conclusion : Conclusion) (attacker : Side) (b : Board) (moves : List Move) (notes : List Derivation) : Type 0 where
   pub as_many : length notes ≡ length moves
   pub each : (i : ℕ) (move : Move) (note : Derivation) → slice_get moves i ≡ Some move → slice_get notes i ≡ Some note
@@ -89,8 +90,8 @@ meets (EscapeRepeat evasion) s notes = IsEvasion s.attacker s.position evasion �
     × IsKeyAlone s.tag (after s.position evasion)
 meets EscapeAll s notes = EscapesAfterAll s.attacker s.position notes × JoinsTags s.tag s.position notes
 
--- A step meets its rule at a position as play has it; its tag rises; its height is one more than the greatest under it, and at most
--- 4,096.
+-- A step meets its rule at a position as play has it; its tag rises; its height is one more than
+-- the greatest under it, and at most 4,096.
 pub record IsStep (s : Step) (notes : List Derivation) : Type 0 where
   pub kept : IsKept s.position
   pub play : IsInPlay s.attacker s.position

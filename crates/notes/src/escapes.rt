@@ -20,12 +20,13 @@ use shogi_rules::{Problem, apply};
 use std::alloc::Global;
 use std::slice;
 
-/// An escape where the attacker is to move and has no check, of height 1 and without a tag. The defender has a king, and isn't in check.
-/// Errors: want of memory alone.
+/// An escape where the attacker is to move and has no check, of height 1 and without a tag. The
+/// defender has a king, and isn't in check. Errors: want of memory alone.
 pub fn escape_end(alloc: Global, problem: &Problem, position: &Position) -> Result<Note, NoteEnd>
     requires play { IsInPlay problem.now.position.side position.now }
     requires end { EndsInEscape problem.now.position.side position.now }
-    ensures note { IfOk result (λ note. note ≡ note_over EscapeEnd problem.now.position.side position.now [] 1 []) }
+    ensures note { IfOk result (λ note. note
+        ≡ note_over EscapeEnd problem.now.position.side position.now [] 1 []) }
     ensures high { ¬ (result ≡ Err TooHigh) }
 {
     let tag = Tag::empty(alloc);
@@ -40,9 +41,10 @@ pub fn escape_end(alloc: Global, problem: &Problem, position: &Position) -> Resu
     )?)
 }
 
-/// An escape by an evasion that leads to an escape, with that note's tag. Its height is 1 more than that note's. The note stays, with
-/// one more owner. The defender has a king, and the side not to move isn't in check. Errors: TooHigh exactly where the height would be
-/// above 4,096; else want of memory alone.
+/// An escape by an evasion that leads to an escape, with that note's tag. Its height is 1 more than
+/// that note's. The note stays, with one more owner. The defender has a king, and the side not to
+/// move isn't in check. Errors: TooHigh exactly where the height would be above 4,096; else want of
+/// memory alone.
 pub fn escape_by(
     alloc: Global,
     problem: &Problem,
@@ -53,7 +55,9 @@ pub fn escape_by(
     requires play { IsInPlay problem.now.position.side position.now }
     requires evasion { IsEvasion problem.now.position.side position.now evasion }
     requires escape { Says Escape problem.now.position.side (after position.now evasion) note.now }
-    ensures note { IfOk result (λ made. made ≡ note_over (EscapeBy evasion) problem.now.position.side position.now (tag_of note.now) (height_of note.now + 1) (note.now ∷ [])) }
+    ensures note { IfOk result (λ made. made
+        ≡ note_over (EscapeBy evasion) problem.now.position.side position.now (tag_of note.now)
+        (height_of note.now + 1) (note.now ∷ [])) }
     ensures high { (result ≡ Err TooHigh) ↔ (4096 < height_of note.now + 1) }
 {
     let notes = slice::from_ref(note);
@@ -71,9 +75,10 @@ pub fn escape_by(
     )?)
 }
 
-/// An escape by an evasion that leads to a position that is taken to stand on the path: `key` is its key, and the note's tag. Its
-/// height is 1. The defender has a king, and the side not to move isn't in check. Errors: want of memory alone. (Kishimoto and
-/// Müller 2004: a disproof that depends on the path.)
+/// An escape by an evasion that leads to a position that is taken to stand on the path: `key` is
+/// its key, and the note's tag. Its height is 1. The defender has a king, and the side not to move
+/// isn't in check. Errors: want of memory alone. (Kishimoto and Müller 2004: a disproof that
+/// depends on the path.)
 pub fn escape_repeat(
     alloc: Global,
     problem: &Problem,
@@ -84,7 +89,8 @@ pub fn escape_repeat(
     requires play { IsInPlay problem.now.position.side position.now }
     requires evasion { IsEvasion problem.now.position.side position.now evasion }
     requires key { key.0 ≡ key_of (after position.now evasion) }
-    ensures note { IfOk result (λ note. note ≡ note_over (EscapeRepeat evasion) problem.now.position.side position.now (key ∷ []) 1 []) }
+    ensures note { IfOk result (λ note. note
+        ≡ note_over (EscapeRepeat evasion) problem.now.position.side position.now (key ∷ []) 1 []) }
     ensures high { ¬ (result ≡ Err TooHigh) }
 {
     // No other position has the key of the one that the evasion leads to.
@@ -101,9 +107,10 @@ pub fn escape_repeat(
     )?)
 }
 
-/// An escape where the attacker has checks and each leads to an escape; a note for each, in the order of moves. Its tag has the keys
-/// of their tags, but for the position's own: who is back at it goes on as before. Its height is 1 more than the greatest of
-/// theirs. The notes stay, with one more owner each. The defender has a king, and isn't in check. Errors: TooHigh exactly where the
+/// An escape where the attacker has checks and each leads to an escape; a note for each, in the
+/// order of moves. Its tag has the keys of their tags, but for the position's own: who is back at
+/// it goes on as before. Its height is 1 more than the greatest of theirs. The notes stay, with one
+/// more owner each. The defender has a king, and isn't in check. Errors: TooHigh exactly where the
 /// height would be above 4,096; else want of memory alone.
 pub fn escape_all(
     alloc: Global,

@@ -1,10 +1,13 @@
-//! Notes: facts about positions, each a derivation that only seven rules can make, and so true for every reader.
+//! Notes: facts about positions, each a derivation that only seven rules can make, and so true for
+//! every reader.
 //!
-//! A search shares what it has found among paths. A disproof that depends on a repetition holds only where the repeated position
-//! stands on the path (the graph-history interaction problem: Kishimoto and Müller 2004). A note carries the *tag* of the positions
-//! on whose repetition it depends (a form of this project's own); with it, what it says is an absolute statement: from its position
-//! the defender escapes, or gets to one of the tag's positions. Contracts see a note as a tree (`specs/Derivation.antt`); its type
-//! keeps that every step of it meets its rule (`specs/Valid.antt`); [`Note::laws`] says what is then true (`specs/Truth.antt`).
+//! A search shares what it has found among paths. A disproof that depends on a repetition holds
+//! only where the repeated position stands on the path (the graph-history interaction problem:
+//! Kishimoto and Müller 2004). A note carries the *tag* of the positions on whose repetition it
+//! depends (a form of this project's own); with it, what it says is an absolute statement: from its
+//! position the defender escapes, or gets to one of the tag's positions. Contracts see a note as a
+//! tree (`specs/Derivation.antt`); its type keeps that every step of it meets its rule
+//! (`specs/Valid.antt`); [`Note::laws`] says what is then true (`specs/Truth.antt`).
 #![tactic(auto)]
 
 mod escapes;

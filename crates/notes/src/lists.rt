@@ -47,7 +47,8 @@ pub(crate) fn shared(alloc: Global, notes: &[Note]) -> Result<Vec<Note>, AllocEr
     Ok(all)
 }
 
-/// The tag of an escape by all checks of a position: the keys of the notes' tags, but for the position's own.
+/// The tag of an escape by all checks of a position: the keys of the notes' tags, but for the
+/// position's own.
 pub(crate) fn joined_tags(
     alloc: Global,
     position: &Position,

@@ -17,12 +17,14 @@ use shogi_rules::Problem;
 use std::alloc::Global;
 use std::slice;
 
-/// A mate where the defender is in check and has no evasion, of height 1 and without a tag. The defender has a king, and the side not
-/// to move isn't in check. Errors: want of memory alone. (Rules of shogi: mate.)
+/// A mate where the defender is in check and has no evasion, of height 1 and without a tag. The
+/// defender has a king, and the side not to move isn't in check. Errors: want of memory alone.
+/// (Rules of shogi: mate.)
 pub fn mate_end(alloc: Global, problem: &Problem, position: &Position) -> Result<Note, NoteEnd>
     requires play { IsInPlay problem.now.position.side position.now }
     requires end { EndsInMate problem.now.position.side position.now }
-    ensures note { IfOk result (λ note. note ≡ note_over MateEnd problem.now.position.side position.now [] 1 []) }
+    ensures note { IfOk result (λ note. note
+        ≡ note_over MateEnd problem.now.position.side position.now [] 1 []) }
     ensures high { ¬ (result ≡ Err TooHigh) }
 {
     let tag = Tag::empty(alloc);
@@ -37,9 +39,10 @@ pub fn mate_end(alloc: Global, problem: &Problem, position: &Position) -> Result
     )?)
 }
 
-/// A mate where the defender has evasions and each leads to a mate; a note for each, in the order of moves. Its height is 1 more
-/// than the greatest of theirs. The notes stay, with one more owner each. The defender has a king, and the side not to move isn't in
-/// check. Errors: TooHigh exactly where the height would be above 4,096; else want of memory alone.
+/// A mate where the defender has evasions and each leads to a mate; a note for each, in the order
+/// of moves. Its height is 1 more than the greatest of theirs. The notes stay, with one more owner
+/// each. The defender has a king, and the side not to move isn't in check. Errors: TooHigh exactly
+/// where the height would be above 4,096; else want of memory alone.
 pub fn mate_all(
     alloc: Global,
     problem: &Problem,
@@ -48,7 +51,9 @@ pub fn mate_all(
 ) -> Result<Note, NoteEnd>
     requires play { IsInPlay problem.now.position.side position.now }
     requires all { MatesAfterAll problem.now.position.side position.now notes.now }
-    ensures note { IfOk result (λ note. note ≡ note_over MateAll problem.now.position.side position.now [] (highest notes.now + 1) notes.now) }
+    ensures note { IfOk result (λ note. note
+        ≡ note_over MateAll problem.now.position.side position.now [] (highest notes.now + 1)
+        notes.now) }
     ensures high { (result ≡ Err TooHigh) ↔ (4096 < highest notes.now + 1) }
 {
     let height = height_over(notes)?;
@@ -65,9 +70,9 @@ pub fn mate_all(
     )?)
 }
 
-/// A mate by a check that leads to a mate. Its height is 1 more than that note's. The note stays, with one more owner. The defender
-/// has a king, and the side not to move isn't in check. Errors: TooHigh exactly where the height would be above 4,096; else want of
-/// memory alone.
+/// A mate by a check that leads to a mate. Its height is 1 more than that note's. The note stays,
+/// with one more owner. The defender has a king, and the side not to move isn't in check. Errors:
+/// TooHigh exactly where the height would be above 4,096; else want of memory alone.
 pub fn mate_by(
     alloc: Global,
     problem: &Problem,
@@ -78,7 +83,9 @@ pub fn mate_by(
     requires play { IsInPlay problem.now.position.side position.now }
     requires check { IsCheck problem.now.position.side position.now check }
     requires mate { Says Mate problem.now.position.side (after position.now check) note.now }
-    ensures note { IfOk result (λ made. made ≡ note_over (MateBy check) problem.now.position.side position.now [] (height_of note.now + 1) (note.now ∷ [])) }
+    ensures note { IfOk result (λ made. made
+        ≡ note_over (MateBy check) problem.now.position.side position.now []
+        (height_of note.now + 1) (note.now ∷ [])) }
     ensures high { (result ≡ Err TooHigh) ↔ (4096 < height_of note.now + 1) }
 {
     let notes = slice::from_ref(note);

@@ -13,7 +13,8 @@ use std::marker::Model;
 use std::mem::size_of;
 use std::sync::Arc;
 
-// What a note takes, beside the places of the notes under it, the keys of its tag, and the two counts of its owners.
+// What a note takes, beside the places of the notes under it, the keys of its tag, and the two
+// counts of its owners.
 const _: () = prove!(size_of::<Node>() <= 288);
 
 /// The greatest height that a note can have.
@@ -36,8 +37,8 @@ impl From<AllocError> for NoteEnd {
     }
 }
 
-/// A fact about a position, with its derivation: a tree of steps, each by one of seven rules. Notes share the notes under them; another
-/// owner of one is made by [`Note::share`].
+/// A fact about a position, with its derivation: a tree of steps, each by one of seven rules. Notes
+/// share the notes under them; another owner of one is made by [`Note::share`].
 ///
 /// It keeps that each step meets its rule, and that no height is above 4,096.
 #[cycle(note)]
@@ -95,7 +96,8 @@ impl Note {
         requires rule { meets rule (step_over rule attacker position.now tag height) under.items }
         requires height { height ≡ highest under.items + 1 }
         requires low { height ≤ 4096 }
-        ensures { IfOk result (λ note. note ≡ note_over rule attacker position.now tag height under.items) }
+        ensures { IfOk result (λ note. note
+            ≡ note_over rule attacker position.now tag height under.items) }
     {
         position.laws();
         tag.laws();
@@ -112,7 +114,8 @@ impl Note {
         })
     }
 
-    /// The same note, for another owner. Takes no memory but a place in the count of its owners; an error where that is full.
+    /// The same note, for another owner. Takes no memory but a place in the count of its owners; an
+    /// error where that is full.
     pub fn share(&self) -> Result<Note, AllocError>
         ensures { IfOk result (λ note. note ≡ self.now) }
     {
@@ -156,7 +159,8 @@ impl Note {
         &self.node.tag
     }
 
-    /// How high its tree is: 1 where nothing is under it, else 1 more than the greatest height under it; at most 4,096. Takes no memory.
+    /// How high its tree is: 1 where nothing is under it, else 1 more than the greatest height
+    /// under it; at most 4,096. Takes no memory.
     pub fn height(&self) -> u32
         ensures { result ≡ height_of self.now }
     {
@@ -177,10 +181,12 @@ impl Note {
         self.node.under.as_slice()
     }
 
-    /// Laws: what every note keeps and says. A mate where the attacker is to move is a mate within half its height; where the
-    /// defender is to move, each evasion leads to a mate within half its height, rounded down. An escape where the attacker is to
-    /// move is one into any positions that stand for its tag; where the defender is to move, he has an evasion to one of these, or
-    /// to one that escapes into these. A mate has no tag. Does nothing; whoever reads a note calls it to know this. Takes no memory.
+    /// Laws: what every note keeps and says. A mate where the attacker is to move is a mate within
+    /// half its height; where the defender is to move, each evasion leads to a mate within half its
+    /// height, rounded down. An escape where the attacker is to move is one into any positions that
+    /// stand for its tag; where the defender is to move, he has an evasion to one of these, or to
+    /// one that escapes into these. A mate has no tag. Does nothing; whoever reads a note calls it
+    /// to know this. Takes no memory.
     pub fn laws(&self)
         ensures valid { IsValid self.now }
         ensures true_note { IsTrueNote self.now }
@@ -190,7 +196,8 @@ impl Note {
     }
 }
 
-/// A law: every valid note is true, also where contracts speak of notes that no call has at hand. Does nothing. Takes no memory.
+/// A law: every valid note is true, also where contracts speak of notes that no call has at hand.
+/// Does nothing. Takes no memory.
 pub fn note_laws()
     ensures { NotesAreTrue }
 {

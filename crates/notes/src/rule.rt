@@ -18,7 +18,8 @@ pub enum Conclusion {
 pub enum Rule {
     /// The defender is in check and has no evasion.
     MateEnd,
-    /// The defender has an evasion, and each leads to a mate; the notes under it are in the order of the evasions.
+    /// The defender has an evasion, and each leads to a mate; the notes under it are in the order
+    /// of the evasions.
     MateAll,
     /// This check leads to a mate.
     MateBy(Move),
@@ -28,7 +29,8 @@ pub enum Rule {
     EscapeBy(Move),
     /// This evasion leads to a position that is taken to stand on the path; its key is the tag.
     EscapeRepeat(Move),
-    /// The attacker has a check, and each leads to an escape; the notes under it are in the order of the checks.
+    /// The attacker has a check, and each leads to an escape; the notes under it are in the order
+    /// of the checks.
     EscapeAll,
 }
 

@@ -52,7 +52,8 @@ pub enum Update {
 /// What the table answers to a worker that enters a position.
 #[derive(Clone, Copy, PartialEq, Eq, Debug)]
 pub enum Kept {
-    /// Its entry is in this slot of its row, from 0 to 7, and stays there while a worker is below it.
+    /// Its entry is in this slot of its row, from 0 to 7, and stays there while a worker is below
+    /// it.
     Slot(u8),
     /// Its row is full of entries that workers are below.
     Unkept,

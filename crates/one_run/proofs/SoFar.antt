@@ -118,7 +118,8 @@ so_far_cut command input source others left subject told now after f g h answer 
   rose = subst (λ (n : ℕ). Rose n h) are.kept rose;
 }
 
--- All parts are told, and the answer was written behind them, or a part of it, or memory was wanted.
+-- All parts are told, and the answer was written behind them, or a part of it, or memory was
+-- wanted.
 pub so_far_whole : {S P A F : Type 0} (command : Serial S P A F) (input : List ℕ) (source : Shown) (others : List S) (told now after : Option (List ℕ)) (f g h : ℕ)
     (answer : A) (written : Written A) → IsReadWhole command.limit source input → AreSoFar command (command.subjects_of input) others (between told f now g) answer
     → others ≡ [] → HasWritten (command.text_of answer) (between now g after h) answer written → IsSerialEnd command source (between told f after h) (ended_by written)

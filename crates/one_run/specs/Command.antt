@@ -16,9 +16,9 @@ pub record Meaning (Answer Fault : Type 0) : Type 1 where
   pub text_of : Answer → List ℕ
   pub Uses : Signals → Type 0
 
--- What is answered to a text, or why it isn't, with what became of the stops: an answer that is true of
--- it, where the stops were used; or its fault, where they weren't; or want of memory, which is free, where
--- they may have been.
+-- What is answered to a text, or why it isn't, with what became of the stops: an answer that is
+-- true of it, where the stops were used; or its fault, where they weren't; or want of memory, which
+-- is free, where they may have been.
 abbrev pub IsAnswer : {A F : Type 0} → Meaning A F → Signals → List ℕ → Result A (Unanswered F) → Type 0
 IsAnswer command stops input (Ok answer) = command.IsTrue stops input answer × command.Uses stops
 IsAnswer command stops input (Err (Text fault)) = command.IsFault input fault × AreUnused stops

@@ -109,8 +109,8 @@ WantsMemory ended = (input : List ℕ) × (ended ≡ Failed NoMemory input)
 abbrev pub IsFailed : {A F : Type 0} → Ended A F → Type 0
 IsFailed {A} {F} ended = (fault : Fault F) × (input : List ℕ) × (ended ≡ Failed fault input)
 
--- All that a run of a command keeps: it ended so, with the stops used and the faults counted so; and what it
--- is asked about is answered, unless the outside failed or memory was wanted.
+-- All that a run of a command keeps: it ended so, with the stops used and the faults counted so;
+-- and what it is asked about is answered, unless the outside failed or memory was wanted.
 pub record IsRun {A F : Type 0} (command : Meaning A F) (stops : Signals) (source sink : Shown) (ended : Ended A F) : Type 0 where
   pub does : IsEnded command stops source sink ended
   pub used : AreUsedTill command stops ended

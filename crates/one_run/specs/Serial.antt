@@ -11,10 +11,10 @@ use Rattle.one_run.specs.Outside.{Shown, NeverFailed, IsUntouched}
 use Rattle.one_run.specs.Run.{HasCause, IsAnswered, IsCounted, IsReadWhole, IsWellPosed, WantsMemory}
 use Rattle.one_run.specs.Stops.{AreUnused}
 
--- A command that reads one text and tells a part of its answer on each subject of the text, in their order, and what
--- sums them up behind the last; by the kinds of its subjects, parts, answers and faults: the most bytes that a text may
--- have, and when it has a fault; the subjects of a text; when a part is true of a subject, and its text; when an answer
--- sums parts up, and its text.
+-- A command that reads one text and tells a part of its answer on each subject of the text, in
+-- their order, and what sums them up behind the last; by the kinds of its subjects, parts, answers
+-- and faults: the most bytes that a text may have, and when it has a fault; the subjects of a text;
+-- when a part is true of a subject, and its text; when an answer sums parts up, and its text.
 pub record Serial (Subject Part Answer Fault : Type 0) : Type 1 where
   pub limit : ℕ
   pub IsFault : List ℕ → Fault → Type 0
@@ -44,7 +44,8 @@ pub record AreTold {S P A F : Type 0} (command : Serial S P A F) (subjects : Lis
   pub is_text : text ≡ parts_text command subjects parts
   pub sums : command.IsSum parts answer
 
--- The same command, of which only the end is told: an answer sums up true parts on all subjects of the text; it uses no stop.
+-- The same command, of which only the end is told: an answer sums up true parts on all subjects of
+-- the text; it uses no stop.
 abbrev pub meaning_of : {S P A F : Type 0} → Serial S P A F → Meaning A F
 meaning_of command = record {
   limit = command.limit;
@@ -62,8 +63,8 @@ pub record IsPartTold {S P A F : Type 0} (command : Serial S P A F) (subject : S
   pub is_text : text ≡ command.part_text subject part
   pub summed : (parts : List P) → command.IsSum parts before → command.IsSum (parts ++ part ∷ []) after
 
--- How far a run has come, of all whose subjects these others are left: on those before them the parts were told, which the
--- answer sums up, and nothing else was written.
+-- How far a run has come, of all whose subjects these others are left: on those before them the
+-- parts were told, which the answer sums up, and nothing else was written.
 pub record AreSoFar {S P A F : Type 0} (command : Serial S P A F) (all others : List S) (sink : Shown) (answer : A) : Type 0 where
   pub done : List S
   pub parted : all ≡ done ++ others
@@ -72,7 +73,8 @@ pub record AreSoFar {S P A F : Type 0} (command : Serial S P A F) (all others : 
   pub grew : GrewBy sink.told sink.told_after text
   pub kept : NeverFailed sink
 
--- The parts on all subjects of the text were written in their order, and the answer's text behind them.
+-- The parts on all subjects of the text were written in their order, and the answer's text behind
+-- them.
 pub record AreAllTold {S P A F : Type 0} (command : Serial S P A F) (source sink : Shown) (answer : A) : Type 0 where
   pub input : List ℕ
   pub read : IsReadWhole command.limit source input
@@ -89,8 +91,8 @@ pub record AreFirstTold {S P A F : Type 0} (command : Serial S P A F) (source : 
   pub parted : command.subjects_of input ≡ done ++ others
   pub told : AreTold command done text answer
 
--- A failed sink has kept a part of the text: of the parts on the subjects that were done; or all of these, which are on all
--- subjects, and a part of the answer's text.
+-- A failed sink has kept a part of the text: of the parts on the subjects that were done; or all of
+-- these, which are on all subjects, and a part of the answer's text.
 pub record AreToldInPart {S P A F : Type 0} (command : Serial S P A F) (source sink : Shown) (answer : A) : Type 0 where
   pub text : List ℕ
   pub first : AreFirstTold command source text answer
@@ -113,16 +115,17 @@ IsWrittenBefore command source sink TooLong = IsUntouched sink
 IsWrittenBefore command source sink Read = IsUntouched sink
 IsWrittenBefore command source sink NoMemory = IsUntouched sink ⊎ AreToldBefore command source sink
 
--- How a run ended. Answered: all parts and the answer's text were written. Cut short: a failed sink has kept a part of them.
--- Failed: the fault has its cause; and nothing was written, or for want of memory nothing but whole parts.
+-- How a run ended. Answered: all parts and the answer's text were written. Cut short: a failed sink
+-- has kept a part of them. Failed: the fault has its cause; and nothing was written, or for want of
+-- memory nothing but whole parts.
 abbrev pub IsSerialEnd : {S P A F : Type 0} → Serial S P A F → Shown → Shown → Ended A F → Type 0
 IsSerialEnd command source sink (Answered answer) = AreAllTold command source sink answer
 IsSerialEnd command source sink (CutShort answer) = AreToldInPart command source sink answer
 IsSerialEnd command source sink (Failed fault input) =
     HasCause (meaning_of command) source fault input × IsWrittenBefore command source sink fault
 
--- All that a run of such a command keeps: it ended so, with the faults counted so; and what it is asked about is answered,
--- unless the outside failed or memory was wanted.
+-- All that a run of such a command keeps: it ended so, with the faults counted so; and what it is
+-- asked about is answered, unless the outside failed or memory was wanted.
 pub record IsSerialRun {S P A F : Type 0} (command : Serial S P A F) (source sink : Shown) (ended : Ended A F) : Type 0 where
   pub does : IsSerialEnd command source sink ended
   pub counted : IsCounted source sink ended

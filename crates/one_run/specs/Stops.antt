@@ -16,8 +16,9 @@ signals signal before after = record { before = map signal before; after = map s
 abbrev pub once_armed : Option ℕ → Signals → Signals
 once_armed deadline stops = record { before = map (λ signal. armed_with signal deadline) stops.before; after = stops.after }
 
--- A search with so many workers used the stops: each was armed once, for this deadline or for none, before any was polled; then only its
--- workers' were polled, of which there is one for each, from the first on.
+-- A search with so many workers used the stops: each was armed once, for this deadline or for none,
+-- before any was polled; then only its workers' were polled, of which there is one for each, from
+-- the first on.
 abbrev pub AreUsed : ℕ → Option ℕ → Signals → Type 0
 AreUsed workers deadline stops = ArePolled workers (once_armed deadline stops).before stops.after
 

@@ -36,8 +36,8 @@ fn fault_of<F: Drop>(end: ReadEnd) -> Fault<F>
     }
 }
 
-/// Begins a run: reads the command's text, all bytes of the source, where there are no more than the
-/// command takes. Errors: how the run ended, where they can't be read.
+/// Begins a run: reads the command's text, all bytes of the source, where there are no more than
+/// the command takes. Errors: how the run ended, where they can't be read.
 pub fn read<C: Command, S: Source>(
     alloc: Global,
     command: &C,
@@ -59,8 +59,9 @@ pub fn read<C: Command, S: Source>(
     }
 }
 
-/// Ends a run whose text, these bytes, was read whole: writes the whole text of the answer, which is
-/// made before the first write; or, where the text isn't answered, writes nothing and keeps the bytes.
+/// Ends a run whose text, these bytes, was read whole: writes the whole text of the answer, which
+/// is made before the first write; or, where the text isn't answered, writes nothing and keeps the
+/// bytes.
 pub fn tell<C: Command, K: Sink>(
     alloc: Global,
     command: &C,

@@ -7,7 +7,8 @@ use crate::{Ended, Fault, Input};
 use std::alloc::{AllocError, Global};
 use tsume_io::{Sink, write_all};
 
-/// What writing the text of an answer came to; and so how a run of a command ended that reads nothing.
+/// What writing the text of an answer came to; and so how a run of a command ended that reads
+/// nothing.
 #[derive(Drop)]
 pub enum Written<A> {
     /// It was written whole.
@@ -37,7 +38,8 @@ pub fn write<A: Drop, K: Sink>(
 }
 
 impl<A: Drop> Written<A> {
-    /// How a run ended that read its text whole, and then wrote its answer so; no bytes of the text are kept.
+    /// How a run ended that read its text whole, and then wrote its answer so; no bytes of the text
+    /// are kept.
     pub fn ended<F: Drop>(self, alloc: Global) -> Ended<A, F>
         ensures { result ≡ ended_by self }
     {

@@ -10,7 +10,8 @@ use Rattle.path_tags.specs.Path.{first_place, IsIndex}
 use Rattle.board_laws.proofs.Keys.{key_total, same_from_test, test_from_same}
 use Rattle.path_tags.proofs.Members.{contains_head, contains_tail, contains_none, contains_cases}
 
--- a key that stands on the path keeps its first place behind a push; a new one stands first where it was pushed
+-- a key that stands on the path keeps its first place behind a push; a new one stands first where
+-- it was pushed
 abbrev pub place_after : Option ℕ → Bool → ℕ → Option ℕ
 place_after (Some place) same next = Some place
 place_after None true next = Some next

@@ -1,4 +1,5 @@
--- Rising lists of keys: what putting a key into one and taking one out do, and that there is one for a set of keys.
+-- Rising lists of keys: what putting a key into one and taking one out do, and that there is one
+-- for a set of keys.
 use Rattle.std.proofs.Common.{◌≡◌, ◌≢◌, List, [], ◌∷◌, ◌⊎◌, inl, inr, Bool, true, false, not, cond, Contains, ap, sym, refl, subst, ◌∙◌}
 use Rattle.std.specs.List.{AllByRecursion}
 use Rattle.std.specs.Ordering.{is_eq, match_ordering}

@@ -28,7 +28,8 @@ OneIsWithin = (key : Key) (path : List Key) → IsWithin (key ∷ []) path ↔ C
 abbrev pub WithinMore : Type 0
 WithinMore = (tag path : List Key) (key : Key) → IsWithin tag path → IsWithin tag (path ++ key ∷ [])
 
--- A law: two tags lie within a path with a key more exactly where they lie, joined without that key, within the path.
+-- A law: two tags lie within a path with a key more exactly where they lie, joined without that
+-- key, within the path.
 abbrev pub JoinedWithin : Type 0
 JoinedWithin = (key : Key) (a b path : List Key)
     → (IsWithin a (path ++ key ∷ []) × IsWithin b (path ++ key ∷ [])) ↔ IsWithin (joined_without key a b) path

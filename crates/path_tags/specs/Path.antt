@@ -5,7 +5,8 @@ use Rattle.std.specs.BTreeMap.{BTreeMap, get, is_at}
 use Rattle.board_core.specs.declared.keys.Key.{Key}
 use Rattle.board_core.specs.KeyOrder.{key_cmp}
 
--- The first place at which the key stands on the path, counted from the root; none where it isn't on the path.
+-- The first place at which the key stands on the path, counted from the root; none where it isn't
+-- on the path.
 abbrev pub first_place : List Key → Key → Option ℕ
 first_place [] key = None
 first_place (first ∷ rest) key = cond (is_at (key_cmp key) first) (Some 0) (option_map suc (first_place rest key))

@@ -10,7 +10,8 @@ use Rattle.board_core.specs.KeyOrder.{key_cmp}
 abbrev pub IsRising : List Key → Type 0
 IsRising keys = IsStrictlySortedBy key_cmp keys
 
--- The keys of either list: those of the second are put into the first, each at its place in the order, unless it is there.
+-- The keys of either list: those of the second are put into the first, each at its place in the
+-- order, unless it is there.
 abbrev pub joined : List Key → List Key → List Key
 joined keys [] = keys
 joined keys (other ∷ others) = insert_key key_cmp (joined keys others) other

@@ -17,10 +17,13 @@ pub(crate) struct First<'a> {
 pub(crate) fn first_of<'a>(ours: &'a [Key], theirs: &'a [Key]) -> Option<First<'a>>
     requires ours { IsRising ours.now }
     requires theirs { IsRising theirs.now }
-    ensures first { IfSome result (λ first. joined ours.now theirs.now ≡ first.key ∷ joined first.ours.now first.theirs.now) }
+    ensures first { IfSome result (λ first. joined ours.now theirs.now
+        ≡ first.key ∷ joined first.ours.now first.theirs.now) }
     ensures ours_rise { IfSome result (λ first. IsRising first.ours.now) }
     ensures theirs_rise { IfSome result (λ first. IsRising first.theirs.now) }
-    ensures shorter { IfSome result (λ first. length first.ours.now + length first.theirs.now < length ours.now + length theirs.now) }
+    ensures shorter { IfSome result
+        (λ first. length first.ours.now + length first.theirs.now < length ours.now + length
+        theirs.now) }
     ensures none { IfNone result (joined ours.now theirs.now ≡ []) }
 {
     let Some((&our, our_rest)) = ours.split_first() else {

@@ -6,9 +6,9 @@ use std::alloc::{AllocError, Global};
 use std::collections::BTreeMap;
 use std::marker::Model;
 
-/// The keys of the attacker's positions on the way of a search, in the order in which they were pushed: the root's first, the
-/// latest last. A key may stand on it more than once. It is asked for a key in a time that grows as the logarithm of its length.
-/// Contracts see the list.
+/// The keys of the attacker's positions on the way of a search, in the order in which they were
+/// pushed: the root's first, the latest last. A key may stand on it more than once. It is asked for
+/// a key in a time that grows as the logarithm of its length. Contracts see the list.
 #[derive(Drop, Debug)]
 pub struct Path {
     keys: Vec<Key>,
@@ -38,7 +38,8 @@ impl Path {
         }
     }
 
-    /// Puts a key behind the others. Errors: want of memory alone, and then the path stays as it was.
+    /// Puts a key behind the others. Errors: want of memory alone, and then the path stays as it
+    /// was.
     pub fn push(&mut self, key: Key) -> Result<(), AllocError>
         ensures pushed { OnOk result (self.new ≡ self.old ++ key ∷ []) }
         ensures unchanged { OnErr result (self.new ≡ self.old) }
@@ -51,7 +52,8 @@ impl Path {
         Ok(())
     }
 
-    /// Takes the latest key off the path and tells it, or tells that there is none. Takes no memory.
+    /// Takes the latest key off the path and tells it, or tells that there is none. Takes no
+    /// memory.
     pub fn pop(&mut self) -> Option<Key>
         ensures popped { IfSome result (λ key. self.old ≡ self.new ++ key ∷ []) }
         ensures none { IfNone result (self.old ≡ []) }

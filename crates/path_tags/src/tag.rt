@@ -9,8 +9,9 @@ use board_core::Key;
 use std::alloc::{AllocError, Global};
 use std::marker::Model;
 
-/// The keys of the positions that a disproof depends on, in the order of keys, each once. The disproof may be used on each path on which all
-/// of them stand (Kishimoto and Müller 2004). Contracts see the list.
+/// The keys of the positions that a disproof depends on, in the order of keys, each once. The
+/// disproof may be used on each path on which all of them stand (Kishimoto and Müller 2004).
+/// Contracts see the list.
 #[derive(Drop, Debug)]
 pub struct Tag {
     keys: Vec<Key>,
@@ -57,12 +58,14 @@ impl Tag {
         Ok(Tag { keys })
     }
 
-    /// Adds the keys of another tag, and takes one key out. So a disproof gets its tag from those of the disproofs that it needs: its own
-    /// position's key is taken out, since that position stands on the path wherever they are used. Errors: want of memory alone, and
-    /// then the tag stays as it was; a tag that comes out empty takes none.
+    /// Adds the keys of another tag, and takes one key out. So a disproof gets its tag from those
+    /// of the disproofs that it needs: its own position's key is taken out, since that position
+    /// stands on the path wherever they are used. Errors: want of memory alone, and then the tag
+    /// stays as it was; a tag that comes out empty takes none.
     pub fn add_without(&mut self, alloc: Global, other: &Tag, key: &Key) -> Result<(), AllocError>
         ensures joined { OnOk result (self.new ≡ joined_without key.now self.old other.now) }
-        ensures holds { OnOk result ((each : Key) → Contains self.new each ↔ ((Contains self.old each ⊎ Contains other.now each) × (each ≢ key.now))) }
+        ensures holds { OnOk result ((each : Key) → Contains self.new each
+            ↔ ((Contains self.old each ⊎ Contains other.now each) × (each ≢ key.now))) }
         ensures rises { OnOk result (IsRising self.new) }
         ensures unchanged { OnErr result (self.new ≡ self.old) }
         ensures free { joined_without key.now self.old other.now ≡ [] → IsOk result }
@@ -80,8 +83,8 @@ impl Tag {
         Ok(())
     }
 
-    /// Whether each key of the tag stands on the path: whether the disproof holds there. Asks the path at most once for each key. Takes
-    /// no memory.
+    /// Whether each key of the tag stands on the path: whether the disproof holds there. Asks the
+    /// path at most once for each key. Takes no memory.
     pub fn within(&self, path: &Path) -> bool
         ensures { IsTrue result ↔ IsWithin self.now path.now }
     {
@@ -110,7 +113,8 @@ impl Tag {
         &self.keys
     }
 
-    /// What the type keeps: the keys rise. Does nothing; whoever wants to know this of a tag calls it. Takes no memory.
+    /// What the type keeps: the keys rise. Does nothing; whoever wants to know this of a tag calls
+    /// it. Takes no memory.
     pub fn laws(&self)
         ensures rises { IsRising self.now }
     {

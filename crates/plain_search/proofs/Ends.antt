@@ -1,4 +1,5 @@
--- Where the levels of a search end: one place for each, and none before that of the level before it.
+-- Where the levels of a search end: one place for each, and none before that of the level before
+-- it.
 use Rattle.std.proofs.Common.{◌≡◌, ◌<◌, ◌≤◌, ◌+◌, inl, inr, ℕ, zero, suc, List, [], ◌∷◌, length, Contains, arith, ap, sym, refl, ◌∙◌, subst}
 use Rattle.std.specs.Prelude.{Some, slice_get, min}
 use Rattle.std.proofs.lemmas.Bool.{cases_eq}

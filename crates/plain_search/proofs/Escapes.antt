@@ -1,4 +1,5 @@
--- The entries of an escape are closed: from each, every check leads to a place with a step to a listed one.
+-- The entries of an escape are closed: from each, every check leads to a place with a step to a
+-- listed one.
 use Rattle.std.proofs.Common.{◌≡◌, ◌<◌, ◌≤◌, ◌+◌, ◌⊎◌, inl, inr, ℕ, List, [], ◌∷◌, ◌++◌, Bool, true, get_or, length, Contains, arith, ap, sym, refl, ◌∙◌, subst}
 use Rattle.std.specs.Prelude.{Some, None, slice_get}
 use Rattle.std.proofs.lemmas.Bool.{cases_lt}
@@ -44,7 +45,8 @@ pub record IsLedInto (graph : Graph) (ranks : Ranks) (places : List ℕ) (to : �
   pub way : IsWayOut graph ranks to next
   pub listed : Contains places next
 
--- The entry is the position of the place at this place of the agenda, and each check leads to a step to a listed place.
+-- The entry is the position of the place at this place of the agenda, and each check leads to a
+-- step to a listed place.
 pub record IsHeldAt (graph : Graph) (ranks : Ranks) (places : List ℕ) (k : ℕ) (b : Board) : Type 0 where
   pub place : ℕ
   pub there : slice_get places k ≡ Some place

@@ -1,5 +1,5 @@
--- What ranks by places tell exactly: the least number of moves within which the known positions show a mate, and the checks that
--- mate within it.
+-- What ranks by places tell exactly: the least number of moves within which the known positions
+-- show a mate, and the checks that mate within it.
 use Rattle.std.proofs.Common.{◌≡◌, ◌<◌, ◌≤◌, inl, inr, ℕ, zero, suc, false, length, Contains, arith, ap, sym, refl, ◌∙◌, subst}
 use Rattle.std.specs.Prelude.{Some, None, slice_get}
 use Rattle.std.proofs.lemmas.Bool.{cases_lt}

@@ -1,4 +1,5 @@
--- The entries of a mate are borne out: each shows a step to a beaten place, all evasions at which lead to listed places.
+-- The entries of a mate are borne out: each shows a step to a beaten place, all evasions at which
+-- lead to listed places.
 use Rattle.std.proofs.Common.{◌≡◌, ◌<◌, ◌≤◌, ◌+◌, ◌⊎◌, inl, inr, ℕ, List, [], ◌∷◌, ◌++◌, false, get_or, length, Contains, arith, ap, sym, refl, ◌∙◌, subst}
 use Rattle.std.specs.Prelude.{Some, Option, Bool, slice_get}
 use Rattle.std.proofs.lemmas.Option.{same_Some, slice_get_cases, slice_get_within, slice_get_read, slice_get-get_or}
@@ -50,7 +51,8 @@ in_play_kept p graph place b g at = g.kept.places.kept b (contained (met graph) 
 
 -- 2. What is shown of entries.
 
--- The entry is that of the place at this place of the agenda, and all evasions to its step are on the agenda.
+-- The entry is that of the place at this place of the agenda, and all evasions to its step are on
+-- the agenda.
 pub record IsShown (graph : Graph) (ranks : Ranks) (places : List ℕ) (k : ℕ) (entry : MateEntry) : Type 0 where
   pub place : ℕ
   pub there : slice_get places k ≡ Some place
@@ -62,7 +64,8 @@ pub record IsShown (graph : Graph) (ranks : Ranks) (places : List ℕ) (k : ℕ)
   pub beaten : IsBeaten false graph ranks (Some entry.rank.number) step.to
   pub evasions : (evasion : Step) → Contains (steps_at graph step.to) evasion → Contains places evasion.to
 
--- What is kept as entries are made: the first place is listed, all listed ones have ranks, and the entries are shown.
+-- What is kept as entries are made: the first place is listed, all listed ones have ranks, and the
+-- entries are shown.
 pub record AreShown (graph : Graph) (ranks : Ranks) (places : List ℕ) (entries : List MateEntry) : Type 0 where
   pub within : length entries ≤ length places
   pub first : Contains places 0
@@ -198,7 +201,8 @@ evasion_at graph ranks below to beaten items same n evasion inside is =
     let ranked = known_ranked ranks below evasion.to ((known_beaten graph ranks below to beaten).1 evasion c) in
     (ranked.0, (ranked.1.0, ranked.1.1), e)
 
--- a rank is less than the number of known places: one of them is the defender's, which its check leads to and which has none
+-- a rank is less than the number of known places: one of them is the defender's, which its check
+-- leads to and which has none
 pub rank_below : (p : Board) (graph : Graph) (ranks : Ranks) → IsGraph p graph → AreRanks false p graph ranks → (place rank : ℕ)
     → rank_at ranks place ≡ Some rank → rank < expansions_of graph
 rank_below p graph ranks g r place rank has = elim (slice_get_cases (met graph) place).1 [

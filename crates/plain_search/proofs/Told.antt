@@ -19,7 +19,8 @@ use Rattle.plain_search.specs.Within.{RankWithin, IsHeldWithin, IsUndecided}
 use Rattle.plain_search.proofs.Ranking.{Ranks, rank_cases, not_both}
 use Rattle.plain_search.proofs.Steps.{IsStepBy, step_by, by_of, step_checks, step_evasions}
 
--- a position of a list of which none stands twice stands among the first so many where these hold it
+-- a position of a list of which none stands twice stands among the first so many where these hold
+-- it
 pub known_place : (positions : List Board) (expansions place : ℕ) (b : Board) → AreApart positions → Contains (take expansions positions) b
     → slice_get positions place ≡ Some b → place < expansions
 known_place positions expansions place b apart known there =

@@ -2,7 +2,8 @@
 use Rattle.std.specs.Prelude.{◌≡◌, ◌<◌, ◌+◌, ℕ, List, Bool, true, false, Some, Contains, length, count_by, slice_get, slice_index_or, not}
 use Rattle.plain_search.specs.declared.agenda.Agenda.{Agenda}
 
--- These are some places below a count, each once, and these the marks of which are listed: no more are listed than there are.
+-- These are some places below a count, each once, and these the marks of which are listed: no more
+-- are listed than there are.
 pub record AreListed (count : ℕ) (listed : List Bool) (places : List ℕ) : Type 0 where
   pub all : length listed ≡ count
   pub marked : (place : ℕ) → Contains places place → slice_index_or listed place false ≡ true

@@ -13,8 +13,8 @@ use Rattle.plain_search.specs.declared.outcome.Outcome.TheVariants.{Mate, NoMate
 abbrev pub known_of : Graph → List Board
 known_of graph = take (expansions_of graph) (positions_met graph)
 
--- What the known positions of a graph tell of the position: a valid plain mate, a valid plain escape, or neither, after as many
--- expansions as the graph has.
+-- What the known positions of a graph tell of the position: a valid plain mate, a valid plain
+-- escape, or neither, after as many expansions as the graph has.
 abbrev pub IsToldBy : Board → Graph → Outcome → Type 0
 IsToldBy p graph (Mate c) = ValidMate c p × IsPlainMate p (known_of graph) c
 IsToldBy p graph (NoMate c) = ValidEscape c p × IsPlainEscape p (known_of graph) c

@@ -1,4 +1,5 @@
--- For the functions of the crate alone: the entries of a plain mate, before and after they are put in order.
+-- For the functions of the crate alone: the entries of a plain mate, before and after they are put
+-- in order.
 use Rattle.std.specs.Prelude.{List}
 use Rattle.mate_facts.specs.declared.entry.MateEntry.{MateEntry}
 use Rattle.board_core.specs.Board.{Board}

@@ -1,5 +1,5 @@
--- For the functions of the crate alone: what a search has met, positions by their place in the queue, and the steps from the
--- first of them.
+-- For the functions of the crate alone: what a search has met, positions by their place in the
+-- queue, and the steps from the first of them.
 use Rattle.std.specs.Prelude.{◌≡◌, ◌<◌, ◌≤◌, ℕ, List, [], Option, Some, None, Contains, Vec, map, length, slice_get, vec_len}
 use Rattle.std.specs.Global.{Global}
 use Rattle.bit_boards.specs.declared.piece.Side.{Side}
@@ -15,13 +15,14 @@ use Rattle.plain_search.specs.declared.graph.Step.{Step}
 use Rattle.plain_search.specs.declared.graph.Queue.{Queue}
 use Rattle.plain_search.specs.declared.graph.Graph.{Graph}
 
--- What every position keeps that play leads to from a problem: the side not to move isn't in check, and the defender has a
--- king.
+-- What every position keeps that play leads to from a problem: the side not to move isn't in check,
+-- and the defender has a king.
 pub record IsInPlay (p b : Board) : Type 0 where
   pub quiet : IsQuiet b
   pub king : 0 < kings_of b (other p.side)
 
--- What a queue keeps: each position is found by its key, so that none stands twice, and each is as play leads to it.
+-- What a queue keeps: each position is found by its key, so that none stands twice, and each is as
+-- play leads to it.
 pub record IsKeptQueue (p : Board) (queue : Queue) : Type 0 where
   pub places : ArePlacesOf queue.places queue.positions.items
   pub in_play : (b : Board) → Contains queue.positions.items b → IsInPlay p b
@@ -30,8 +31,8 @@ pub record IsKeptQueue (p : Board) (queue : Queue) : Type 0 where
 abbrev pub moves_of : List Step → List Move
 moves_of steps = map (λ step. step.by) steps
 
--- The steps from a position: all of them, in the order of moves, each with the place of the position that it leads to. Each
--- move has a text, as legal ones do.
+-- The steps from a position: all of them, in the order of moves, each with the place of the
+-- position that it leads to. Each move has a text, as legal ones do.
 pub record AreSteps (attacker : Side) (positions : List Board) (b : Board) (steps : List Step) : Type 0 where
   pub lists : Lists (IsStep attacker b) (moves_of steps)
   pub lead : (step : Step) → Contains steps step → slice_get positions step.to ≡ Some (after b step.by)

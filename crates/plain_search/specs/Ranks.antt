@@ -1,5 +1,6 @@
--- For the functions of the crate alone: ranks by places. A place whose position had no steps listed, beyond the known ones,
--- counts as ranked or not, as one likes: as not, to find mates; as ranked, to find what surely is none.
+-- For the functions of the crate alone: ranks by places. A place whose position had no steps
+-- listed, beyond the known ones, counts as ranked or not, as one likes: as not, to find mates; as
+-- ranked, to find what surely is none.
 use Rattle.std.specs.Prelude.{◌≡◌, ◌<◌, ◌≤◌, ◌+◌, ◌⊎◌, ℕ, List, Option, Some, None, Bool, true, Contains, length, count_by, is_none, slice_get, slice_index_or}
 use Rattle.board_core.specs.Board.{Board}
 use Rattle.plain_search.specs.declared.graph.Step.{Step}
@@ -25,7 +26,8 @@ IsRanked beyond ranks bound place =
     ((place < length ranks) × ((rank : ℕ) × (rank_at ranks place ≡ Some rank) × IsBelow rank bound))
     ⊎ ((length ranks ≤ place) × (beyond ≡ true))
 
--- All steps from the place lead to places with ranks below the bound; or it lies beyond and counts as such a place.
+-- All steps from the place lead to places with ranks below the bound; or it lies beyond and counts
+-- as such a place.
 abbrev pub IsBeaten : Bool → Graph → List (Option ℕ) → Option ℕ → ℕ → Type 0
 IsBeaten beyond graph ranks bound place =
     ((place < length ranks) × ((step : Step) → Contains (steps_at graph place) step → IsRanked beyond ranks bound step.to))
@@ -37,7 +39,8 @@ pub record IsWon (beyond : Bool) (graph : Graph) (ranks : List (Option ℕ)) (bo
   pub is_step : Contains (steps_at graph place) step
   pub beaten : IsBeaten beyond graph ranks bound step.to
 
--- Each rank is borne out: its place is the attacker's, and one of the steps from it leads to a place that is beaten below it.
+-- Each rank is borne out: its place is the attacker's, and one of the steps from it leads to a
+-- place that is beaten below it.
 abbrev pub AreWon : Bool → Board → Graph → List (Option ℕ) → Type 0
 AreWon beyond p graph ranks = (place rank : ℕ) (b : Board) → rank_at ranks place ≡ Some rank
     → slice_get (positions_met graph) place ≡ Some b → (b.side ≡ p.side) × IsWon beyond graph ranks (Some rank) place
@@ -47,12 +50,14 @@ abbrev pub AreLost : Bool → Board → Graph → List (Option ℕ) → Type 0
 AreLost beyond p graph ranks = (place : ℕ) (b : Board) → place < length ranks → slice_get (positions_met graph) place ≡ Some b
     → rank_at ranks place ≡ None → b.side ≡ p.side → ¬ IsWon beyond graph ranks None place
 
--- No rank is too high: no place is won below less than its rank. (Below 0 is no rank, but a check without an evasion wins there.)
+-- No rank is too high: no place is won below less than its rank. (Below 0 is no rank, but a check
+-- without an evasion wins there.)
 abbrev pub AreLeast : Bool → Graph → List (Option ℕ) → Type 0
 AreLeast beyond graph ranks = (place rank below : ℕ) → rank_at ranks place ≡ Some rank → 0 < below → below < rank
     → ¬ IsWon beyond graph ranks (Some below) place
 
--- The ranks of the known places. Each is at least 1, and none is higher than there are places that have one.
+-- The ranks of the known places. Each is at least 1, and none is higher than there are places that
+-- have one.
 pub record AreRanks (beyond : Bool) (p : Board) (graph : Graph) (ranks : List (Option ℕ)) : Type 0 where
   pub all : length ranks ≡ expansions_of graph
   pub won : AreWon beyond p graph ranks
@@ -61,8 +66,8 @@ pub record AreRanks (beyond : Bool) (p : Board) (graph : Graph) (ranks : List (O
   pub some : (place rank : ℕ) → rank_at ranks place ≡ Some rank → 1 ≤ rank
   pub within : (place rank : ℕ) → rank_at ranks place ≡ Some rank → rank + count_by is_none ranks ≤ length ranks
 
--- What the next ranks have at a place: the rank that was there; or, where none was, this rank where the place is the attacker's
--- and won below it, else none.
+-- What the next ranks have at a place: the rank that was there; or, where none was, this rank where
+-- the place is the attacker's and won below it, else none.
 abbrev pub IsNext : Bool → Board → Graph → List (Option ℕ) → ℕ → ℕ → Option ℕ → Type 0
 IsNext beyond p graph ranks rank place new =
     ((old : ℕ) × (rank_at ranks place ≡ Some old) × (new ≡ Some old))
@@ -74,7 +79,8 @@ pub record AreNext (beyond : Bool) (p : Board) (graph : Graph) (ranks : List (Op
   pub all : length next ≡ length ranks
   pub each : (place : ℕ) → place < length ranks → IsNext beyond p graph ranks rank place (rank_at next place)
 
--- A step from a place leads there, and each earlier one leads to a ranked place, or beyond the known ones.
+-- A step from a place leads there, and each earlier one leads to a ranked place, or beyond the
+-- known ones.
 pub record IsWayOut (graph : Graph) (ranks : List (Option ℕ)) (place to : ℕ) : Type 0 where
   pub index : ℕ
   pub step : Step

@@ -33,7 +33,8 @@ impl Agenda {
         requires place { place < count }
         ensures kept { OnOk result (IsAgenda count self.new) }
         ensures there { OnOk result (Contains self.new.places.items place) }
-        ensures longer { OnOk result ((self.new.places.items ≡ self.old.places.items) ⊎ (self.new.places.items ≡ self.old.places.items ++ place ∷ [])) }
+        ensures longer { OnOk result ((self.new.places.items ≡ self.old.places.items)
+            ⊎ (self.new.places.items ≡ self.old.places.items ++ place ∷ [])) }
     {
         if !self.listed[place] {
             self.places.push(place)?;

@@ -20,7 +20,9 @@ pub(crate) fn mate_certificate(
 ) -> Result<MateCertificate, AllocError>
     requires { AreMateEntries problem.now.position entries.now }
     ensures valid { IfOk result (λ certificate. ValidMate certificate problem.now.position) }
-    ensures plain { IfOk result (λ certificate. (known : List Board) → ArePlainEntries problem.now.position known entries.now → IsPlainMate problem.now.position known certificate) }
+    ensures plain { IfOk result (λ certificate. (known : List Board)
+        → ArePlainEntries problem.now.position known entries.now
+        → IsPlainMate problem.now.position known certificate) }
 {
     cert_order::mate_certificate(alloc, problem, entries)
 }
@@ -33,7 +35,10 @@ pub(crate) fn escape_certificate(
 ) -> Result<EscapeCertificate, AllocError>
     requires { AreEscapeEntries problem.now.position entries.now }
     ensures valid { IfOk result (λ certificate. ValidEscape certificate problem.now.position) }
-    ensures plain { IfOk result (λ certificate. (known : List Board) → IsPlainEscape problem.now.position known (record { problem = problem.now.position; entries = entries.now }) → IsPlainEscape problem.now.position known certificate) }
+    ensures plain { IfOk result (λ certificate. (known : List Board)
+        → IsPlainEscape problem.now.position known
+        (record { problem = problem.now.position; entries = entries.now })
+        → IsPlainEscape problem.now.position known certificate) }
 {
     cert_order::escape_certificate(alloc, problem, entries)
 }

@@ -52,13 +52,15 @@ fn no_mate(
     Ok(Outcome::NoMate(escape_certificate(alloc, problem, &entries)?))
 }
 
-/// What the known positions of a graph tell of the problem; always something, where no others were met.
+/// What the known positions of a graph tell of the problem; always something, where no others were
+/// met.
 pub(crate) fn decide(alloc: Global, problem: &Problem, graph: &Graph) -> Result<Outcome, AllocError>
     requires graph { IsGraph problem.now.position graph.now }
     requires known { 0 < expansions_of graph.now }
     requires short { expansions_of graph.now ≤ MOST_EXPANSIONS }
     ensures outcome { IfOk result (λ outcome. IsToldBy problem.now.position graph.now outcome) }
-    ensures told { expansions_of graph.now ≡ length (positions_met graph.now) → result ≡ Ok Spent → ⊥ }
+    ensures told { expansions_of graph.now ≡ length (positions_met graph.now) → result ≡ Ok Spent
+        → ⊥ }
 {
     let ranks = ranks_of(alloc, problem, graph, false)?;
     if let Some(_) = rank_of(&ranks, 0) {

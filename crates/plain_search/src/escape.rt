@@ -1,4 +1,5 @@
-// The entries of an escape: from the problem on, what the first evasion to each check leads to that has no rank.
+// The entries of an escape: from the problem on, what the first evasion to each check leads to that
+// has no rank.
 ghost use Rattle.std.specs.Prelude.{◌≡◌, ◌<◌, Bool, IfOk, None, length, true};
 ghost use Rattle.plain_search.specs.Graph.{IsGraph, expansions_of};
 ghost use Rattle.plain_search.specs.Ranks.{rank_at, IsBeaten, AreWon, AreLost, IsWayOut};
@@ -42,10 +43,14 @@ pub(crate) fn escape_entries(
     requires won { (beyond : Bool) × AreWon beyond problem.now.position graph.now ranks.now }
     requires known { 0 < expansions_of graph.now }
     requires no_mate { rank_at ranks.now 0 ≡ None }
-    ensures entries { IfOk result (λ positions. AreEscapeEntries problem.now.position positions.items) }
-    ensures plain { IfOk result (λ positions. IsPlainEscape problem.now.position (known_of graph.now) (record { problem = problem.now.position; entries = positions.items })) }
+    ensures entries { IfOk result
+        (λ positions. AreEscapeEntries problem.now.position positions.items) }
+    ensures plain { IfOk result
+        (λ positions. IsPlainEscape problem.now.position (known_of graph.now)
+        (record { problem = problem.now.position; entries = positions.items })) }
 {
-    // No two moves have one place in their order, and in a list in this order what comes sooner stands sooner.
+    // No two moves have one place in their order, and in a list in this order what comes sooner
+    // stands sooner.
     order_laws();
     let mut agenda = Agenda::new(alloc, ranks.len())?;
     agenda.add(ranks.len(), 0)?;

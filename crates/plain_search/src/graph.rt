@@ -38,9 +38,12 @@ impl Queue {
 
     /// The place of a position that play leads to, behind the others where it isn't there yet.
     pub(crate) fn place_of(&mut self, position: &Position) -> Result<usize, AllocError>
-        ensures kept { OnOk result ((p : Board) → IsKeptQueue p self.old → IsInPlay p position.now → IsKeptQueue p self.new) }
-        ensures longer { OnOk result ((p : Board) → IsKeptQueue p self.old → IsWith self.old.positions.items position.now self.new.positions.items) }
-        ensures there { IfOk result (λ place. (p : Board) → IsKeptQueue p self.old → slice_get self.new.positions.items place ≡ Some position.now) }
+        ensures kept { OnOk result ((p : Board) → IsKeptQueue p self.old → IsInPlay p position.now
+            → IsKeptQueue p self.new) }
+        ensures longer { OnOk result ((p : Board) → IsKeptQueue p self.old
+            → IsWith self.old.positions.items position.now self.new.positions.items) }
+        ensures there { IfOk result (λ place. (p : Board) → IsKeptQueue p self.old
+            → slice_get self.new.positions.items place ≡ Some position.now) }
     {
         let place = self.places.add(position)?;
         if place < self.positions.len() {

@@ -36,8 +36,12 @@ fn steps_from(
     requires kept { IsKeptQueue problem.now.position queue.old }
     requires in_play { IsInPlay problem.now.position position.now }
     ensures kept { OnOk result (IsKeptQueue problem.now.position queue.new) }
-    ensures steps { IfOk result (λ steps. AreSteps problem.now.position.side queue.new.positions.items position.now steps.items) }
-    ensures longer { IfOk result (λ steps. IsWithAll queue.old.positions.items position.now (moves_of steps.items) queue.new.positions.items) }
+    ensures steps { IfOk result
+        (λ steps. AreSteps problem.now.position.side queue.new.positions.items position.now
+        steps.items) }
+    ensures longer { IfOk result
+        (λ steps. IsWithAll queue.old.positions.items position.now (moves_of steps.items)
+        queue.new.positions.items) }
 {
     let moves = moves_at(alloc, problem, position)?;
     let mut steps = Vec::with_capacity(alloc, moves.len())?;
@@ -55,7 +59,8 @@ fn grow(alloc: Global, problem: &Problem, graph: &mut Graph) -> Result<(), Alloc
     requires left { expansions_of graph.old < length (positions_met graph.old) }
     ensures graph { OnOk result (IsGraph problem.now.position graph.new) }
     ensures more { OnOk result (expansions_of graph.new ≡ expansions_of graph.old + 1) }
-    ensures longer { OnOk result (length (positions_met graph.old) ≤ length (positions_met graph.new)) }
+    ensures longer { OnOk result
+        (length (positions_met graph.old) ≤ length (positions_met graph.new)) }
 {
     let front = *graph.position(graph.expansions());
     let steps = steps_from(alloc, problem, &mut graph.queue, &front)?;
@@ -75,8 +80,8 @@ pub(crate) fn graph_of(alloc: Global, problem: &Problem) -> Result<Graph, AllocE
     })
 }
 
-/// Grows the graph up to a number of expansions in all, that of positions met or less. The gate is passed before each, as the
-/// first worker.
+/// Grows the graph up to a number of expansions in all, that of positions met or less. The gate is
+/// passed before each, as the first worker.
 pub(crate) fn grow_to<G: Gate>(
     alloc: Global,
     problem: &Problem,

@@ -1,4 +1,5 @@
-// The entries of a mate: from the problem on, at each position the first check of its rank, and all that the evasions lead to.
+// The entries of a mate: from the problem on, at each position the first check of its rank, and all
+// that the evasions lead to.
 ghost use Rattle.std.specs.Prelude.{◌≡◌, ◌<◌, ◌≤◌, Some, IfOk, length, false, Contains};
 ghost use Rattle.board_core.specs.Order.{order_of, RisesFrom};
 ghost use Rattle.search_limits.specs.declared.expansions.TheConstants.{MOST_EXPANSIONS};
@@ -17,7 +18,8 @@ use mate_facts::{MateEntry, Rank};
 use shogi_rules::Problem;
 use std::alloc::{AllocError, Global};
 
-// The rank of a place that has one: less than the number of known positions, of which the defender's have none.
+// The rank of a place that has one: less than the number of known positions, of which the
+// defender's have none.
 fn known_rank(problem: &Problem, graph: &Graph, ranks: &[Option<u32>], place: usize) -> Rank
     requires graph { IsGraph problem.now.position graph.now }
     requires ranks { AreRanks false problem.now.position graph.now ranks.now }
@@ -39,7 +41,8 @@ fn winning_step(graph: &Graph, ranks: &[Option<u32>], rank: u32, place: usize) -
     requires rises { RisesFrom 0 (moves_of (steps_at graph.now place)) }
     ensures step { Contains (steps_at graph.now place) result }
     ensures beaten { IsBeaten false graph.now ranks.now (Some rank) result.to }
-    ensures first { (other : Step) → Contains (steps_at graph.now place) other → IsBeaten false graph.now ranks.now (Some rank) other.to
+    ensures first { (other : Step) → Contains (steps_at graph.now place) other
+        → IsBeaten false graph.now ranks.now (Some rank) other.to
         → order_of result.by ≤ order_of other.by }
 {
     // In a list in the order of moves, what comes sooner stands sooner.
@@ -65,7 +68,8 @@ pub(crate) fn mate_entries(
     requires short { expansions_of graph.now ≤ MOST_EXPANSIONS }
     requires mate { HasRank ranks.now 0 }
     ensures entries { IfOk result (λ entries. AreMateEntries problem.now.position entries.items) }
-    ensures plain { IfOk result (λ entries. ArePlainEntries problem.now.position (known_of graph.now) entries.items) }
+    ensures plain { IfOk result
+        (λ entries. ArePlainEntries problem.now.position (known_of graph.now) entries.items) }
 {
     let mut agenda = Agenda::new(alloc, ranks.len())?;
     agenda.add(ranks.len(), 0)?;

@@ -112,7 +112,8 @@ fn with_rank(
 ) -> Result<Vec<Option<u32>>, AllocError>
     requires graph { IsGraph problem.now.position graph.now }
     requires all { length ranks.now ≡ expansions_of graph.now }
-    ensures next { IfOk result (λ next. AreNext beyond problem.now.position graph.now ranks.now rank next.items) }
+    ensures next { IfOk result
+        (λ next. AreNext beyond problem.now.position graph.now ranks.now rank next.items) }
 {
     let mut next = Vec::new(alloc);
     for place in 0..ranks.len() {
@@ -132,7 +133,8 @@ fn no_ranks(alloc: Global, count: usize) -> Result<Vec<Option<u32>>, AllocError>
     Ok(ranks)
 }
 
-/// The ranks of the known positions, each the least; with places beyond them counted as ranked or not.
+/// The ranks of the known positions, each the least; with places beyond them counted as ranked or
+/// not.
 pub(crate) fn ranks_of(
     alloc: Global,
     problem: &Problem,

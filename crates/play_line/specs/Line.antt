@@ -1,4 +1,5 @@
--- The main line of a mate's certificate: the attacker plays the certificate's move, the defender the evasion that lasts longest.
+-- The main line of a mate's certificate: the attacker plays the certificate's move, the defender
+-- the evasion that lasts longest.
 use Rattle.std.specs.Prelude.{◌≡◌, ◌≤◌, ℕ, List, [], ◌∷◌, Option, Some, None, Contains}
 use Rattle.bit_boards.specs.declared.piece.Side.{Side}
 use Rattle.board_core.specs.declared.moves.Move.{Move}
@@ -24,8 +25,8 @@ pub record IsRankAt (c : Mating) (position : Board) (rank : ℕ) : Type 0 where
   pub same : entry.at ≡ position
   pub has_rank : entry.rank.number ≡ rank
 
--- The evasion that lasts longest: it leads to the position of the highest rank, and is the first that does, in the order of
--- moves.
+-- The evasion that lasts longest: it leads to the position of the highest rank, and is the first
+-- that does, in the order of moves.
 pub record IsLongest (c : Mating) (attacker : Side) (b : Board) (evasion : Move) : Type 0 where
   pub is_evasion : IsEvasion attacker b evasion
   pub rank : ℕ
@@ -33,15 +34,17 @@ pub record IsLongest (c : Mating) (attacker : Side) (b : Board) (evasion : Move)
   pub highest : (other : Move) (lower : ℕ) → IsEvasion attacker b other → IsRankAt c (after b other) lower → lower ≤ rank
   pub first : (other : Move) → IsEvasion attacker b other → IsRankAt c (after b other) rank → order_of evasion ≤ order_of other
 
--- The main line at a position: the certificate's move there; where the defender has no evasion to it, that is all; else it goes
--- on with the evasion that lasts longest, and then with the main line from there.
+-- The main line at a position: the certificate's move there; where the defender has no evasion to
+-- it, that is all; else it goes on with the evasion that lasts longest, and then with the main line
+-- from there.
 abbrev pub IsMainLine : Mating → Side → Board → List Move → Type 0
 IsMainLine c attacker b [] = ⊥
 IsMainLine c attacker b (check ∷ []) = IsMoveAt c b check × ((evasion : Move) → ¬ IsEvasion attacker (after b check) evasion)
 IsMainLine c attacker b (check ∷ evasion ∷ rest) =
     IsMoveAt c b check × IsLongest c attacker (after b check) evasion × IsMainLine c attacker (after_both b check evasion) rest
 
--- What the defender plays after a check: nothing where he has no evasion, else the one that lasts longest.
+-- What the defender plays after a check: nothing where he has no evasion, else the one that lasts
+-- longest.
 abbrev pub IsDefence : Mating → Side → Board → Option Move → Type 0
 IsDefence c attacker b None = (evasion : Move) → ¬ IsEvasion attacker b evasion
 IsDefence c attacker b (Some evasion) = IsLongest c attacker b evasion

@@ -33,7 +33,8 @@ fn longer(longest: Option<Lasting>, next: Lasting) -> Lasting
     }
 }
 
-/// What the defender plays at a position after a check, where each evasion leads to a listed position.
+/// What the defender plays at a position after a check, where each evasion leads to a listed
+/// position.
 pub(crate) fn defence(
     alloc: Global,
     problem: &Problem,
@@ -43,8 +44,10 @@ pub(crate) fn defence(
 ) -> Result<Option<Move>, AllocError>
     requires places { ArePlacesOf places.now (positions_of certificate.now.entries) }
     requires quiet { IsQuiet checked.now }
-    requires listed { (evasion : Move) → IsEvasion problem.now.position.side checked.now evasion → Contains (positions_of certificate.now.entries) (after checked.now evasion) }
-    ensures { IfOk result (λ evasion. IsDefence certificate.now problem.now.position.side checked.now evasion) }
+    requires listed { (evasion : Move) → IsEvasion problem.now.position.side checked.now evasion
+        → Contains (positions_of certificate.now.entries) (after checked.now evasion) }
+    ensures { IfOk result
+        (λ evasion. IsDefence certificate.now problem.now.position.side checked.now evasion) }
 {
     // In a list in the order of moves, what comes sooner stands sooner.
     order_laws();

@@ -35,7 +35,8 @@ pub(crate) fn rank_after(
     requires legal { IsLegal position.now by }
     requires listed { Contains (positions_of certificate.now.entries) (after position.now by) }
     ensures rank { IsRankAt certificate.now (after position.now by) result }
-    ensures only { (rank : ℕ) → IsRankAt certificate.now (after position.now by) rank → rank ≡ result }
+    ensures only { (rank : ℕ) → IsRankAt certificate.now (after position.now by) rank → rank
+        ≡ result }
 {
     // Entries of one position are one entry.
     entry_laws();

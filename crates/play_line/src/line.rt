@@ -13,16 +13,19 @@ use mate_facts::entry_laws;
 use shogi_rules::{Problem, apply};
 use std::alloc::{AllocError, Global};
 
-/// The main line of a mate's certificate that is valid for the problem: at each position of the attacker the certificate's
-/// move, and as long as the defender has an evasion, the one that leads to the position of the highest rank, the first such in
-/// the order of moves. It ends with the move that has no evasion. Errors: want of memory alone.
+/// The main line of a mate's certificate that is valid for the problem: at each position of the
+/// attacker the certificate's move, and as long as the defender has an evasion, the one that leads
+/// to the position of the highest rank, the first such in the order of moves. It ends with the move
+/// that has no evasion. Errors: want of memory alone.
 pub fn main_line(
     alloc: Global,
     problem: &Problem,
     certificate: &MateCertificate,
 ) -> Result<Vec<Move>, AllocError>
     requires { ValidMate certificate.now problem.now.position }
-    ensures line { IfOk result (λ moves. IsMainLine certificate.now problem.now.position.side problem.now.position moves.items) }
+    ensures line { IfOk result
+        (λ moves. IsMainLine certificate.now problem.now.position.side problem.now.position
+        moves.items) }
     ensures texts { IfOk result (λ moves. AllHaveText moves.items) }
 {
     // Entries of one position are one entry.

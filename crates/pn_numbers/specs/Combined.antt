@@ -6,7 +6,8 @@ use Rattle.pn_numbers.specs.declared.numbers.Numbers.{Numbers}
 use Rattle.pn_numbers.specs.declared.numbers.TheConstants.{CAP, INFINITE}
 use Rattle.pn_numbers.specs.Node.{minimized_number, summed_number, numbers_with}
 
--- Whether numbers say that who moves at the node has what he wants: proved for the attacker, disproved for the defender.
+-- Whether numbers say that who moves at the node has what he wants: proved for the attacker,
+-- disproved for the defender.
 abbrev pub is_won : Node → Numbers → Bool
 is_won node numbers = minimized_number node numbers == 0
 
@@ -22,7 +23,8 @@ least_of node children = fold (λ least child. min least (minimized_number node 
 abbrev pub sum_of : Node → List Numbers → ℕ
 sum_of node children = min CAP (sum_by (summed_number node) children)
 
--- The numbers of a node with these children: won where a child is won; else lost where all are; else the least and the sum.
+-- The numbers of a node with these children: won where a child is won; else lost where all are;
+-- else the least and the sum.
 abbrev pub numbers_at : Node → List Numbers → Numbers
 numbers_at node children =
     if list_any (is_won node) children then numbers_with node 0 INFINITE

@@ -1,4 +1,5 @@
--- What is known of the selecting numbers of the first children while they are looked at: it serves private functions alone.
+-- What is known of the selecting numbers of the first children while they are looked at: it serves
+-- private functions alone.
 use Rattle.std.specs.Prelude.{◌≡◌, ◌≢◌, ◌<◌, ◌≤◌, ℕ, Option, Some, None}
 use Rattle.pn_numbers.specs.declared.selecting.Lead.{Lead}
 
@@ -9,7 +10,8 @@ IsSecond numbers seen place (Some second) =
     ((other number : ℕ) → other < seen → other ≢ place → numbers other ≡ Some number → second ≤ number)
     × ((other : ℕ) × (other < seen) × (other ≢ place) × (numbers other ≡ Some second))
 
--- Of the numbers at the first places the least is this, first at this place, and the second is the least of the others.
+-- Of the numbers at the first places the least is this, first at this place, and the second is the
+-- least of the others.
 pub record IsLead (numbers : ℕ → Option ℕ) (seen place least : ℕ) (second : Option ℕ) : Type 0 where
   pub there : place < seen
   pub has : numbers place ≡ Some least

@@ -6,7 +6,8 @@ use Rattle.pn_numbers.specs.declared.selecting.Child.{Child}
 use Rattle.pn_numbers.specs.declared.selecting.TheConstants.{WEIGHT}
 use Rattle.pn_numbers.specs.Node.{minimized_number}
 
--- The number by which a child is selected: its minimized number, and more for each worker below it. A child of an infinite number has none.
+-- The number by which a child is selected: its minimized number, and more for each worker below it.
+-- A child of an infinite number has none.
 abbrev pub selecting_number : Node → Child → Option ℕ
 selecting_number node child =
     if nat_lt (minimized_number node child.numbers) INFINITE then Some (minimized_number node child.numbers + WEIGHT * child.below) else None
@@ -26,8 +27,9 @@ pub record IsLeastOfOthers (node : Node) (children : List Child) (place second :
   pub met : ((other : ℕ) × (other ≢ place) × (number_at node children other ≡ Some second))
       ⊎ (((other number : ℕ) → number_at node children other ≡ Some number → other ≡ place) × (second ≡ INFINITE))
 
--- Of the children with the least selecting number the worker takes the one whose turn it is: worker 1 the first, worker 2 the second,
--- and so on, round and round. Beside it stands the least selecting number of the others.
+-- Of the children with the least selecting number the worker takes the one whose turn it is: worker
+-- 1 the first, worker 2 the second, and so on, round and round. Beside it stands the least
+-- selecting number of the others.
 pub record IsSelected (node : Node) (children : List Child) (worker place second : ℕ) : Type 0 where
   pub least : ℕ
   pub number : number_at node children place ≡ Some least

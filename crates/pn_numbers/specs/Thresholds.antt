@@ -6,19 +6,23 @@ use Rattle.pn_numbers.specs.declared.numbers.TheConstants.{INFINITE}
 use Rattle.pn_numbers.specs.declared.limiting.TheConstants.{SLACK}
 use Rattle.pn_numbers.specs.Node.{minimized_number, summed_number, numbers_with}
 
--- Until the child is above the second best by more than an eighth of it, but no longer than its node is visited.
+-- Until the child is above the second best by more than an eighth of it, but no longer than its
+-- node is visited.
 abbrev pub minimized_threshold : ℕ → ℕ → ℕ
 minimized_threshold limit second = min limit (second + 1 + second / SLACK)
 
--- Until the sum that the child is a part of comes to its node's threshold: the child may grow by what the node may.
+-- Until the sum that the child is a part of comes to its node's threshold: the child may grow by
+-- what the node may.
 abbrev pub summed_threshold : ℕ → ℕ → ℕ → ℕ
 summed_threshold limit own child = if nat_le INFINITE limit then INFINITE else limit + child - own
 
--- The threshold, but above the child's own number, so that it is visited at all, and at most infinite.
+-- The threshold, but above the child's own number, so that it is visited at all, and at most
+-- infinite.
 abbrev pub bounded : ℕ → ℕ → ℕ
 bounded threshold child = min INFINITE (max threshold (child + 1))
 
--- The thresholds of a child's visit, from those of its node, the node's own numbers, the child's, and the second best selecting number.
+-- The thresholds of a child's visit, from those of its node, the node's own numbers, the child's,
+-- and the second best selecting number.
 abbrev pub thresholds_of : Node → Numbers → Numbers → Numbers → ℕ → Numbers
 thresholds_of node limits own child second =
     numbers_with node

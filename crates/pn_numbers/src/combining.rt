@@ -25,10 +25,12 @@ fn combined(node: Node, children: &[Numbers]) -> Numbers
     node.numbers(least, sum)
 }
 
-/// The numbers of an attacker's node with these children: proved where a child is proved; else disproved where all are, also where
-/// there is none; else the least proof number, and the sum of the disproof numbers, at most [`CAP`]. (Nagai 2002.)
+/// The numbers of an attacker's node with these children: proved where a child is proved; else
+/// disproved where all are, also where there is none; else the least proof number, and the sum of
+/// the disproof numbers, at most [`CAP`]. (Nagai 2002.)
 ///
-/// A child counts as proved where its proof number is 0, and as disproved where its disproof number is.
+/// A child counts as proved where its proof number is 0, and as disproved where its disproof number
+/// is.
 pub fn or_numbers(children: &[Numbers]) -> Numbers
     ensures numbers { result ≡ numbers_at Attacker children.now }
     ensures capped { 0 < result.pn → result.dn ≤ CAP }
@@ -37,10 +39,12 @@ pub fn or_numbers(children: &[Numbers]) -> Numbers
     combined(Node::Attacker, children)
 }
 
-/// The numbers of a defender's node with these children: disproved where a child is disproved; else proved where all are, also where
-/// there is none; else the least disproof number, and the sum of the proof numbers, at most [`CAP`]. (Nagai 2002.)
+/// The numbers of a defender's node with these children: disproved where a child is disproved; else
+/// proved where all are, also where there is none; else the least disproof number, and the sum of
+/// the proof numbers, at most [`CAP`]. (Nagai 2002.)
 ///
-/// A child counts as proved where its proof number is 0, and as disproved where its disproof number is.
+/// A child counts as proved where its proof number is 0, and as disproved where its disproof number
+/// is.
 pub fn and_numbers(children: &[Numbers]) -> Numbers
     ensures numbers { result ≡ numbers_at Defender children.now }
     ensures capped { 0 < result.dn → result.pn ≤ CAP }

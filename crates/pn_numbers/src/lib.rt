@@ -1,9 +1,11 @@
-//! Proof numbers and disproof numbers, as a depth-first proof-number search reckons with them (df-pn: Nagai 2002): the numbers of a
-//! node from those of its children, which child is visited next, and the thresholds of its visit.
+//! Proof numbers and disproof numbers, as a depth-first proof-number search reckons with them
+//! (df-pn: Nagai 2002): the numbers of a node from those of its children, which child is visited
+//! next, and the thresholds of its visit.
 //!
-//! Several workers share the numbers. A worker below a child makes it look larger to the others (virtual numbers: Kaneko 2010), and
-//! workers that see the same numbers part. Everything here is total and takes no memory; what is done at an attacker's node is done
-//! at a defender's with proof and disproof numbers in each other's place.
+//! Several workers share the numbers. A worker below a child makes it look larger to the others
+//! (virtual numbers: Kaneko 2010), and workers that see the same numbers part. Everything here is
+//! total and takes no memory; what is done at an attacker's node is done at a defender's with proof
+//! and disproof numbers in each other's place.
 #![tactic(auto)]
 
 mod combining;

@@ -4,8 +4,9 @@ ghost use Rattle.pn_numbers.specs.Thresholds.{minimized_threshold, summed_thresh
 
 use crate::{INFINITE, Node, Numbers};
 
-/// A child is visited until it is above the second best by more than the `SLACK`th part of it, an eighth, and not only until it is
-/// above it: so a search doesn't go to and fro between children of nearly the same numbers.
+/// A child is visited until it is above the second best by more than the `SLACK`th part of it, an
+/// eighth, and not only until it is above it: so a search doesn't go to and fro between children of
+/// nearly the same numbers.
 pub const SLACK: u32 = 8;
 
 fn minimized_threshold(limit: u32, second: u128) -> u32
@@ -33,13 +34,15 @@ fn bounded(threshold: u64, child: u32) -> u32
     threshold.max(u64::from(child) + 1).min(u64::from(INFINITE)) as u32
 }
 
-/// The thresholds with which a child is visited: from the thresholds `limits` of its node and the node's `own` numbers, the child's
-/// numbers as they were seen last, and the second best selecting number, as [`select`](crate::select) gives it.
+/// The thresholds with which a child is visited: from the thresholds `limits` of its node and the
+/// node's `own` numbers, the child's numbers as they were seen last, and the second best selecting
+/// number, as [`select`](crate::select) gives it.
 ///
-/// At an attacker's node the child may come to the second best proof number and an eighth of it more, but not past its node's
-/// threshold; and its disproof number may grow by what the node's may, without limit where the node's threshold is [`INFINITE`]. At a
-/// defender's node it is the other way round. Both are above the child's own numbers where these aren't infinite, so that it is
-/// visited at all, and at most infinite. (Nagai 2002; the eighth: Pawlewicz and Lew 2006.)
+/// At an attacker's node the child may come to the second best proof number and an eighth of it
+/// more, but not past its node's threshold; and its disproof number may grow by what the node's
+/// may, without limit where the node's threshold is [`INFINITE`]. At a defender's node it is the
+/// other way round. Both are above the child's own numbers where these aren't infinite, so that it
+/// is visited at all, and at most infinite. (Nagai 2002; the eighth: Pawlewicz and Lew 2006.)
 pub fn child_thresholds(
     node: Node,
     limits: Numbers,

@@ -4,8 +4,8 @@ ghost use Rattle.pn_numbers.specs.Node.{minimized_number, summed_number, numbers
 
 use crate::Numbers;
 
-/// Whose move it is at a node of the search: the attacker's, whom one good move serves (an "or" node), or the defender's, all of
-/// whose moves have to fail (an "and" node).
+/// Whose move it is at a node of the search: the attacker's, whom one good move serves (an "or"
+/// node), or the defender's, all of whose moves have to fail (an "and" node).
 #[derive(Clone, Copy, PartialEq, Eq, Debug)]
 pub enum Node {
     /// The attacker moves.
@@ -15,8 +15,8 @@ pub enum Node {
 }
 
 impl Node {
-    // The number of which this node takes the least of its children's: the proof number where the attacker moves, the disproof number
-    // where the defender does.
+    // The number of which this node takes the least of its children's: the proof number where the
+    // attacker moves, the disproof number where the defender does.
     pub(crate) fn minimized(self, numbers: Numbers) -> u32
         ensures { result ≡ minimized_number self numbers }
     {

@@ -29,7 +29,8 @@ fn selecting_number(node: Node, child: Child) -> Option<u128>
     Some(u128::from(number) + u128::from(WEIGHT) * u128::from(child.below))
 }
 
-// Of the children that were looked at: the first with the least selecting number, and the least of the others'.
+// Of the children that were looked at: the first with the least selecting number, and the least of
+// the others'.
 #[derive(Clone, Copy)]
 struct Lead {
     place: usize,
@@ -39,7 +40,9 @@ struct Lead {
 
 // The lead when the next child, which has this selecting number, is looked at too.
 fn joined(lead: Lead, place: usize, number: u128) -> Lead
-    ensures { (numbers : ℕ → Option ℕ) → IsLead numbers place lead.place lead.least lead.second → numbers place ≡ Some number → IsLead numbers (place + 1) result.place result.least result.second }
+    ensures { (numbers : ℕ → Option ℕ) → IsLead numbers place lead.place lead.least lead.second
+        → numbers place ≡ Some number
+        → IsLead numbers (place + 1) result.place result.least result.second }
 {
     if number < lead.least {
         return Lead {
@@ -62,7 +65,8 @@ fn joined(lead: Lead, place: usize, number: u128) -> Lead
 
 // The lead, if there is one, when the next child is looked at too.
 fn extended(lead: Option<Lead>, place: usize, number: Option<u128>) -> Option<Lead>
-    ensures { (numbers : ℕ → Option ℕ) → IsLeading numbers place lead → numbers place ≡ number → IsLeading numbers (place + 1) result }
+    ensures { (numbers : ℕ → Option ℕ) → IsLeading numbers place lead → numbers place ≡ number
+        → IsLeading numbers (place + 1) result }
 {
     let Some(number) = number else {
         return lead;
@@ -110,8 +114,11 @@ fn count_with(node: Node, number: u128, children: &[Child]) -> usize
 // The place of the child with the selecting number before which so many have it.
 fn place_with(node: Node, number: u128, children: &[Child], before: usize) -> Option<usize>
     ensures none { result ≡ None → count_by (has_number node number) children.now ≤ before }
-    ensures has { IfSome result (λ place. IsSomeAnd (slice_get children.now place) (λ child. IsTrue (has_number node number child))) }
-    ensures before { IfSome result (λ place. count_by (has_number node number) (take place children.now) ≡ before) }
+    ensures has { IfSome result
+        (λ place. IsSomeAnd (slice_get children.now place)
+        (λ child. IsTrue (has_number node number child))) }
+    ensures before { IfSome result
+        (λ place. count_by (has_number node number) (take place children.now) ≡ before) }
 {
     let mut passed = 0;
     for (place, child) in children.iter().enumerate() {
@@ -125,18 +132,22 @@ fn place_with(node: Node, number: u128, children: &[Child], before: usize) -> Op
     None
 }
 
-/// Which child a worker visits next, and the second best selecting number; none exactly where every child is infinite here.
+/// Which child a worker visits next, and the second best selecting number; none exactly where every
+/// child is infinite here.
 ///
-/// The selecting number of a child is its proof number at an attacker's node, its disproof number at a defender's, and
-/// [`WEIGHT`] more for each worker below it; a child that is [`INFINITE`] here has none. Of the k children with the least one, worker
-/// w, from 1, takes that at place (w - 1) mod k, in order and from 0; so workers who see the same numbers part where several
-/// children have the least. The second is the least selecting number of the other children, INFINITE where they have none. Worker 0
-/// counts as worker 1.
-/// (Nagai 2002; virtual numbers: Kaneko 2010.)
+/// The selecting number of a child is its proof number at an attacker's node, its disproof number
+/// at a defender's, and [`WEIGHT`] more for each worker below it; a child that is [`INFINITE`] here
+/// has none. Of the k children with the least one, worker w, from 1, takes that at place (w - 1)
+/// mod k, in order and from 0; so workers who see the same numbers part where several children have
+/// the least. The second is the least selecting number of the other children, INFINITE where they
+/// have none. Worker 0 counts as worker 1. (Nagai 2002; virtual numbers: Kaneko 2010.)
 pub fn select(node: Node, children: &[Child], worker: u32) -> Option<(usize, u128)>
-    ensures selected { MatchOption result ((place : ℕ) → number_at node children.now place ≡ None) (λ chosen. IsSelected node children.now worker chosen.0 chosen.1) }
+    ensures selected { MatchOption result ((place : ℕ) → number_at node children.now place
+        ≡ None) (λ chosen. IsSelected node children.now worker chosen.0 chosen.1) }
     ensures place { IfSome result (λ chosen. chosen.0 < length children.now) }
-    ensures finite { IfSome result (λ chosen. IsSomeAnd (slice_get children.now chosen.0) (λ child. minimized_number node child.numbers < INFINITE)) }
+    ensures finite { IfSome result
+        (λ chosen. IsSomeAnd (slice_get children.now chosen.0)
+        (λ child. minimized_number node child.numbers < INFINITE)) }
 {
     let lead = leading(node, children)?;
     let second = lead.second.unwrap_or(u128::from(INFINITE));

@@ -1,4 +1,5 @@
--- The keys of the positions of one board and side are those between two keys, and their places are told apart by them.
+-- The keys of the positions of one board and side are those between two keys, and their places are
+-- told apart by them.
 use Rattle.std.proofs.Common.{◌≡◌, ◌<◌, ◌≤◌, ◌+◌, ◌-◌, ◌^◌, ◌++◌, ℕ, zero, suc, List, [], ◌∷◌, Option, Bool, true, false, cond, nat_eq, ◌==◌, inl, inr, length, get_or, Contains, arith, ap, sym, refl, ◌∙◌, subst}
 use Rattle.std.specs.Prelude.{Some, None, slice_get, slice_set, IsSome}
 use Rattle.std.specs.List.{All, filter, IsDistinct}
@@ -57,7 +58,8 @@ not_greater a b Less e h = refl
 not_greater a b Equal e h = refl
 not_greater a b Greater e h = let x = ranked a b Greater e in absurd (omega arith)
 
--- what lies between two lists that differ in the last word alone differs from them in the last alone
+-- what lies between two lists that differ in the last word alone differs from them in the last
+-- alone
 inside : (ws ks : List ℕ) (low high a : ℕ) → length ws ≡ length ks
     → is_gt (slice_cmp nat_cmp (ws ++ low ∷ []) (ks ++ a ∷ [])) ≡ false → is_gt (slice_cmp nat_cmp (ks ++ a ∷ []) (ws ++ high ∷ [])) ≡ false
     → (ws ≡ ks) × (low ≤ a) × (a ≤ high)

@@ -20,9 +20,9 @@ pub record StandsAt (positions : List Board) (place : ℕ) (key : Key) : Type 0 
   pub there : slice_get positions place ≡ Some position
   pub has_key : key_of position ≡ key.0
 
--- What is found by keys are the places of the positions of this list, in which none stands twice: each key has the place of a
--- position that has it, the key of each position is there, there are as many keys as positions, and each position keeps what
--- positions keep.
+-- What is found by keys are the places of the positions of this list, in which none stands twice:
+-- each key has the place of a position that has it, the key of each position is there, there are as
+-- many keys as positions, and each position keeps what positions keep.
 pub record FindsPlaces (found : Key → Option ℕ) (keys : ℕ) (positions : List Board) : Type 0 where
   pub apart : AreApart positions
   pub kept : (position : Board) → Contains positions position → IsKept position

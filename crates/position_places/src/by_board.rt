@@ -9,8 +9,9 @@ use board_core::{Key, Position, Side, key};
 use std::alloc::{AllocError, Global};
 use std::collections::BTreeMap;
 
-/// Where each position of a list stands, by the order of their keys: those of positions with the same cells and side to move stand
-/// side by side, so that these are found together, in a time that grows as the logarithm of the number of all.
+/// Where each position of a list stands, by the order of their keys: those of positions with the
+/// same cells and side to move stand side by side, so that these are found together, in a time that
+/// grows as the logarithm of the number of all.
 #[derive(Drop)]
 pub struct BoardPlaces {
     by_key: BTreeMap<Key, usize>,
@@ -26,22 +27,29 @@ impl BoardPlaces {
         }
     }
 
-    /// The place of the position: where it isn't listed yet, it is listed behind the others, and its place is how many they
-    /// were. Errors: want of memory alone, and then the places stay as they were.
+    /// The place of the position: where it isn't listed yet, it is listed behind the others, and
+    /// its place is how many they were. Errors: want of memory alone, and then the places stay as
+    /// they were.
     pub fn add(&mut self, position: &Position) -> Result<usize, AllocError>
-        ensures place { IfOk result (λ place. (positions : List Board) → AreBoardPlacesOf self.old positions → IsPlaceOrNext positions position.now place) }
-        ensures added { OnOk result ((positions longer : List Board) → AreBoardPlacesOf self.old positions → IsWith positions position.now longer → AreBoardPlacesOf self.new longer) }
-        ensures unchanged { OnErr result ((positions : List Board) → AreBoardPlacesOf self.old positions → AreBoardPlacesOf self.new positions) }
+        ensures place { IfOk result (λ place. (positions : List Board)
+            → AreBoardPlacesOf self.old positions → IsPlaceOrNext positions position.now place) }
+        ensures added { OnOk result ((positions longer : List Board)
+            → AreBoardPlacesOf self.old positions → IsWith positions position.now longer
+            → AreBoardPlacesOf self.new longer) }
+        ensures unchanged { OnErr result ((positions : List Board)
+            → AreBoardPlacesOf self.old positions → AreBoardPlacesOf self.new positions) }
     {
         let next = self.by_key.len();
         let place = *self.by_key.entry(key(position))?.or_insert(next);
         Ok(place)
     }
 
-    /// Puts the places of all listed positions with this one's cells and side to move, whatever their hands, into the list: each
-    /// once, in rising order. What stood in it is lost. Errors: want of memory alone, and then the list may lack some of them.
+    /// Puts the places of all listed positions with this one's cells and side to move, whatever
+    /// their hands, into the list: each once, in rising order. What stood in it is lost. Errors:
+    /// want of memory alone, and then the list may lack some of them.
     pub fn on_board(&self, position: &Position, places: &mut Vec<usize>) -> Result<(), AllocError>
-        ensures { OnOk result ((positions : List Board) → AreBoardPlacesOf self.now positions → ArePlacesOnBoard positions position.now places.new.items) }
+        ensures { OnOk result ((positions : List Board) → AreBoardPlacesOf self.now positions
+            → ArePlacesOnBoard positions position.now places.new.items) }
     {
         let (least, greatest) = board_keys(position);
         places.clear();
@@ -63,8 +71,8 @@ fn least_hands(side: Side) -> u64
     }
 }
 
-// The least and the greatest of what may be keys of positions with this one's cells and side to move: that with no bit of the
-// hands set, and that with all.
+// The least and the greatest of what may be keys of positions with this one's cells and side to
+// move: that with no bit of the hands set, and that with all.
 fn board_keys(position: &Position) -> (Key, Key)
     ensures ends { AreBoardKeys position.now result.0 result.1 }
     ensures kept { IsKept position.now }

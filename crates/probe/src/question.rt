@@ -32,8 +32,8 @@ fn split_at_space(text: &[u8]) -> Option<(&[u8], &[u8])> {
     Some((&text[..at], &text[at + 1..]))
 }
 
-// The position of an SFEN text as a problem of the side to move; none where the text stands for no position, or the side
-// not to move is in check.
+// The position of an SFEN text as a problem of the side to move; none where the text stands for no
+// position, or the side not to move is in check.
 fn read_problem(text: &[u8]) -> Option<Problem> {
     let position = read_sfen(text).ok()?;
     accept_problem(position).ok()

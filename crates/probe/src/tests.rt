@@ -1,4 +1,5 @@
-// The lists that are made by sets of squares beside the plain ones, which try every move, over positions that come from playing.
+// The lists that are made by sets of squares beside the plain ones, which try every move, over
+// positions that come from playing.
 use crate::answer::answer_to;
 use crate::write::write_answer;
 use board_core::{Move, Position};
@@ -12,8 +13,9 @@ use std::alloc::Global;
 use std::process::Abort;
 use std::test::Fail;
 
-// Either side attacks; he has a king, in check or not, or none; eighteen pawns are in hand; two pieces check at once; pieces of each
-// kind that slides stand behind others; pieces can be promoted and can't; a dropped pawn would mate.
+// Either side attacks; he has a king, in check or not, or none; eighteen pawns are in hand; two
+// pieces check at once; pieces of each kind that slides stand behind others; pieces can be promoted
+// and can't; a dropped pawn would mate.
 const STARTS: [&str; 24] = [
     "ln1gk2nl/1r2g1s2/p1pp1pppp/4p4/9/4P4/PPPP1PPPP/7R1/LNSGKGSNL b 2BSP",
     "lnsgk1snl/1r4gb1/p1pppp2p/6pR1/1p7/2P6/PP1PPPP1P/1BG6/LNS1KGSNL b Pp",
@@ -187,8 +189,9 @@ fn lists_and_counts_by_sets_are_those_of_the_plain_lists_wherever_play_leads(
     Ok(())
 }
 
-// Questions, and the moves that answer them: by hand, from the rules. A discovered check; a king that opens a line; a pinned piece that
-// can't take the pawn that would mate; a king's ways and what may be put between; a double check, against which nothing may.
+// Questions, and the moves that answer them: by hand, from the rules. A discovered check; a king
+// that opens a line; a pinned piece that can't take the pawn that would mate; a king's ways and
+// what may be put between; a double check, against which nothing may.
 const ROWS: [(&str, &str); 5] = [
     (
         "checks 4k4/9/9/9/9/4G4/9/9/4R4 b - 1",

@@ -19,7 +19,8 @@ use Rattle.app_texts.specs.declared.answer.Solution.{Solution}
 use Rattle.app_texts.specs.declared.answer.Solution.TheVariants.{Mate, NoMate, Unknown}
 use Rattle.problem_answers.specs.Answer.{IsShown, IsVerdictOf}
 
--- The text of a mate's answer is the certificate's, behind the line of its moves, of which there is one at least.
+-- The text of a mate's answer is the certificate's, behind the line of its moves, of which there is
+-- one at least.
 pub mate_told : (c : Mating) (attacker : Side) (b : Board) (moves : List Move) → IsMainLine c attacker b moves → AllHaveText moves
     → IsTextOf (certificates.Mate c) (solution_text (Mate c moves))
 mate_told c attacker b [] is have = absurd is

@@ -25,12 +25,13 @@ use Rattle.app_texts.specs.Texts.{solution_text}
 use Rattle.app_texts.specs.declared.answer.Solution.{Solution}
 use Rattle.app_texts.specs.declared.answer.Solution.TheVariants.{Mate, NoMate, Unknown}
 
--- The checker accepts the certificate for the position: every verdict that it may come to is that one.
+-- The checker accepts the certificate for the position: every verdict that it may come to is that
+-- one.
 abbrev pub IsAcceptedFor : Board → Certificate → Type 0
 IsAcceptedFor p certificate = (verdict : Verdict) → IsVerdict certificate p verdict → verdict ≡ CheckAccepted
 
--- A mate is shown: the position is one, the certificate is valid for it and accepted, and can be read, the text of the answer is one of
--- the certificate, and the moves are its main line.
+-- A mate is shown: the position is one, the certificate is valid for it and accepted, and can be
+-- read, the text of the answer is one of the certificate, and the moves are its main line.
 pub record IsMateShown (p : Board) (c : Mating) (moves : List Move) : Type 0 where
   pub mate : IsMate p.side p
   pub valid : ValidMate c p
@@ -39,8 +40,8 @@ pub record IsMateShown (p : Board) (c : Mating) (moves : List Move) : Type 0 whe
   pub text : IsTextOf (certificates.Mate c) (solution_text (Mate c moves))
   pub line : IsMainLine c p.side p moves
 
--- That there is no mate is shown: the position is none, the certificate is valid for it and accepted, and can be read, and the text of
--- the answer is one of the certificate.
+-- That there is no mate is shown: the position is none, the certificate is valid for it and
+-- accepted, and can be read, and the text of the answer is one of the certificate.
 pub record IsNoMateShown (p : Board) (c : Escaping) : Type 0 where
   pub no_mate : ¬ IsMate p.side p
   pub valid : ValidEscape c p
@@ -54,16 +55,16 @@ IsShown p certificate (Mate c moves) = (certificate ≡ certificates.Mate c) × 
 IsShown p certificate (NoMate c) = (certificate ≡ certificates.Escape c) × IsNoMateShown p c
 IsShown p certificate (Unknown cause crew) = ⊥
 
--- A solution shows with a certificate what it says; the certificate claims what the note concludes, and what it lists comes from the
--- note's tree.
+-- A solution shows with a certificate what it says; the certificate claims what the note concludes,
+-- and what it lists comes from the note's tree.
 pub record IsShownBy (p : Board) (note : Derivation) (solution : Solution) : Type 0 where
   pub certificate : Certificate
   pub claim : claim_of certificate ≡ claim_by (conclusion_of note)
   pub from : ComesFrom note certificate
   pub shown : IsShown p certificate solution
 
--- The verdict of a note that answers the problem isn't told: a walk through its tree meets more different positions of the attacker than
--- entries are read. No workers are named.
+-- The verdict of a note that answers the problem isn't told: a walk through its tree meets more
+-- different positions of the attacker than entries are read. No workers are named.
 pub record IsUntold (p : Board) (note : Derivation) (its_cause : Cause) (crew : List WorkerView) : Type 0 where
   pub cause : its_cause ≡ Entries MOST_ENTRIES
   pub answers : IsAnswer (task_for p 1) note

@@ -13,13 +13,14 @@ use Rattle.tsume_words.specs.declared.form.ProblemForm.{ProblemForm}
 use Rattle.app_texts.specs.declared.fault.ProblemFault.{ProblemFault}
 use Rattle.app_texts.specs.declared.fault.ProblemFault.TheVariants.{Text, Diagram, DefenderInCheck}
 
--- The position that is searched: the one that was read, with the rest of the pieces in the defender's hand where that is
--- asked for.
+-- The position that is searched: the one that was read, with the rest of the pieces in the
+-- defender's hand where that is asked for.
 abbrev pub searched_board : Bool → Board → Board
 searched_board true b = board_with_rest b
 searched_board false b = b
 
--- What a text comes to in a format, as a position alone: the position, or its first fault, of this format and no other.
+-- What a text comes to in a format, as a position alone: the position, or its first fault, of this
+-- format and no other.
 abbrev pub IsPositionRead : Format → List ℕ → Result Board ProblemFault → Type 0
 IsPositionRead Sfen input (Ok position) = IsReadingOutcome input (Ok position)
 IsPositionRead Sfen input (Err (Text fault)) = IsReadingOutcome input (Err fault)
@@ -43,7 +44,8 @@ pub record IsInCheckRead (form : ProblemForm) (input : List ℕ) : Type 0 where
   pub read : IsPositionRead form.format input (Ok position)
   pub in_check : IsInCheck (searched_board form.rest position).cells (other (searched_board form.rest position).side)
 
--- What a text stands for in this form: a problem, or its first fault, one of the text and its position before one of the problem.
+-- What a text stands for in this form: a problem, or its first fault, one of the text and its
+-- position before one of the problem.
 abbrev pub StandsFor : ProblemForm → List ℕ → Result Board ProblemFault → Type 0
 StandsFor form input (Ok problem) = IsProblemRead form input problem
 StandsFor form input (Err (Text fault)) = IsPositionRead form.format input (Err (Text fault))

@@ -47,9 +47,10 @@ fn no_mate(problem: &Problem, certificate: EscapeCertificate) -> Solution
     Solution::NoMate(certificate)
 }
 
-/// The verdict of a note that answers the problem: a mate with a main line or that there is none, each with the certificate that is
-/// extracted from the note, which the checker accepts and whose text is read. Where it would list more than [`MOST_ENTRIES`], none is
-/// told, and the verdict is unknown for that cause. Errors: want of memory alone.
+/// The verdict of a note that answers the problem: a mate with a main line or that there is none,
+/// each with the certificate that is extracted from the note, which the checker accepts and whose
+/// text is read. Where it would list more than [`MOST_ENTRIES`], none is told, and the verdict is
+/// unknown for that cause. Errors: want of memory alone.
 pub fn verdict(alloc: Global, problem: &Problem, note: &Note) -> Result<Solution, AllocError>
     requires { IsAnswer (task_for problem.now.position 1) note.now }
     ensures verdict { IfOk result (IsVerdictOf problem.now.position note.now) }

@@ -1,5 +1,5 @@
--- The numbers that the generator draws. (The minimal standard generator of Park and Miller with the multiplier 48271, which C++
--- calls minstd_rand.)
+-- The numbers that the generator draws. (The minimal standard generator of Park and Miller with the
+-- multiplier 48271, which C++ calls minstd_rand.)
 use Rattle.std.specs.Prelude.{◌+◌, ◌*◌, ◌%◌, ◌==◌, ℕ, zero, suc, if◌then◌else◌}
 use Rattle.bit_boards.specs.declared.piece.Kind.{Kind}
 
@@ -7,8 +7,9 @@ use Rattle.bit_boards.specs.declared.piece.Kind.{Kind}
 abbrev pub next_of : ℕ → ℕ
 next_of x = 48271 * x % 2147483647
 
--- The numbers that a problem's number draws, one after another. It begins, before the first is drawn, with one of 1 to
--- 2,147,483,646, so none that is drawn is 0, and problems' numbers that differ by 2,147,483,646 are one.
+-- The numbers that a problem's number draws, one after another. It begins, before the first is
+-- drawn, with one of 1 to 2,147,483,646, so none that is drawn is 0, and problems' numbers that
+-- differ by 2,147,483,646 are one.
 unfoldable pub drawn : ℕ → ℕ → ℕ
 drawn number zero = 1 + number % 2147483646
 drawn number (suc n) = next_of (drawn number n)

@@ -1,4 +1,5 @@
--- The problem of a number: White's king near the top, two Black pieces below it, two pieces in Black's hand, and a White piece.
+-- The problem of a number: White's king near the top, two Black pieces below it, two pieces in
+-- Black's hand, and a White piece.
 use Rattle.std.specs.Prelude.{◌≡◌, ◌≤◌, ◌+◌, ◌-◌, ◌==◌, ℕ, List, [], ◌∷◌, Some, None, false, true, replicate, slice_set, ◌⊎◌, if◌then◌else◌}
 use Rattle.bit_boards.specs.declared.piece.Kind.{Kind}
 use Rattle.bit_boards.specs.declared.piece.Kind.TheVariants.{Pawn, Lance, Knight, Silver, Gold, Bishop, Rook, King}
@@ -27,8 +28,8 @@ king_row number = 1 + draw number 2 3
 abbrev pub king_square : ℕ → ℕ
 king_square number = square_on (king_file number) (king_row number)
 
--- A Black piece, by the three draws behind so many: a silver, a lance or a pawn, up to two files beside the king and one to three
--- rows below it.
+-- A Black piece, by the three draws behind so many: a silver, a lance or a pawn, up to two files
+-- beside the king and one to three rows below it.
 abbrev pub black_piece : ℕ → ℕ → Drawn
 black_piece number before = record {
   kind = pick Silver Lance Pawn (draw number (before + 1) 3);
@@ -45,7 +46,8 @@ first_in_hand number = pick Gold Knight Rook (draw number 9 3)
 abbrev pub second_in_hand : ℕ → Kind
 second_in_hand number = pick Bishop Silver Gold (draw number 10 3)
 
--- A White piece, by the last three draws: a gold or a pawn, up to two files beside the king, and up to two rows below it.
+-- A White piece, by the last three draws: a gold or a pawn, up to two files beside the king, and up
+-- to two rows below it.
 abbrev pub white_piece : ℕ → Drawn
 white_piece number = record {
   kind = if draw number 11 2 == 0 then Gold else Pawn;
@@ -72,8 +74,9 @@ with_piece b piece = with_cell b (square_for piece) (Some (piece_of piece))
 abbrev pub with_held : Board → Side → Kind → Board
 with_held b side kind = with_hand b side (with_more (hand_of b side) kind)
 
--- The piece may stand on its square: there is such a file and nothing stands there, it could move from there, it is no second
--- unpromoted pawn of its side on the file, and, if it is Black's, it doesn't attack White's king from there.
+-- The piece may stand on its square: there is such a file and nothing stands there, it could move
+-- from there, it is no second unpromoted pawn of its side on the file, and, if it is Black's, it
+-- doesn't attack White's king from there.
 pub record MayStand (b : Board) (king : ℕ) (piece : Drawn) : Type 0 where
   pub file_from : 3 ≤ piece.file_and_two
   pub file_to : piece.file_and_two ≤ 11
@@ -82,7 +85,8 @@ pub record MayStand (b : Board) (king : ℕ) (piece : Drawn) : Type 0 where
   pub pawn : piece.kind ≡ Pawn → ¬ HasPawnOnFile b.cells piece.side (square_for piece)
   pub safe : piece.side ≡ Black → ¬ AttacksFrom (with_piece b piece).cells Black (square_for piece) king
 
--- The one board comes from the other by the piece: it stands where it may, else it is in its owner's hand; the rest stays.
+-- The one board comes from the other by the piece: it stands where it may, else it is in its
+-- owner's hand; the rest stays.
 abbrev pub IsPut : Board → ℕ → Drawn → Board → Type 0
 IsPut b king piece c = (MayStand b king piece × (c ≡ with_piece b piece)) ⊎ (¬ MayStand b king piece × (c ≡ with_held b piece.side piece.kind))
 
@@ -97,8 +101,8 @@ king_alone square = record {
   side = Black;
 }
 
--- The board of a number: White's king, one Black piece and then another, what Black holds, and last the White piece, each put on
--- the board as it stands by then. Black is to move.
+-- The board of a number: White's king, one Black piece and then another, what Black holds, and last
+-- the White piece, each put on the board as it stands by then. Black is to move.
 pub record IsGenerated (number : ℕ) (b : Board) : Type 0 where
   pub one : Board
   pub two : Board
@@ -106,7 +110,8 @@ pub record IsGenerated (number : ℕ) (b : Board) : Type 0 where
   pub second : IsPut one (king_square number) (black_piece number 5) two
   pub last : IsPut (with_held (with_held two Black (first_in_hand number)) Black (second_in_hand number)) (king_square number) (white_piece number) b
 
--- The kinds of all pieces that a number draws: the king's, of the two Black pieces, of the two that Black holds, and of White's.
+-- The kinds of all pieces that a number draws: the king's, of the two Black pieces, of the two that
+-- Black holds, and of White's.
 abbrev pub kinds_of : ℕ → List Kind
 kinds_of number = King ∷ (black_piece number 2).kind ∷ (black_piece number 5).kind ∷ first_in_hand number ∷ second_in_hand number
     ∷ (white_piece number).kind ∷ []
@@ -116,7 +121,8 @@ abbrev pub count_among : List Kind → Kind → ℕ
 count_among [] k = 0
 count_among (j ∷ others) k = one_if (same_kind j k) + count_among others k
 
--- While pieces are put: Black is to move, White's king stands on its square and is the only king, and no Black piece attacks it.
+-- While pieces are put: Black is to move, White's king stands on its square and is the only king,
+-- and no Black piece attacks it.
 pub record IsUnderWay (king : ℕ) (b : Board) : Type 0 where
   pub turn : b.side ≡ Black
   pub there : is_king_of White (piece_at b.cells king) ≡ true

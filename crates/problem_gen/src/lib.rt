@@ -1,7 +1,8 @@
-//! Tsume problems by number, to try a solver on: small, alike, and always the same for the same number.
+//! Tsume problems by number, to try a solver on: small, alike, and always the same for the same
+//! number.
 //!
-//! [`problem_of`] makes a problem of any number, by a generator whose steps `specs/Generator.antt` states. Nothing here takes
-//! memory.
+//! [`problem_of`] makes a problem of any number, by a generator whose steps `specs/Generator.antt`
+//! states. Nothing here takes memory.
 #![tactic(auto)]
 
 mod drawn;

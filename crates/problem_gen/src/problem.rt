@@ -104,14 +104,16 @@ fn give(position: &mut Position, king: Square, kind: Kind)
     requires no_king { kind ≢ King }
     ensures held { position.new ≡ with_held position.old Black kind }
     ensures under_way { IsUnderWay king.number position.new }
-    ensures counts { (k : Kind) → count_of position.new k ≡ count_of position.old k + one_if (same_kind kind k) }
+    ensures counts { (k : Kind) → count_of position.new k
+        ≡ count_of position.old k + one_if (same_kind kind k) }
 {
     position.gain(Side::Black, kind);
 }
 
-/// The problem of a number: White's king on one of the three upper rows, two Black pieces near it, two more in Black's hand,
-/// and a White piece; Black, the attacker, is to move. Every number has one, and numbers that differ by 2,147,483,646 have
-/// the same. Whether it has a mate isn't known. Takes no memory.
+/// The problem of a number: White's king on one of the three upper rows, two Black pieces near it,
+/// two more in Black's hand, and a White piece; Black, the attacker, is to move. Every number has
+/// one, and numbers that differ by 2,147,483,646 have the same. Whether it has a mate isn't known.
+/// Takes no memory.
 pub fn problem_of(number: u64) -> Problem
     // It is the board of the number, and there is no other.
     ensures generated { IsGenerated number result.position }

@@ -24,7 +24,8 @@ fn has_pawn_on_file(position: &Position, side: Side, to: Square) -> bool
 }
 
 fn is_second_pawn(position: &Position, piece: &Drawn, to: Square) -> bool
-    ensures { IsTrue result ↔ ((piece.now.kind ≡ Pawn) × HasPawnOnFile position.now.cells piece.now.side to.number) }
+    ensures { IsTrue result
+        ↔ ((piece.now.kind ≡ Pawn) × HasPawnOnFile position.now.cells piece.now.side to.number) }
 {
     piece.kind == Kind::Pawn && has_pawn_on_file(position, piece.side, to)
 }
@@ -37,8 +38,12 @@ fn attacks_king(position: &Position, king: Square, piece: &Drawn, to: Square) ->
     requires square { to.number ≡ square_for piece.now }
     requires free { piece_at position.now.cells to.number ≡ None }
     requires alive { is_dead to.number (Some (piece_of piece.now)) ≡ false }
-    requires pawn { piece.now.kind ≡ Pawn → ¬ HasPawnOnFile position.now.cells piece.now.side to.number }
-    ensures { IsTrue result ↔ ((piece.now.side ≡ Black) × AttacksFrom (with_piece position.now piece.now).cells Black (square_for piece.now) king.number) }
+    requires pawn { piece.now.kind ≡ Pawn
+        → ¬ HasPawnOnFile position.now.cells piece.now.side to.number }
+    ensures { IsTrue result
+        ↔ ((piece.now.side ≡ Black)
+        × AttacksFrom (with_piece position.now piece.now).cells Black (square_for piece.now)
+        king.number) }
 {
     match piece.side {
         Side::White => false,
@@ -57,7 +62,8 @@ fn standing_square(position: &Position, king: Square, piece: &Drawn) -> Option<S
     requires no_king { piece.now.kind ≢ King }
     requires row_from { 1 ≤ piece.now.row }
     requires row_to { piece.now.row ≤ 9 }
-    ensures some { IfSome result (λ square. (square.number ≡ square_for piece.now) × MayStand position.now king.number piece.now) }
+    ensures some { IfSome result (λ square. (square.number ≡ square_for piece.now)
+        × MayStand position.now king.number piece.now) }
     ensures none { result ≡ None → ¬ MayStand position.now king.number piece.now }
 {
     if piece.file_and_two < 3 || piece.file_and_two > 11 {
@@ -88,7 +94,8 @@ pub(crate) fn put(position: &mut Position, king: Square, piece: &Drawn)
     requires row_to { piece.now.row ≤ 9 }
     ensures put { IsPut position.old king.number piece.now position.new }
     ensures under_way { IsUnderWay king.number position.new }
-    ensures counts { (k : Kind) → count_of position.new k ≡ count_of position.old k + one_if (same_kind piece.now.kind k) }
+    ensures counts { (k : Kind) → count_of position.new k
+        ≡ count_of position.old k + one_if (same_kind piece.now.kind k) }
 {
     match standing_square(position, king, piece) {
         Some(square) => position.put(square, Piece::plain(piece.kind, piece.side)),

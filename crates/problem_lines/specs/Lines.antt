@@ -5,7 +5,8 @@ use Rattle.std.specs.Str.Lines.{lines}
 use Rattle.problem_lines.specs.declared.line.Line.{Line}
 use Rattle.problem_lines.specs.declared.line.TheConstants.{MOST_PROBLEM_BYTES}
 
--- A line that holds a problem: its number, the bytes of the problem, and whether the line is too long.
+-- A line that holds a problem: its number, the bytes of the problem, and whether the line is too
+-- long.
 pub record NumberedLine : Type 0 where
   pub number : ℕ
   pub content : List ℕ
@@ -15,7 +16,8 @@ pub record NumberedLine : Type 0 where
 abbrev pub without_note : List ℕ → List ℕ
 without_note line = before_first (λ byte. byte == 9) line
 
--- Whether a line without its note is skipped: it is empty or holds spaces alone, or it begins with `#`.
+-- Whether a line without its note is skipped: it is empty or holds spaces alone, or it begins with
+-- `#`.
 abbrev pub is_skipped : List ℕ → Bool
 is_skipped content = list_all (λ byte. byte == 32) content || starts_with nat_eq content (35 ∷ [])
 
@@ -23,7 +25,8 @@ is_skipped content = list_all (λ byte. byte == 32) content || starts_with nat_e
 abbrev pub holds_problem : ℕ × List ℕ → Bool
 holds_problem line = not (is_skipped (without_note line.1))
 
--- A line that holds a problem, with its number. It is too long where it has more bytes than a problem may, its note among them.
+-- A line that holds a problem, with its number. It is too long where it has more bytes than a
+-- problem may, its note among them.
 abbrev pub numbered_line : ℕ × List ℕ → NumberedLine
 numbered_line line = record {
   number = line.0;
@@ -35,8 +38,8 @@ numbered_line line = record {
 unfoldable pub problems_among : ℕ → List (List ℕ) → List NumberedLine
 problems_among first all = map numbered_line (filter holds_problem (enumerate_from first all))
 
--- The lines of a text that hold a problem. A line feed ends a line, and a carriage return before it doesn't count; the last line
--- may end with the text. Lines count from 1.
+-- The lines of a text that hold a problem. A line feed ends a line, and a carriage return before it
+-- doesn't count; the last line may end with the text. Lines count from 1.
 abbrev pub problem_lines : List ℕ → List NumberedLine
 problem_lines text = problems_among 1 (lines text)
 

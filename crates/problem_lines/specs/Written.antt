@@ -22,7 +22,8 @@ text_of (one ∷ others) last = one.line ++ (line_end one.has_return ++ text_of 
 abbrev pub HasNoFeed : List ℕ → Type 0
 HasNoFeed bytes = AllByRecursion (λ byte. byte ≢ 10) bytes
 
--- The line has no line feed; and where a line feed alone ends it, it doesn't end with a carriage return, which would belong to the end.
+-- The line has no line feed; and where a line feed alone ends it, it doesn't end with a carriage
+-- return, which would belong to the end.
 pub record IsEnded (one : Ended) : Type 0 where
   pub feedless : HasNoFeed one.line
   pub own : one.has_return ≡ false → slice_index one.line (length one.line - 1) ≢ 13
@@ -32,7 +33,8 @@ abbrev pub last_line : List ℕ → List (List ℕ)
 last_line [] = []
 last_line (byte ∷ bytes) = (byte ∷ bytes) ∷ []
 
--- However a text is written in lines, what is listed is which of these lines hold a problem, counted from 1.
+-- However a text is written in lines, what is listed is which of these lines hold a problem,
+-- counted from 1.
 abbrev pub ListsWhatIsWritten : List ℕ → List NumberedLine → Type 0
 ListsWhatIsWritten text listed = (ended : List Ended) (last : List ℕ) → AllByRecursion IsEnded ended → HasNoFeed last → text_of ended last ≡ text
     → listed ≡ problems_among 1 (map (λ one. one.line) ended ++ last_line last)

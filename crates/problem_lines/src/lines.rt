@@ -9,7 +9,8 @@ use crate::cut::{is_skipped, split_first, without_note};
 use crate::{Line, MOST_PROBLEM_BYTES};
 use std::marker::Model;
 
-/// Goes over the lines of a text. Contracts see the lines that hold a problem and are still to come.
+/// Goes over the lines of a text. Contracts see the lines that hold a problem and are still to
+/// come.
 #[derive(Drop)]
 pub struct Lines<'a> {
     rest: &'a [u8],
@@ -34,7 +35,8 @@ impl<'a> Lines<'a> {
     pub fn new(text: &'a [u8]) -> Lines<'a>
         ensures lines { result ≡ problem_lines text.now }
 
-        // However the text is written in lines, these are those of them that hold a problem. Their numbers rise, and none is skipped.
+        // However the text is written in lines, these are those of them that hold a problem. Their
+        // numbers rise, and none is skipped.
         ensures written { ListsWhatIsWritten text.now result }
         ensures rising { IsStrictlyIncreasing (map (λ line. line.number) result) }
         ensures problems { AllByRecursion HoldsProblem result }
@@ -50,7 +52,8 @@ impl<'a> Lines<'a> {
 
     /// The next line that holds a problem; none where there is none left. Takes no memory.
     pub fn next(&mut self) -> Option<Line<'a>>
-        ensures { MatchOption result ((self.old ≡ []) × (self.new ≡ [])) (λ line. self.old ≡ seen line ∷ self.new) }
+        ensures { MatchOption result ((self.old ≡ []) × (self.new ≡ [])) (λ line. self.old
+            ≡ seen line ∷ self.new) }
     {
         while !self.rest.is_empty() {
             let (whole, rest) = split_first(self.rest);

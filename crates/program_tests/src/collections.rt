@@ -42,7 +42,8 @@ fn told<R: Threads + Wait + AllocGlobal + Sync>(
     Ok(String::from_utf8(out)?)
 }
 
-// A text of so many lines, and what is told of them: lines of these kinds in turn, and a fault in one place.
+// A text of so many lines, and what is told of them: lines of these kinds in turn, and a fault in
+// one place.
 fn turns(alloc: Global, count: usize, fault: usize) -> Result<(String, String), AllocError> {
     let (mut text, mut told) = (String::new(alloc), String::new(alloc));
     for place in 0..count {

@@ -1,8 +1,8 @@
-//! Tests of the program: of the public calls of the crates that reach the outside, read the words, decide
-//! problems and tell of them, and of whole runs.
+//! Tests of the program: of the public calls of the crates that reach the outside, read the words,
+//! decide problems and tell of them, and of whole runs.
 //!
-//! They stand in a crate of their own, so that no library is proved twice, with its tests and without them.
-//! Without tests this one is empty.
+//! They stand in a crate of their own, so that no library is proved twice, with its tests and
+//! without them. Without tests this one is empty.
 #![tactic(auto)]
 
 #[cfg(test)]

@@ -193,8 +193,8 @@ fn counting(alloc: Global, size: u32) -> Result<Vec<u8>, Fail> {
     Ok((0..size).map(|n| (n % 251) as u8).collect(alloc)?)
 }
 
-// No clause says that a reader's bytes are no fault, nor a writer's. In pieces of one byte each of the
-// two is called a million times.
+// No clause says that a reader's bytes are no fault, nor a writer's. In pieces of one byte each of
+// the two is called a million times.
 #[test]
 fn a_megabyte_goes_through_buffers_of_ten_sizes(rt: HostRuntime) -> Result<(), Fail> {
     let alloc = rt.alloc();

@@ -11,10 +11,11 @@ use std::alloc::{AllocError, Global};
 use std::test::Fail;
 use tsume_words::{Format, WordsEnd};
 
-// A line, and what it asks for: the numbers in the order of the settings, whether `--rest` stands, `kif` where
-// `--kif` does, `until` the deadline, and `telling` where `--progress` stands; or the problem, and `by` the workers; and the file. Of
-// the commands over many problems the seed, the count and the expansions; or the settings, whether `--rest`
-// stands, `told` where `--certificates` does, and `by` the threads.
+// A line, and what it asks for: the numbers in the order of the settings, whether `--rest` stands,
+// `kif` where `--kif` does, `until` the deadline, and `telling` where `--progress` stands; or the
+// problem, and `by` the workers; and the file. Of the commands over many problems the seed, the
+// count and the expansions; or the settings, whether `--rest` stands, `told` where `--certificates`
+// does, and `by` the threads.
 static ASKED: [(&str, &str); 59] = [
     ("solve", "solve 1 1000000 1000000000 65536 64 false"),
     ("solve --rest", "solve 1 1000000 1000000000 65536 64 true"),
@@ -406,7 +407,8 @@ static HELPED: [(&str, &str); 28] = [
     ("check --help", "-h, --help            Print help\n"),
 ];
 
-// What help shows for some commands alone: workers solve and check, and parts matter to workers that solve.
+// What help shows for some commands alone: workers solve and check, and parts matter to workers
+// that solve.
 static HIDDEN: [&str; 2] = ["--workers", "--shards"];
 
 fn command_text(alloc: Global, command: &Command) -> Result<String, AllocError> {

@@ -6,7 +6,8 @@ use Rattle.cmd_check.specs.Line.{check_line}
 use Rattle.cmd_survey.specs.Line.{survey_line}
 use Rattle.cmd_collection.specs.Line.{collection_line}
 
--- The program has a version, wants one of its commands, and shows its help where there are no words.
+-- The program has a version, wants one of its commands, and shows its help where there are no
+-- words.
 abbrev pub bare_line : App
 bare_line = let made = new_app (codes "tsume") in record made {
   top = record made.top {

@@ -31,7 +31,8 @@ wish_of (Check asked) = to_check (check_view asked)
 wish_of (Survey asked) = to_survey (survey_in asked)
 wish_of (Collection asked) = to_collect (collect_in asked)
 
--- What is asked for, by a command of this name and what clap found for it, before the command's tests.
+-- What is asked for, by a command of this name and what clap found for it, before the command's
+-- tests.
 abbrev pub wish_named : Text × List Row → Option Wish
 wish_named p =
     if bytes_eq p.0 (codes "solve") then Some (to_solve (solve_words.given p.1))
@@ -102,12 +103,13 @@ MayAskForHelp words = MayAsk tsume_line words
 abbrev pub FailsFirst : List Text → WordFault → Type 0
 FailsFirst words fault = IsStopped program words fault
 
--- Why the words are refused: clap's first fault is no request, or this test after clap is the first to fail.
+-- Why the words are refused: clap's first fault is no request, or this test after clap is the first
+-- to fail.
 abbrev pub IsRefusalOf : List Text → WordFault → Type 0
 IsRefusalOf words fault = IsRefused program words fault
 
--- Why the words give no command: clap's first fault is a request for help or for the version; or they are refused; want of memory says
--- nothing.
+-- Why the words give no command: clap's first fault is a request for help or for the version; or
+-- they are refused; want of memory says nothing.
 abbrev pub IsEndFor : List Text → WordsEnd → Type 0
 IsEndFor words end = IsEnd program words end
 

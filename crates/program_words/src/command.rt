@@ -11,7 +11,8 @@ pub enum Command {
     Solve(Solve),
     /// Check the certificate that is read.
     Check(Check),
-    /// Solve the problems of this range, as the generator makes them, and count how they end; nothing is read.
+    /// Solve the problems of this range, as the generator makes them, and count how they end;
+    /// nothing is read.
     Survey(SurveyRange),
     /// Decide each problem of the text that is read.
     Collection(Collection),
@@ -22,6 +23,7 @@ pub enum Command {
 pub struct Asked {
     /// The command.
     pub command: Command,
-    /// The file that it reads, as the words have its path; none for the standard input, and for a survey, which reads nothing.
+    /// The file that it reads, as the words have its path; none for the standard input, and for a
+    /// survey, which reads nothing.
     pub file: Option<String>,
 }

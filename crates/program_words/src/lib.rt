@@ -1,8 +1,10 @@
 //! What the words of the command line mean.
 //!
-//! The line of the program is made of its commands' own, and what its words ask for ([`Asked`]) is what the words of one of the four
-//! [`Command`]s do: each has its words in its own crate, which is [`CommandWords`](tsume_words::CommandWords). So a further command is a variant
-//! here and an arm. [`read_words`] reads words, and [`WordsRead`] keeps them beside what they came to, so that a program reads them once.
+//! The line of the program is made of its commands' own, and what its words ask for ([`Asked`]) is
+//! what the words of one of the four [`Command`]s do: each has its words in its own crate, which is
+//! [`CommandWords`](tsume_words::CommandWords). So a further command is a variant here and an arm.
+//! [`read_words`] reads words, and [`WordsRead`] keeps them beside what they came to, so that a
+//! program reads them once.
 #![tactic(auto)]
 
 mod command;

@@ -9,7 +9,8 @@ use std::alloc::Global;
 use std::marker::Model;
 use tsume_words::WordsEnd;
 
-/// The words of the command line, those behind the program's name, and what reading them came to. Contracts see the words.
+/// The words of the command line, those behind the program's name, and what reading them came to.
+/// Contracts see the words.
 #[derive(Drop)]
 pub struct WordsRead {
     words: Vec<String>,
@@ -44,14 +45,17 @@ impl WordsRead {
         // What the words ask for, and the file that they name.
         ensures command { IfOk result.now (λ asked. command_of self.now ≡ Some (asked_wish asked)) }
         ensures file { IfOk result.now (λ asked. asked_file asked ≡ file_of self.now) }
-        // Help, a refusal or a test's fault comes only with its cause, and wherever its cause is there, but for want of memory.
+        // Help, a refusal or a test's fault comes only with its cause, and wherever its cause is
+        // there, but for want of memory.
         ensures ended { IfErr result.now (IsEndFor self.now) }
-        ensures help { AsksForHelp self.now → IsHelp result.now ⊎ (result.now ≡ Err WordsEnd.NoMemory) }
+        ensures help { AsksForHelp self.now → IsHelp result.now
+            ⊎ (result.now ≡ Err WordsEnd.NoMemory) }
         ensures stopped { (fault : WordFault) → FailsFirst self.now fault
             → (result.now ≡ Err (WordsEnd.Fault fault)) ⊎ (result.now ≡ Err WordsEnd.NoMemory) }
         // Words that ask for something are not refused, but for want of memory.
         ensures complete { (wish : Wish) → command_of self.now ≡ Some wish
-            → IsOkAnd result.now (λ asked. asked_wish asked ≡ wish) ⊎ (result.now ≡ Err WordsEnd.NoMemory) }
+            → IsOkAnd result.now (λ asked. asked_wish asked ≡ wish)
+            ⊎ (result.now ≡ Err WordsEnd.NoMemory) }
     {
         self.kept()
     }
@@ -61,7 +65,8 @@ impl WordsRead {
         // What the words ask for, and the file that they name.
         ensures command { IfOk result (λ asked. command_of self ≡ Some (asked_wish asked)) }
         ensures file { IfOk result (λ asked. asked_file asked ≡ file_of self) }
-        // Help, a refusal or a test's fault comes only with its cause, and wherever its cause is there, but for want of memory.
+        // Help, a refusal or a test's fault comes only with its cause, and wherever its cause is
+        // there, but for want of memory.
         ensures ended { IfErr result (IsEndFor self) }
         ensures help { AsksForHelp self → IsHelp result ⊎ (result ≡ Err WordsEnd.NoMemory) }
         ensures stopped { (fault : WordFault) → FailsFirst self fault

@@ -18,8 +18,8 @@ fn who_attacks_and_who_stands_between(rt: HostRuntime) {
         ("k1a l5b P5d l5h", "5e", White, "", "5d"),
         // A dragon shields from a bishop, and a knight jumps.
         ("k5e B2b +r4d P4f N4g n4c", "5e", Black, "4g", "4d"),
-        // A piece of the same side on the square hinders none: a dragon steps aslant, and pieces of the other side don't
-        // count.
+        // A piece of the same side on the square hinders none: a dragon steps aslant, and pieces of
+        // the other side don't count.
         ("k5e B2b +r4d P4f N4g n4c P5f", "5e", White, "4d 4c", ""),
     ];
     for (pieces, to, by, attacking, shielding) in rows.iter() {
@@ -65,7 +65,8 @@ fn all_attackers_are_stopped_at_once(rt: HostRuntime) {
 #[test]
 fn pieces_reach_up_to_and_with_the_first_piece(rt: HostRuntime) {
     let position = standing(&rt, "k5a p5d P3e b8b", Hand::empty());
-    // A piece and its square; the squares that it reaches, and those from which such a piece reaches that one.
+    // A piece and its square; the squares that it reaches, and those from which such a piece
+    // reaches that one.
     let rows = [
         ("L5g", "5f 5e 5d", "5h 5i"),
         ("l5b", "5c 5d", "5a"),

@@ -62,7 +62,8 @@ fn a_mated_king_has_no_move_on_the_board(rt: HostRuntime) {
 fn a_piece_is_dropped_where_the_rules_allow_it(rt: HostRuntime) {
     // Pieces, a kind, squares; those of them on which it may be dropped.
     let rows = [
-        // Mate by a dropped pawn: a gold keeps the king from taking it, and from stepping away beside his lance.
+        // Mate by a dropped pawn: a gold keeps the king from taking it, and from stepping away
+        // beside his lance.
         ("K9i G2c l2a k1a", Kind::Pawn, "1b 1c 3a 5e 2a", "1c 5e"),
         // No mate where he may step aside, or another piece takes the pawn.
         ("K9i G2c k1a", Kind::Pawn, "1b 1c", "1b 1c"),

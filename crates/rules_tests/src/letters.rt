@@ -98,8 +98,8 @@ fn placed(word: &str) -> Option<(Piece, Square)> {
     Some((piece, square))
 }
 
-/// A piece and its square by a text as `+P5c`: a letter, capital for Black and behind a `+` where it is promoted, and
-/// the square.
+/// A piece and its square by a text as `+P5c`: a letter, capital for Black and behind a `+` where
+/// it is promoted, and the square.
 pub fn piece(rt: &impl Abort, word: &str) -> (Piece, Square) {
     placed(word).expect(rt, word)
 }

@@ -1,5 +1,5 @@
-// What the rules say of single moves and positions, in the letters of SFEN: expected values from the rules of shogi and
-// from an independent program.
+// What the rules say of single moves and positions, in the letters of SFEN: expected values from
+// the rules of shogi and from an independent program.
 mod wandering;
 
 use crate::letters::{accepted, by, moves, named, position, problem};
@@ -191,8 +191,8 @@ const DROPS: &[Verdict] = &[
     ("9/7k1/5G3/9/9/9/9/9/9 b N", "N*5b", Err(DeadDrop)),
     ("9/9/9/K8/9/9/9/9/k8 b SL", "L*6a", Err(DeadDrop)),
     ("8k/9/4P4/9/9/9/9/9/9 b P", "P*5a", Err(DeadDrop)),
-    // A second unpromoted pawn on the file; also where the mover's king is left attacked. A promoted one, or the
-    // other side's, is none.
+    // A second unpromoted pawn on the file; also where the mover's king is left attacked. A
+    // promoted one, or the other side's, is none.
     ("4k4/9/4P4/9/9/9/9/9/9 b P", "P*5b", Err(TwoPawns)),
     ("7Kp/9/6G2/9/9/9/9/9/9 w Sp", "P*1c", Err(TwoPawns)),
     ("4k4/9/4P4/9/9/9/9/9/4K3r b P", "P*5e", Err(TwoPawns)),
@@ -206,8 +206,8 @@ const DROPS: &[Verdict] = &[
         "P*5f",
         Ok("k8/9/9/9/4p4/4P4/9/9/9 w -"),
     ),
-    // The mover's king is left attacked: by a pinned piece, by a drop elsewhere, by the king's own step; also where
-    // the pawn would be mate. Without the king nothing is left.
+    // The mover's king is left attacked: by a pinned piece, by a drop elsewhere, by the king's own
+    // step; also where the pawn would be mate. Without the king nothing is left.
     ("4k4/4r4/9/9/9/9/9/4G4/4K4 b -", "5h4h", Err(KingLeft)),
     (
         "4k4/4r4/9/9/9/9/9/4G4/9 b -",
@@ -274,8 +274,8 @@ fn a_dropped_pawn_may_check_and_not_mate(rt: HostRuntime) -> Result<(), Fail> {
 
 #[test]
 fn the_key_after_a_move_is_that_of_the_position_after_it(rt: HostRuntime) {
-    // A plain move to another word of the key and within one; a capture of a promoted piece, without and with a
-    // promotion; a promotion; a drop from a hand of several: by each side.
+    // A plain move to another word of the key and within one; a capture of a promoted piece,
+    // without and with a promotion; a promotion; a drop from a hand of several: by each side.
     let rows = [
         ("8k/9/9/9/4+R4/9/9/9/9 b 2Pg", "5e4f"),
         ("8k/9/9/9/9/9/9/4p4/8K w 2Pg", "5h5i+"),
@@ -388,7 +388,8 @@ fn evasions_are_listed_whole_and_in_order(rt: HostRuntime) -> Result<(), Fail> {
 
 #[test]
 fn a_problem_is_refused_where_the_defender_is_in_check(rt: HostRuntime) {
-    // A position, and whether the side not to move is in check; the side to move, whether it has a king or not, may be.
+    // A position, and whether the side not to move is in check; the side to move, whether it has a
+    // king or not, may be.
     let rows = [
         ("4k4/9/9/9/9/9/9/9/4R4 b -", true),
         ("4k4/9/9/9/4p4/9/9/9/4R4 b -", false),

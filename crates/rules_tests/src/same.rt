@@ -2,7 +2,8 @@
 use std::fmt::Debug;
 use std::process::Abort;
 
-/// Ends the test where what was found isn't what was wanted, and tells both, with the row of the test that they are of.
+/// Ends the test where what was found isn't what was wanted, and tells both, with the row of the
+/// test that they are of.
 pub fn same<T: PartialEq + Debug + Drop>(
     rt: &impl Abort,
     row: impl Debug + Drop,

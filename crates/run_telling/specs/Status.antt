@@ -22,7 +22,8 @@ abbrev pub judgement_status : Judgement → ℕ
 judgement_status (Accepted claim entries) = 0
 judgement_status (Refused entry why) = 7
 
--- The status of a fault: 3 where the text is at fault, or too long; 4 where the source failed; 6 for want of memory.
+-- The status of a fault: 3 where the text is at fault, or too long; 4 where the source failed; 6
+-- for want of memory.
 abbrev pub fault_status : {F : Type 0} → Fault F → ℕ
 fault_status (faults.Text fault) = 3
 fault_status faults.TooLong = 3
@@ -35,7 +36,8 @@ ended_status status (Answered answer) = status answer
 ended_status status (CutShort answer) = 5
 ended_status status (Failed fault input) = fault_status fault
 
--- The status of a run that reads nothing, by that of its answer: that, 5 where the sink failed, or 6 for want of memory.
+-- The status of a run that reads nothing, by that of its answer: that, 5 where the sink failed, or
+-- 6 for want of memory.
 abbrev pub written_status : {A : Type 0} → (A → ℕ) → Written A → ℕ
 written_status status (written.Whole answer) = status answer
 written_status status (written.InPart answer) = 5

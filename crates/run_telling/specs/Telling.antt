@@ -11,14 +11,15 @@ use Rattle.one_run.specs.declared.ended.Fault.TheVariants as faults
 use Rattle.one_run.specs.declared.written.Written.{Written}
 use Rattle.one_run.specs.declared.written.Written.TheVariants as written
 
--- What stands for a reader behind the line of a problem's fault: printable ASCII and line feeds, and of a diagram's the characters of
--- Japanese texts too.
+-- What stands for a reader behind the line of a problem's fault: printable ASCII and line feeds,
+-- and of a diagram's the characters of Japanese texts too.
 abbrev pub MayFollowProblem : ProblemFault → List ℕ → Type 0
 MayFollowProblem (Text fault) note = IsPlain note
 MayFollowProblem (Diagram fault) note = IsReadable note
 MayFollowProblem DefenderInCheck note = IsPlain note
 
--- What the user is told of a run: a line in words, if any; and what may stand behind it for a reader, which can't steer a terminal.
+-- What the user is told of a run: a line in words, if any; and what may stand behind it for a
+-- reader, which can't steer a terminal.
 pub record Telling : Type 1 where
   pub line : Option (List ℕ)
   pub MayFollow : List ℕ → Type 0
@@ -42,7 +43,8 @@ fault_telling text_of MayFollow faults.TooLong = plainly (codes "too long")
 fault_telling text_of MayFollow faults.Read = alone (codes "read fault")
 fault_telling text_of MayFollow faults.NoMemory = plainly (codes "out of memory")
 
--- What the user is told of an ending: nothing where the run was answered, that the sink failed, or why the run failed.
+-- What the user is told of an ending: nothing where the run was answered, that the sink failed, or
+-- why the run failed.
 abbrev pub ended_telling : {A F : Type 0} → (F → List ℕ) → (F → List ℕ → Type 0) → Ended A F → Telling
 ended_telling text_of MayFollow (Answered answer) = nothing
 ended_telling text_of MayFollow (CutShort answer) = plainly (codes "write fault")

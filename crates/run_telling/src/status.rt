@@ -69,8 +69,8 @@ impl<A: Status, F> Status for Ended<A, F> {
 
     ghost status_of = { ended_status A.status_of };
 
-    /// That of the answer; 5 where the sink failed, 3 where the text is at fault, 4 where the source failed,
-    /// 6 for want of memory.
+    /// That of the answer; 5 where the sink failed, 3 where the text is at fault, 4 where the
+    /// source failed, 6 for want of memory.
     fn status(&self) -> u8 {
         match self {
             Ended::Answered(answer) => answer.status(),

@@ -7,8 +7,8 @@ use fault_notes::{Trouble, explain};
 use one_run::{Ended, Fault, Written};
 use std::alloc::{AllocError, Global};
 
-/// The line for the user, `tsume: ` and these words, and behind it what explains the trouble with the input,
-/// if there is one, and memory for it. Errors: want of memory for the line.
+/// The line for the user, `tsume: ` and these words, and behind it what explains the trouble with
+/// the input, if there is one, and memory for it. Errors: want of memory for the line.
 pub fn told_line(
     alloc: Global,
     words: &str,
@@ -35,7 +35,8 @@ fn told_of_fault<F: Explained>(
     fault: &Fault<F>,
     input: &[u8],
 ) -> Result<Vec<u8>, AllocError>
-    ensures { IfOk result (λ text. BeginsAsTold (fault_telling F.text_of F.MayFollow fault.now) text.items) }
+    ensures { IfOk result
+        (λ text. BeginsAsTold (fault_telling F.text_of F.MayFollow fault.now) text.items) }
 {
     match fault {
         Fault::Text(fault) => {
@@ -48,10 +49,12 @@ fn told_of_fault<F: Explained>(
     }
 }
 
-/// What the user is told of a run beside its answer: nothing where it was answered; else a line, and behind
-/// it what is at fault, what was expected, and what to do. Errors: want of memory for the line.
+/// What the user is told of a run beside its answer: nothing where it was answered; else a line,
+/// and behind it what is at fault, what was expected, and what to do. Errors: want of memory for
+/// the line.
 pub fn told_of<A, F: Explained>(alloc: Global, ended: &Ended<A, F>) -> Result<Vec<u8>, AllocError>
-    ensures { IfOk result (λ text. BeginsAsTold (ended_telling F.text_of F.MayFollow ended.now) text.items) }
+    ensures { IfOk result
+        (λ text. BeginsAsTold (ended_telling F.text_of F.MayFollow ended.now) text.items) }
 {
     match ended {
         Ended::Answered(_) => Ok(Vec::new(alloc)),

@@ -31,7 +31,8 @@ use Rattle.search_pool.specs.Inside.{says_spent, says_full, says_posted, says_st
 
 -- 1. THE DESK'S SEAT.
 
--- It is at the same desk; what it got none of it got none of from then on, and what it met it has met; and what the reply says of that is so.
+-- It is at the same desk; what it got none of it got none of from then on, and what it met it has
+-- met; and what the reply says of that is so.
 pub record DeskMoves (before : DeskSeatView) (x : Exchange) (after : DeskSeatView) : Type 0 where
   pub desk : after.desk ≡ before.desk
   pub draws : before.draw_ends ≤ after.draw_ends

@@ -39,14 +39,15 @@ use Rattle.search_crew.proofs.Moves.{Moves, moves, stops}
 
 -- 1. WHAT HOLDS ON THE WAY.
 
--- A stop signalled nothing, and nothing of it was said; or it signalled once, that was said, it was polled no more, and the worker winds up for it.
+-- A stop signalled nothing, and nothing of it was said; or it signalled once, that was said, it was
+-- polled no more, and the worker winds up for it.
 abbrev pub IsQuiet : Signal → Signal → List Exchange → State → Type 0
 IsQuiet before after log s =
     ((WasSaid says_stop log → ⊥) × (after.raised ≡ before.raised))
     ⊎ (WasSaid says_stop log × (after.raised ≡ one_more before.raised) × (after.last ≡ after.polls) × (s.stage ≡ Winding Stopped))
 
--- Behind a log: the seats are where they were; what was said of units, room and a posted note, the desk's seat tells; the stop was polled as often as the worker
--- polls, and not armed.
+-- Behind a log: the seats are where they were; what was said of units, room and a posted note, the
+-- desk's seat tells; the stop was polled as often as the worker polls, and not armed.
 pub record IsOnWay (first : TablePortView) (before after : Signal) (port : TablePortView) (log : List Exchange) (s : State) : Type 0 where
   pub counts : port.seat.seat.counts ≡ first.seat.seat.counts
   pub desk : port.desk.desk ≡ first.desk.desk

@@ -20,13 +20,15 @@ use Rattle.search_pool.specs.declared.end.SearchEnd.TheVariants.{Solved, Unknown
 
 -- 1. A WORKER.
 
--- What became of a worker's stop: where the worker ended as stopped, it signalled, once, and was polled no more; else it didn't signal.
+-- What became of a worker's stop: where the worker ended as stopped, it signalled, once, and was
+-- polled no more; else it didn't signal.
 abbrev pub HeedsOwn : Signal → Signal → WorkEnd → Type 0
 HeedsOwn before after Stopped = (after.raised ≡ one_more before.raised) × (after.last ≡ after.polls)
 HeedsOwn before after end = after.raised ≡ before.raised
 
--- The worker of this number has searched the problem: what it asked and was told is a whole visit log, by which it ended. Its stop, which told this before and
--- after, was polled at each of its polls and at no other time, and not armed.
+-- The worker of this number has searched the problem: what it asked and was told is a whole visit
+-- log, by which it ended. Its stop, which told this before and after, was polled at each of its
+-- polls and at no other time, and not armed.
 pub record HasSearched (problem : Board) (number : ℕ) (before after : Signal) (worker : WorkerView) : Type 0 where
   pub task : worker.task ≡ task_for problem number
   pub log : List Exchange
@@ -38,7 +40,8 @@ pub record HasSearched (problem : Board) (number : ℕ) (before after : Signal) 
   pub polls : after.polls ≡ polls_after log before.polls
   pub heeds : HeedsOwn before after end
 
--- The workers from this number on have searched the problem, each with the stop at its place; the stops beyond are as they were.
+-- The workers from this number on have searched the problem, each with the stop at its place; the
+-- stops beyond are as they were.
 abbrev pub HaveSearched : Board → ℕ → List Signal → List Signal → List WorkerView → Type 0
 HaveSearched problem number before after [] = after ≡ before
 HaveSearched problem number (old ∷ before) (new ∷ after) (worker ∷ workers) =
@@ -72,8 +75,10 @@ pub record IsFirstEnded (end : WorkEnd) (crew : List WorkerView) (number : ℕ) 
   pub ended : EndedSo end worker
   pub first : (earlier : ℕ) (other : WorkerView) → earlier < place → slice_get crew earlier ≡ Some other → EndedOtherwise end other
 
--- Why a crew gave up, the first of these that holds. Expansions: one had no unit any more, and all units were drawn by them, so many. Room: one had no room for a
--- note, and they claimed it all. Height: one came upon a note that would have been too high. Stopped: this worker is the first that was stopped.
+-- Why a crew gave up, the first of these that holds. Expansions: one had no unit any more, and all
+-- units were drawn by them, so many. Room: one had no room for a note, and they claimed it all.
+-- Height: one came upon a note that would have been too high. Stopped: this worker is the first
+-- that was stopped.
 abbrev pub GaveUpFor : SettingsView → List WorkerView → Cause → Type 0
 GaveUpFor s crew (Expansions number) =
     (number ≡ s.expansions) × OneEnded Spent crew × (sum_by (λ worker. worker.state.visits) crew ≡ number)
@@ -86,8 +91,9 @@ GaveUpFor s crew (Entries number) = ⊥
 
 -- 3. THE SEARCH.
 
--- How a search by several workers ended. With a note: it answers the problem, that is, it is valid, holds on every path, is about the problem's position and for its
--- attacker. Without one: with all its workers as they ended, none of them with a posted note, and the cause why they gave up.
+-- How a search by several workers ended. With a note: it answers the problem, that is, it is valid,
+-- holds on every path, is about the problem's position and for its attacker. Without one: with all
+-- its workers as they ended, none of them with a posted note, and the cause why they gave up.
 abbrev pub IsCrewEnd : Board → SettingsView → List Signal → List Signal → SearchEnd → Type 0
 IsCrewEnd problem s before after (Solved note) = IsAnswer (task_for problem 1) note
 IsCrewEnd problem s before after (Unknown cause crew) =
@@ -98,7 +104,8 @@ abbrev pub FirstHeeded : (Signal → Signal → Type 0) → List Signal → List
 FirstHeeded heeds (old ∷ before) (new ∷ after) = heeds old new
 FirstHeeded heeds before after = ⊥
 
--- How a search with these settings ended: with one worker as the search of one worker does, which polls the first stop; with more as a crew does.
+-- How a search with these settings ended: with one worker as the search of one worker does, which
+-- polls the first stop; with more as a crew does.
 pub record IsSearchEnd (problem : Board) (s : SettingsView) (before after : List Signal) (end : SearchEnd) : Type 0 where
   pub alone : s.workers ≡ 1 → FirstHeeded (λ old new. IsAloneUntil problem s old new end × HeedsStop old new end) before after
   pub crew : 2 ≤ s.workers → IsCrewEnd problem s before after end

@@ -51,7 +51,8 @@ abbrev pub AreFresh : Shared → ℕ → List LaneView → Type 0
 AreFresh shared number [] = Unit {0}
 AreFresh shared number (lane ∷ lanes) = IsFresh shared number lane × AreFresh shared (suc number) lanes
 
--- The worker of this number has searched, and its seats tell what it drew, claimed and met; it has left all that it had entered.
+-- The worker of this number has searched, and its seats tell what it drew, claimed and met; it has
+-- left all that it had entered.
 pub record IsDone (shared : Shared) (number : ℕ) (before after : Signal) (lane : LaneView) : Type 0 where
   pub searched : HasSearched shared.problem number before after lane.worker
   pub counts : lane.seat.seat.counts ≡ shared.words
@@ -67,7 +68,8 @@ pub record IsDone (shared : Shared) (number : ℕ) (before after : Signal) (lane
 abbrev pub HasWorked : LaneView → LaneView → Type 0
 HasWorked lane later = (shared : Shared) (number : ℕ) → IsFresh shared number lane → IsDone shared number lane.signal later.signal later
 
--- Those from this number on have searched, each with the stop at its place; the stops beyond are as they were.
+-- Those from this number on have searched, each with the stop at its place; the stops beyond are as
+-- they were.
 abbrev pub AreDone : Shared → ℕ → List Signal → List Signal → List LaneView → Type 0
 AreDone shared number before after [] = after ≡ before
 AreDone shared number (old ∷ before) (new ∷ after) (lane ∷ lanes) =
@@ -87,7 +89,8 @@ abbrev pub joined_all : DeskSeatView → List LaneView → DeskSeatView
 joined_all seat [] = seat
 joined_all seat (lane ∷ lanes) = joined (joined_all seat lanes) lane.desk
 
--- The workers of a crew have searched, each with the stop at its place; and what they drew, claimed and met, the desk's seat tells to which theirs were joined.
+-- The workers of a crew have searched, each with the stop at its place; and what they drew, claimed
+-- and met, the desk's seat tells to which theirs were joined.
 pub record CrewTells (shared : Shared) (before after : List Signal) (crew : List WorkerView) (seat : DeskSeatView) : Type 0 where
   pub searched : HaveSearched shared.problem 1 before after crew
   pub desk : seat.desk ≡ shared.desk
@@ -97,8 +100,9 @@ pub record CrewTells (shared : Shared) (before after : List Signal) (crew : List
   pub full : OneEnded NoRoom crew → 0 < seat.claim_ends
   pub posted : OneEnded Posted crew → seat.met ≡ true
 
--- What the close of its desk tells of a crew, with the note that was posted first: it answers the problem; it is there where a worker ended with one; where there is
--- none and a worker had no unit any more, all are drawn; and where one had no room, all is claimed.
+-- What the close of its desk tells of a crew, with the note that was posted first: it answers the
+-- problem; it is there where a worker ended with one; where there is none and a worker had no unit
+-- any more, all are drawn; and where one had no room, all is claimed.
 pub record ClosesCrew (s : SettingsView) (problem : Board) (crew : List WorkerView) (note : Option Derivation) : Type 0 where
   pub answer : IfSome note (IsAnswerTo problem)
   pub posted : OneEnded Posted crew → IsSome note

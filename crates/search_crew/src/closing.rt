@@ -18,7 +18,8 @@ pub(crate) struct Words<'a> {
     pub(crate) desk: &'a WordDesk,
 }
 
-// Takes a lane apart: its seats are joined to the first ones, and its worker and its stop are handed out.
+// Takes a lane apart: its seats are joined to the first ones, and its worker and its stop are
+// handed out.
 fn join_lane<J: Job, X: Rows<J> + Drop, G: Gate, T: Stop + Drop>(
     words: Words<'_>,
     lane: Lane<'_, J, X, G, T>,
@@ -42,8 +43,8 @@ fn join_lane<J: Job, X: Rows<J> + Drop, G: Gate, T: Stop + Drop>(
     (worker, stop)
 }
 
-/// Takes all lanes apart: their seats are joined to the first ones, the workers go into the crew, and their stops behind the others, the last one first; there is
-/// room for all.
+/// Takes all lanes apart: their seats are joined to the first ones, the workers go into the crew,
+/// and their stops behind the others, the last one first; there is room for all.
 pub(crate) fn gather<J: Job, X: Rows<J> + Drop, G: Gate, T: Stop + Drop>(
     words: Words<'_>,
     mut lanes: Vec<Lane<'_, J, X, G, T>>,

@@ -31,8 +31,8 @@ use word_desk::{DeskEnd, DeskSeat, WordDesk};
 use worker_core::Worker;
 use worker_counts::CountSeat;
 
-// What all workers of a search stand on: its problem, whose attacker is the job's, how many they are, the table, the desk, the gate, and the handle by which they
-// wait at a lock.
+// What all workers of a search stand on: its problem, whose attacker is the job's, how many they
+// are, the table, the desk, the gate, and the handle by which they wait at a lock.
 #[derive(Drop)]
 struct Ground<'a, J: Job, K: Job, R: Wait, G: Gate> {
     problem: &'a Problem,
@@ -49,7 +49,8 @@ struct Ground<'a, J: Job, K: Job, R: Wait, G: Gate> {
 // A lane of a search by threads.
 type LockedLane<'a, J, R, G, T> = Lane<'a, J, LockedRows<'a, J, R>, G, T>;
 
-// The worker of this number before it asks anything, with this stop, and seats that are made of these.
+// The worker of this number before it asks anything, with this stop, and seats that are made of
+// these.
 fn make_lane<'a, J: Job, K: Job, R: Wait, G: Gate, T: Stop + Drop>(
     alloc: Global,
     ground: &Ground<'a, J, K, R, G>,
@@ -123,7 +124,8 @@ fn fill_lanes<'a, J: Job, K: Job, R: Wait, G: Gate, T: Stop + Drop>(
     }
 }
 
-// Makes the workers, has them work side by side, and takes their seats and stops back. Errors: want of memory alone; no stop was polled then.
+// Makes the workers, has them work side by side, and takes their seats and stops back. Errors: want
+// of memory alone; no stop was polled then.
 fn work_crew<
     'a,
     J: Job + Send + Sync,
@@ -180,7 +182,8 @@ fn first_ended(crew: &[Worker], end: WorkEnd) -> Option<usize>
     None
 }
 
-// Why a crew gave up, none of which ended with a posted note; none where that was for want of memory.
+// Why a crew gave up, none of which ended with a posted note; none where that was for want of
+// memory.
 fn cause_of(settings: &Settings, crew: &[Worker]) -> Option<Cause>
     requires spent { OneEnded Spent crew.now → sum_by (λ worker. worker.state.visits) crew.now
         ≡ settings.now.expansions }
@@ -202,7 +205,8 @@ fn cause_of(settings: &Settings, crew: &[Worker]) -> Option<Cause>
     Some(Cause::Stopped(place as u32 + 1))
 }
 
-// What a crew's search comes to, once its desk is closed: the note that was posted first; else the cause why it gave up, and the crew.
+// What a crew's search comes to, once its desk is closed: the note that was posted first; else the
+// cause why it gave up, and the crew.
 fn outcome(settings: &Settings, crew: Vec<Worker>, end: DeskEnd) -> Result<SearchEnd, AllocError>
     requires count { length crew.items ≡ settings.now.workers }
     requires closes { (problem : Board)
@@ -261,8 +265,9 @@ fn search_as<
     outcome(settings, crew, desk.close(desk_seat))
 }
 
-/// Searches a problem with one worker, as the settings say, which polls the first stop: [`search`] without threads, which takes no lock and waits for nobody.
-/// Takes the table's memory at once: about 1 KB a row. Errors: want of memory alone.
+/// Searches a problem with one worker, as the settings say, which polls the first stop: [`search`]
+/// without threads, which takes no lock and waits for nobody. Takes the table's memory at once:
+/// about 1 KB a row. Errors: want of memory alone.
 pub fn search_by_one<G: Gate, T: Stop>(
     alloc: Global,
     problem: &Problem,
@@ -280,14 +285,17 @@ pub fn search_by_one<G: Gate, T: Stop>(
     search_alone_until(alloc, problem, settings, gate, &mut stops[0])
 }
 
-/// Searches a problem with the settings' workers: each works in a thread of its own where one can be made, over one table behind locks and one desk, till it
-/// has ended; then their seats are taken back, and table and desk are closed. Where a note was posted, the first one answers the problem; else the search gave
-/// up, for the first cause that a worker met, and all workers come with it, in order. With one worker it takes no lock and waits for nobody: it is
-/// [`search_by_one`].
+/// Searches a problem with the settings' workers: each works in a thread of its own where one can
+/// be made, over one table behind locks and one desk, till it has ended; then their seats are taken
+/// back, and table and desk are closed. Where a note was posted, the first one answers the problem;
+/// else the search gave up, for the first cause that a worker met, and all workers come with it, in
+/// order. With one worker it takes no lock and waits for nobody: it is [`search_by_one`].
 ///
-/// The gate is passed for each unit, by the worker that drew it, with no lock held. Worker w polls stop w and no other; the stops go with the workers, and come back to
-/// their places. Takes the table's memory at once: about 1 KB a row. Errors: want of memory alone. Nothing is promised of which worker is first, or that
-/// more are faster. (df-pn: Nagai 2002; many workers over one table: Kaneko 2010.)
+/// The gate is passed for each unit, by the worker that drew it, with no lock held. Worker w polls
+/// stop w and no other; the stops go with the workers, and come back to their places. Takes the
+/// table's memory at once: about 1 KB a row. Errors: want of memory alone. Nothing is promised of
+/// which worker is first, or that more are faster. (df-pn: Nagai 2002; many workers over one table:
+/// Kaneko 2010.)
 pub fn search<R: Threads + Wait + Sync, G: Gate, T: Stop + Drop>(
     rt: &R,
     alloc: Global,
@@ -301,7 +309,8 @@ pub fn search<R: Threads + Wait + Sync, G: Gate, T: Stop + Drop>(
     // It ended as the search of one worker does, or as that of a crew.
     ensures end { IfOk result (IsSearchEnd problem.now.position (settings_in settings.now)
         (map T.signal stops.old.items) (map T.signal stops.new.items)) }
-    // A note that solves it is valid, holds on every path, is about the problem's position and for its attacker.
+    // A note that solves it is valid, holds on every path, is about the problem's position and for
+    // its attacker.
     ensures solution { IfOk result (IsSolution problem.now.position) }
     // Stops are polled, and nothing else; those beyond the workers' are as they were.
     ensures polled { ArePolled settings.now.workers

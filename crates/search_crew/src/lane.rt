@@ -15,7 +15,8 @@ use word_desk::DeskSeat;
 use worker_core::{Worker, work};
 use worker_counts::CountSeat;
 
-/// A worker with its port. It keeps that the port suits the worker and that no request waits for its answer, so that the worker may go on.
+/// A worker with its port. It keeps that the port suits the worker and that no request waits for
+/// its answer, so that the worker may go on.
 #[derive(Drop)]
 pub(crate) struct Lane<'a, J: Job, X: Rows<J> + Drop, G: Gate, T: Stop + Drop> {
     worker: Worker,
@@ -115,7 +116,8 @@ fn work_lane<J: Job, X: Rows<J> + Drop, G: Gate, T: Stop + Drop>(
     work_over(alloc, &mut lane.worker, &mut lane.port);
 }
 
-/// Has all workers work side by side, each in a thread of its own where one can be made, till each has ended.
+/// Has all workers work side by side, each in a thread of its own where one can be made, till each
+/// has ended.
 pub(crate) fn work_all<
     J: Job + Send + Sync,
     X: Rows<J> + Send + Drop,

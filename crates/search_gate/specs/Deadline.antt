@@ -3,8 +3,8 @@ use Rattle.std.specs.Prelude.{◌≤◌, ◌+◌, ◌-◌, ◌^◌, ℕ, min, Op
 use Rattle.search_gate.specs.Stop.{Signal, one_more}
 use Rattle.search_gate.specs.declared.clock.DeadlineStop.{DeadlineStop}
 
--- Where a stop ends that is armed for so many milliseconds when the clock shows this: that much later, at most at the greatest number of 64 bits; nowhere
--- where it is armed for none.
+-- Where a stop ends that is armed for so many milliseconds when the clock shows this: that much
+-- later, at most at the greatest number of 64 bits; nowhere where it is armed for none.
 abbrev pub end_after : Option ℕ → ℕ → Option ℕ
 end_after None now = None
 end_after (Some milliseconds) now = Some (min (now + milliseconds) (2 ^ 64 - 1))
@@ -14,7 +14,8 @@ abbrev pub HasPassed : Option ℕ → ℕ → Type 0
 HasPassed None now = ⊥
 HasPassed (Some end) now = end ≤ now
 
--- How often a clock was asked, once it is asked where a time is needed: where a stop is armed for one, or has an end.
+-- How often a clock was asked, once it is asked where a time is needed: where a stop is armed for
+-- one, or has an end.
 abbrev pub asked_for : Option ℕ → ℕ → ℕ
 asked_for None asks = asks
 asked_for (Some time) asks = one_more asks

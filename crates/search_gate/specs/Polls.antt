@@ -8,7 +8,8 @@ pub record IsPolled (before after : Signal) : Type 0 where
   pub arms : after.arms ≡ before.arms
   pub early : after.early ≡ before.early
 
--- So were as many of the stops, from the first on, as there are workers; those beyond are as they were.
+-- So were as many of the stops, from the first on, as there are workers; those beyond are as they
+-- were.
 abbrev pub ArePolled : ℕ → List Signal → List Signal → Type 0
 ArePolled zero before after = after ≡ before
 ArePolled (suc workers) [] after = after ≡ []

@@ -1,14 +1,17 @@
--- What a stop tells of itself: how often it was polled, how often it signalled, and at which poll last; with what it was armed, how often, and behind how many
--- polls. A count is of 64 bits and stops at its last value, 2 ^ 64 - 1, where no rise can be told.
+-- What a stop tells of itself: how often it was polled, how often it signalled, and at which poll
+-- last; with what it was armed, how often, and behind how many polls. A count is of 64 bits and
+-- stops at its last value, 2 ^ 64 - 1, where no rise can be told.
 use Rattle.std.specs.Prelude.{◌+◌, ◌-◌, ◌^◌, ℕ, Bool, min, Option, if◌then◌else◌}
 
 -- One more, up to the last value.
 abbrev pub one_more : ℕ → ℕ
 one_more count = min (count + 1) (2 ^ 64 - 1)
 
--- What a stop tells of itself: how often it was polled; how often it said then that a search is to stop; at which poll it said so last, from 1 (nought, of
--- the stops here, where it never did); after how many milliseconds it was last armed to say so, if at all (none, of the stops here, before it is armed); how often it was armed; and how often it had been
--- polled when it was armed last.
+-- What a stop tells of itself: how often it was polled; how often it said then that a search is to
+-- stop; at which poll it said so last, from 1 (nought, of the stops here, where it never did);
+-- after how many milliseconds it was last armed to say so, if at all (none, of the stops here,
+-- before it is armed); how often it was armed; and how often it had been polled when it was armed
+-- last.
 pub record Signal : Type 0 where
   pub polls : ℕ
   pub raised : ℕ

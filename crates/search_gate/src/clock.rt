@@ -22,8 +22,9 @@ pub trait Clock: Send {
         ensures asked { asked self.new ≡ one_more (asked self.old) };
 }
 
-/// A stop with a deadline: it signals at each poll at which its clock shows the end for which it was last armed, or more, if it was armed for one. It reads its
-/// clock when it is armed for a time, and at each poll from then on till it is armed for none.
+/// A stop with a deadline: it signals at each poll at which its clock shows the end for which it
+/// was last armed, or more, if it was armed for one. It reads its clock when it is armed for a
+/// time, and at each poll from then on till it is armed for none.
 #[derive(Debug, Drop)]
 pub struct DeadlineStop<C> {
     clock: C,
@@ -41,7 +42,8 @@ impl<C: Clock + Drop> DeadlineStop<C> {
     pub fn new(clock: C) -> DeadlineStop<C>
         ensures clock { clock_of result ≡ clock }
         ensures end { end_of result ≡ None }
-        ensures signal { deadline_signal result ≡ record { polls = 0; raised = 0; last = 0; armed = None; arms = 0; early = 0 } }
+        ensures signal { deadline_signal result
+            ≡ record { polls = 0; raised = 0; last = 0; armed = None; arms = 0; early = 0 } }
     {
         DeadlineStop {
             clock,
@@ -64,10 +66,12 @@ impl<C: Clock + Drop> Stop for DeadlineStop<C> {
     fn arm(&mut self, after_ms: Option<u64>)
         // As each stop.
         ensures armed { deadline_signal self.new ≡ armed_with (deadline_signal self.old) after_ms }
-        // As this one alone: its end is so many milliseconds from what the clock answers, at most the greatest number; or none.
+        // As this one alone: its end is so many milliseconds from what the clock answers, at most
+        // the greatest number; or none.
         ensures end { end_of self.new ≡ end_after after_ms (C.answered (clock_of self.new)) }
         // The clock is asked once for that, and not at all where it is armed for no time.
-        ensures asked { C.asked (clock_of self.new) ≡ asked_for after_ms (C.asked (clock_of self.old)) }
+        ensures asked { C.asked (clock_of self.new)
+            ≡ asked_for after_ms (C.asked (clock_of self.old)) }
     {
         self.end = match after_ms {
             Some(milliseconds) => Some(self.clock.now().saturating_add(milliseconds)),
@@ -81,11 +85,14 @@ impl<C: Clock + Drop> Stop for DeadlineStop<C> {
     fn poll(&mut self) -> bool
         // As each stop.
         ensures polled { deadline_signal self.new ≡ polled (deadline_signal self.old) result }
-        // As this one alone: it signals exactly where an end is set and what the clock answers is at least that.
-        ensures passed { IsTrue result ↔ HasPassed (end_of self.old) (C.answered (clock_of self.new)) }
+        // As this one alone: it signals exactly where an end is set and what the clock answers is
+        // at least that.
+        ensures passed { IsTrue result
+            ↔ HasPassed (end_of self.old) (C.answered (clock_of self.new)) }
         ensures end { end_of self.new ≡ end_of self.old }
         // The clock is asked once for that, and not at all where no end is set.
-        ensures asked { C.asked (clock_of self.new) ≡ asked_for (end_of self.old) (C.asked (clock_of self.old)) }
+        ensures asked { C.asked (clock_of self.new)
+            ≡ asked_for (end_of self.old) (C.asked (clock_of self.old)) }
     {
         self.polls = self.polls.saturating_add(1);
         let Some(end) = self.end else {

@@ -1,5 +1,5 @@
-//! What a search is held by: a gate that it passes for each unit of work, and a stop that it polls before each. A search stands on
-//! this and its limits alone, and on no file or stream.
+//! What a search is held by: a gate that it passes for each unit of work, and a stop that it polls
+//! before each. A search stands on this and its limits alone, and on no file or stream.
 #![tactic(auto)]
 
 mod clock;

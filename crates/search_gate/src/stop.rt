@@ -2,10 +2,13 @@
 ghost use Rattle.std.specs.Prelude.{◌≡◌, ◌↔◌, IsTrue, Contains, None, false};
 ghost use Rattle.search_gate.specs.Stop.{one_more, armed_with, polled};
 
-/// What tells a worker that it is to stop, a deadline for one. A worker polls it before it draws a unit of work, and nobody else does.
+/// What tells a worker that it is to stop, a deadline for one. A worker polls it before it draws a
+/// unit of work, and nobody else does.
 ///
-/// It tells of itself how often it was polled, how often it said so then, and at which poll last; how often, and for what, it was armed; and how often it had
-/// been polled when it was armed last. So its callers can say that it was armed before it was polled, and that it was polled no more once it had signalled.
+/// It tells of itself how often it was polled, how often it said so then, and at which poll last;
+/// how often, and for what, it was armed; and how often it had been polled when it was armed last.
+/// So its callers can say that it was armed before it was polled, and that it was polled no more
+/// once it had signalled.
 pub trait Stop: Send {
     ghost use Rattle.std.specs.Prelude.{◌≡◌};
     ghost use Rattle.search_gate.specs.Stop.{Signal, armed_with, polled};
@@ -17,7 +20,8 @@ pub trait Stop: Send {
     fn arm(&mut self, after_ms: Option<u64>)
         ensures { signal self.new ≡ armed_with (signal self.old) after_ms };
 
-    /// Whether the worker is to stop. It was polled once more, and where it says so, it signalled once more; nothing else changed that it tells.
+    /// Whether the worker is to stop. It was polled once more, and where it says so, it signalled
+    /// once more; nothing else changed that it tells.
     fn poll(&mut self) -> bool
         ensures { signal self.new ≡ polled (signal self.old) result };
 }

@@ -35,8 +35,9 @@ IsFirstOdd TheShards n = IsPowerOfTwo n.rows × (¬ IsPowerOfTwo n.shards)
 abbrev pub HaveMoreShards : SettingsView → Type 0
 HaveMoreShards n = IsPowerOfTwo n.rows × IsPowerOfTwo n.shards × (n.rows < n.shards)
 
--- The numbers fail this test and pass those before it: first the ranges, in the order of the numbers; then that the rows are a power of
--- two, then the shards; and then that there are no more shards than rows.
+-- The numbers fail this test and pass those before it: first the ranges, in the order of the
+-- numbers; then that the rows are a power of two, then the shards; and then that there are no more
+-- shards than rows.
 abbrev pub FailFirst : SettingsFault → SettingsView → Type 0
 FailFirst (OutOfRange setting) n = IsFirstOutside setting n
 FailFirst (NotPowerOfTwo size) n = AreInRange n × IsFirstOdd size n

@@ -29,7 +29,8 @@ pub record AreInRange (n : SettingsView) : Type 0 where
   pub rows : IsFromTo LEAST_ROWS MOST_ROWS n.rows
   pub shards : IsFromTo 1 MOST_SHARDS n.shards
 
--- The numbers make settings: each lies in its range, the rows and the shards are powers of two, and there are no more shards than rows.
+-- The numbers make settings: each lies in its range, the rows and the shards are powers of two, and
+-- there are no more shards than rows.
 pub record AreSound (n : SettingsView) : Type 0 where
   pub ranges : AreInRange n
   pub rows : IsPowerOfTwo n.rows

@@ -5,8 +5,9 @@ ghost use Rattle.search_limits.specs.declared.expansions.TheConstants.{MOST_EXPA
 /// The greatest number of expansions that a search may be given.
 pub const MOST_EXPANSIONS: u64 = 1_000_000_000;
 
-/// How many expansions a search may use, 1 to [`MOST_EXPANSIONS`]: its units of work. The plain search uses one for each position, of
-/// either side, whose moves it lists; the search by proof numbers one for each visit of a position.
+/// How many expansions a search may use, 1 to [`MOST_EXPANSIONS`]: its units of work. The plain
+/// search uses one for each position, of either side, whose moves it lists; the search by proof
+/// numbers one for each visit of a position.
 #[derive(Clone, Copy, PartialEq, Eq, PartialOrd, Ord, Debug)]
 pub struct Expansions {
     /// From 1 to [`MOST_EXPANSIONS`].

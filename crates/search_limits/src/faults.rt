@@ -24,7 +24,8 @@ pub enum Size {
     Shards,
 }
 
-/// Why numbers make no settings: the first test that fails, in the order of these, and of the numbers in each.
+/// Why numbers make no settings: the first test that fails, in the order of these, and of the
+/// numbers in each.
 #[derive(Clone, Copy, PartialEq, Eq, Debug)]
 pub enum SettingsFault {
     /// This number is outside its range.

@@ -10,9 +10,10 @@ use crate::{
 };
 
 impl Settings {
-    /// Settings of these numbers; refused exactly where one of the tests fails, with the first that does: the workers, the expansions,
-    /// the room, the rows and the shards lie in their ranges, the rows are a power of two, the shards are one, and there are no more
-    /// shards than rows. Takes no memory.
+    /// Settings of these numbers; refused exactly where one of the tests fails, with the first that
+    /// does: the workers, the expansions, the room, the rows and the shards lie in their ranges,
+    /// the rows are a power of two, the shards are one, and there are no more shards than rows.
+    /// Takes no memory.
     pub fn new(
         workers: u32,
         expansions: u64,
@@ -20,9 +21,11 @@ impl Settings {
         rows: u64,
         shards: u64,
     ) -> Result<Settings, SettingsFault>
-        ensures numbers { IfOk result (λ settings. settings_in settings ≡ numbers_of workers expansions room rows shards) }
+        ensures numbers { IfOk result (λ settings. settings_in settings
+            ≡ numbers_of workers expansions room rows shards) }
         ensures sound { IsOk result ↔ AreSound (numbers_of workers expansions room rows shards) }
-        ensures fault { IfErr result (λ fault. FailFirst fault (numbers_of workers expansions room rows shards)) }
+        ensures fault { IfErr result
+            (λ fault. FailFirst fault (numbers_of workers expansions room rows shards)) }
     {
         if let Some(setting) = out_of_range(workers, expansions, room, rows, shards) {
             return Err(SettingsFault::OutOfRange(setting));
@@ -48,7 +51,8 @@ impl Settings {
 
 // The first of the numbers that is outside its range.
 fn out_of_range(workers: u32, expansions: u64, room: u32, rows: u64, shards: u64) -> Option<Setting>
-    ensures some { IfSome result (λ setting. IsFirstOutside setting (numbers_of workers expansions room rows shards)) }
+    ensures some { IfSome result
+        (λ setting. IsFirstOutside setting (numbers_of workers expansions room rows shards)) }
     ensures none { IfNone result (AreInRange (numbers_of workers expansions room rows shards)) }
 {
     if !is_within(u64::from(workers), 1, u64::from(MOST_WORKERS)) {
@@ -76,7 +80,8 @@ fn is_within(number: u64, low: u64, high: u64) -> bool
     low <= number && number <= high
 }
 
-/// A law: a number has one bit exactly where it is a power of two. Does nothing; whoever has to tell the one by the other calls it.
+/// A law: a number has one bit exactly where it is a power of two. Does nothing; whoever has to
+/// tell the one by the other calls it.
 pub fn power_laws()
     ensures { PowersHaveOneBit }
 {}

@@ -23,13 +23,14 @@ pub const MOST_SHARDS: u64 = 256;
 /// The parts of a table where nothing is said of them, if it has as many rows.
 pub const DEFAULT_SHARDS: u64 = 64;
 
-/// The numbers that a search is run with. Each lies in its range, the rows and the shards are powers of two, and there
-/// are no more shards than rows.
+/// The numbers that a search is run with. Each lies in its range, the rows and the shards are
+/// powers of two, and there are no more shards than rows.
 #[derive(Clone, Copy, PartialEq, Eq, Debug)]
 pub struct Settings {
     /// Workers that search, 1 to [`MOST_WORKERS`].
     pub workers: u32,
-    /// Units of work before the search gives up, 1 to [`MOST_EXPANSIONS`](crate::MOST_EXPANSIONS): a unit is one visit of a position.
+    /// Units of work before the search gives up, 1 to [`MOST_EXPANSIONS`](crate::MOST_EXPANSIONS):
+    /// a unit is one visit of a position.
     pub expansions: u64,
     /// Notes that the search may make, 1 to [`MOST_ROOM`].
     pub room: u32,
@@ -47,7 +48,8 @@ pub struct Settings {
     pub ghost shards_within_rows: { shards ≤ rows },
 }
 
-/// The parts of a table of so many rows where nothing is said of them: the lesser of [`DEFAULT_SHARDS`] and the rows.
+/// The parts of a table of so many rows where nothing is said of them: the lesser of
+/// [`DEFAULT_SHARDS`] and the rows.
 pub fn default_shards(rows: u64) -> u64
     ensures { result ≡ min DEFAULT_SHARDS rows }
 {

@@ -1,4 +1,5 @@
--- What a request does to a table and a desk: there is one answer to it, and one table and one desk behind it.
+-- What a request does to a table and a desk: there is one answer to it, and one table and one desk
+-- behind it.
 use Rattle.std.proofs.Common.{◌≡◌, ℕ, List, refl, sym, subst, ap, ap₂, ◌∙◌, arith, inl, inr}
 use Rattle.std.specs.Prelude.{Some, length}
 use Rattle.board_core.specs.declared.keys.Key.{Key}

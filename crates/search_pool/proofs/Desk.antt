@@ -16,7 +16,8 @@ use Rattle.unit_desk.proofs.Offered.{first_is}
 use Rattle.lone_port.specs.Lone.{LonePortView, Turns, opened}
 use Rattle.search_pool.specs.Inside.{says_spent, says_full, says_posted, WasSaid, IsToldDesk}
 
--- What a step does to a desk: its limits stay; what was used up stays so, and what is posted; and what the answer says is so.
+-- What a step does to a desk: its limits stay; what was used up stays so, and what is posted; and
+-- what the answer says is so.
 pub record DeskMoves (before : DeskView) (says : Exchange) (after : DeskView) : Type 0 where
   pub expansions : after.expansions ≡ before.expansions
   pub room : after.room ≡ before.room

@@ -1,4 +1,5 @@
--- What a row shows of a key, and where it enters one: there is one answer, since no two entries of a row are of one key.
+-- What a row shows of a key, and where it enters one: there is one answer, since no two entries of
+-- a row are of one key.
 use Rattle.std.proofs.Common.{◌≡◌, ◌⊎◌, ◌++◌, ℕ, zero, suc, List, [], ◌∷◌, length, get_or, set, replicate, inl, inr, sym, subst, ap, ap₂, ◌∙◌, refl, arith}
 use Rattle.std.specs.Prelude.{Option, Some, None, IsSomeAnd, slice_get}
 use Rattle.std.proofs.lemmas.Bool.{cases_lt}

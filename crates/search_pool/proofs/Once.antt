@@ -191,7 +191,8 @@ one_told log told x y one two e = one ∙ (ap (λ (z : Exchange). (1, z) ∷ [])
 joined : (a b xs ys log told : List (ℕ × Exchange)) → a ≡ b → xs ≡ ys → log ≡ a ++ xs → told ≡ b ++ ys → log ≡ told
 joined a b xs ys log told first rest one two = one ∙ (ap₂ (λ (us vs : List (ℕ × Exchange)). us ++ vs) first rest ∙ sym two)
 
--- Two schedules of a worker's own steps that lead from one world to a worker's end, not for want of memory, lead to one end by one log.
+-- Two schedules of a worker's own steps that lead from one world to a worker's end, not for want of
+-- memory, lead to one end by one log.
 plays_once : AreLaws → (es fs : List Event) (log told : List (ℕ × Exchange)) (port one two : LonePortView) (worker a b : WorkerView) (r q : Bool) → AreApartIn port.rows
     → All IsOwnStep es → All IsOwnStep fs → Plays (world_of port worker false) es log (world_of one a r) → Plays (world_of port worker false) fs told (world_of two b q)
     → (end_of a.state ≡ None → ⊥) → (end_of b.state ≡ None → ⊥) → ¬ IsStarved a.state → ¬ IsStarved b.state → (log ≡ told) × (one ≡ two) × (a ≡ b)

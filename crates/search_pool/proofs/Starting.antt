@@ -1,5 +1,6 @@
--- The numbers with which a position begins are one pair: its evasions, or its checks, are some list, and the squares that reach a square some set.
--- (Which they are needn't be computed: that there is no such list can't be.)
+-- The numbers with which a position begins are one pair: its evasions, or its checks, are some
+-- list, and the squares that reach a square some set. (Which they are needn't be computed: that
+-- there is no such list can't be.)
 use Rattle.std.proofs.Common.{◌≡◌, ◌↔◌, ◌<◌, ◌+◌, ◌^◌, ◌⊎◌, ℕ, zero, suc, List, [], ◌∷◌, ◌++◌, inl, inr, refl, sym, subst, ap, ◌∙◌, arith, bit_or, pow-suc, pow_pos, eq-eqb, eqb-true}
 use Rattle.std.specs.Int.{bit_at}
 use Rattle.std.proofs.lemmas.Bool.{cases_eq}

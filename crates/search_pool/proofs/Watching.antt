@@ -62,7 +62,8 @@ pub leads_by : (task : Task) (log : List Exchange) (s t : State) (x : Exchange) 
 leads_by task log s t (q, Some a) h leads = leads_on task log s t (Told q a) leads h
 leads_by task log s t (q, None) h leads = leads_on task log s t (Dark q) leads h
 
--- What was watched is a turn of a table and a desk that were opened for it: told to stop exactly where the stop said so.
+-- What was watched is a turn of a table and a desk that were opened for it: told to stop exactly
+-- where the stop said so.
 pub record Opens (signal : Signal) (port : LonePortView) (path : List Key) (request : Request) (answer : Option Reply) (next : LonePortView) (later : Signal) : Type 0 where
   pub stops : Bool
   pub its_going : Bool
@@ -213,7 +214,8 @@ as_it_is worker task idle is =
 
 -- 2. ALL REQUESTS.
 
--- Whatever a port is beside a table, a desk and a stop that it watches: by its turns the search goes on.
+-- Whatever a port is beside a table, a desk and a stop that it watches: by its turns the search
+-- goes on.
 pub watched_by : {P : Type 0} (turn : P → List Key → Request → Option Reply → P → Type 0) (port_of : P → LonePortView) (signal_of : P → Signal)
     → ((p : P) (path : List Key) (q : Request) (a : Option Reply) (r : P) → turn p path q a r → Watches (port_of p) (signal_of p) path q a (port_of r) (signal_of r))
     → (problem : Board) (s : SettingsView) (before : Signal) (task : Task) (p r : P) (from to : State) (events : List Exchange)

@@ -1,4 +1,5 @@
--- When a worker winds up: behind the word that it is to stop, or that a note is posted, and from then on.
+-- When a worker winds up: behind the word that it is to stop, or that a note is posted, and from
+-- then on.
 use Rattle.std.proofs.Common.{◌≡◌, inl, inr, List, [], ◌∷◌, ◌++◌, ap, ◌∙◌, subst, Bool, true, false}
 use Rattle.std.specs.Prelude.{Some, None}
 use Rattle.std.proofs.lemmas.List.Elements.{Contains-push, Contains-push_cases, Contains-append_left}

@@ -16,14 +16,14 @@ use Rattle.lone_port.specs.Alone.{RunsAlone, HasCause, IsOwnStep}
 use Rattle.search_pool.specs.declared.end.SearchEnd.{SearchEnd}
 use Rattle.search_pool.specs.declared.end.SearchEnd.TheVariants.{Solved, Unknown}
 
--- What a search with one worker answers, once its table and desk and its worker stand so: the note that is posted; where none is, the cause by
--- the worker's end, and the worker.
+-- What a search with one worker answers, once its table and desk and its worker stand so: the note
+-- that is posted; where none is, the cause by the worker's end, and the worker.
 abbrev pub IsOutcome : SettingsView → LonePortView → WorkerView → SearchEnd → Type 0
 IsOutcome s port worker (Solved note) = port.desk.posted ≡ Some note
 IsOutcome s port worker (Unknown cause crew) = (port.desk.posted ≡ None) × (crew ≡ worker ∷ []) × HasCause s worker cause
 
--- A search of the problem's position with these settings and one worker, by this schedule, ended so: the worker has ended, and this is what
--- table, desk and worker tell then.
+-- A search of the problem's position with these settings and one worker, by this schedule, ended
+-- so: the worker has ended, and this is what table, desk and worker tell then.
 pub record IsEndBy (problem : Board) (s : SettingsView) (schedule : List Event) (end : SearchEnd) : Type 0 where
   pub log : List Exchange
   pub port : LonePortView
@@ -41,19 +41,21 @@ abbrev pub polls_after : List Exchange → ℕ → ℕ
 polls_after [] polls = polls
 polls_after (exchange ∷ exchanges) polls = polls_after exchanges (if is_poll exchange.0 then one_more polls else polls)
 
--- The world of one worker answers this, where a stop, which was polled as often as the worker polls (when, isn't said), may have signalled once: only then
--- was a stop signalled to the worker.
+-- The world of one worker answers this, where a stop, which was polled as often as the worker polls
+-- (when, isn't said), may have signalled once: only then was a stop signalled to the worker.
 abbrev pub IsAloneUntil : Board → SettingsView → Signal → Signal → SearchEnd → Type 0
 IsAloneUntil problem s before after end =
     (schedule : List Event) × (All IsOwnStep schedule ⊎ (after.raised ≡ one_more before.raised)) × (run : IsEndBy problem s schedule end)
     × (after.polls ≡ polls_after run.log before.polls)
 
--- A note that solved the search answers the problem: it is valid, holds on every path, is about the problem's position and for its attacker.
+-- A note that solved the search answers the problem: it is valid, holds on every path, is about the
+-- problem's position and for its attacker.
 abbrev pub IsSolution : Board → SearchEnd → Type 0
 IsSolution problem (Solved note) = IsAnswer (task_for problem 1) note
 IsSolution problem (Unknown cause crew) = Unit {0}
 
--- A stop is heeded: where it signalled, which it did once, the search ended as stopped, and it was polled no more; where it didn't, the search ended otherwise.
+-- A stop is heeded: where it signalled, which it did once, the search ended as stopped, and it was
+-- polled no more; where it didn't, the search ended otherwise.
 abbrev pub HeedsStop : Signal → Signal → SearchEnd → Type 0
 HeedsStop before after (Solved note) = after.raised ≡ before.raised
 HeedsStop before after (Unknown (Expansions number) crew) = after.raised ≡ before.raised

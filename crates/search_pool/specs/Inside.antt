@@ -26,13 +26,15 @@ use Rattle.lone_port.specs.declared.event.Event.{Event}
 use Rattle.lone_port.specs.Alone.{IsOwn, IsOwnStep, for_one, told_to_one, world_of}
 use Rattle.search_pool.specs.End.{polls_after}
 
--- From one state to the next, of a table and a desk that are watched: a poll asks the stop, answers what that says and changes nothing else; each other
--- request is answered by the table and the desk, and the stop isn't asked.
+-- From one state to the next, of a table and a desk that are watched: a poll asks the stop, answers
+-- what that says and changes nothing else; each other request is answered by the table and the
+-- desk, and the stop isn't asked.
 abbrev pub Watches : LonePortView → Signal → List Key → Request → Option Reply → LonePortView → Signal → Type 0
 Watches before signal path Poll (Some (Polled answer)) after later = (after ≡ before) × (later ≡ polled signal answer)
 Watches before signal path request answer after later = Turns before path request answer after × (later ≡ signal)
 
--- Whether the answer says that all units were drawn; that all room was claimed; that a note is posted, now or before; that the worker is to stop.
+-- Whether the answer says that all units were drawn; that all room was claimed; that a note is
+-- posted, now or before; that the worker is to stop.
 abbrev pub says_spent : Exchange → Bool
 says_spent (request, Some (Drew AllDrawn)) = true
 says_spent exchange = false
@@ -63,21 +65,25 @@ pub record IsToldDesk (log : List Exchange) (desk : DeskView) : Type 0 where
   pub full : WasSaid says_full log → desk.claimed ≡ desk.room
   pub posted : WasSaid says_posted log → IsSome desk.posted
 
--- What was said behind which the worker winds up: that it is to stop, or that a note is posted, as there is none without that.
+-- What was said behind which the worker winds up: that it is to stop, or that a note is posted, as
+-- there is none without that.
 pub record IsWindingUp (log : List Exchange) (port : LonePortView) (worker : WorkerView) : Type 0 where
   pub stopped : WasSaid says_stop log → worker.state.stage ≡ Winding Stopped
   pub posted : WasSaid says_posted log → worker.state.stage ≡ Winding Posted
   pub is_said : IsSome port.desk.posted → WasSaid says_posted log
 
--- A stop signalled nothing, and nothing of it was said; or it signalled once, that was said, and it was polled no more.
+-- A stop signalled nothing, and nothing of it was said; or it signalled once, that was said, and it
+-- was polled no more.
 abbrev pub IsQuiet : Signal → Signal → List Event → List Exchange → Type 0
 IsQuiet before after schedule log =
     (All IsOwnStep schedule × (WasSaid says_stop log → ⊥) × (after.raised ≡ before.raised))
     ⊎ (WasSaid says_stop log × (after.raised ≡ one_more before.raised) × (after.last ≡ after.polls))
 
--- A search with one worker goes on so: the world of one worker comes by a schedule to where table, desk and worker stand; no stop waits to be
--- told; the worker stands by the log, and winds up where it was told to; what was said of the desk holds, whose units and room are the
--- settings'; the stop was polled as often as it polls, and not armed; and unless the stop signalled, no stop was signalled to the worker.
+-- A search with one worker goes on so: the world of one worker comes by a schedule to where table,
+-- desk and worker stand; no stop waits to be told; the worker stands by the log, and winds up where
+-- it was told to; what was said of the desk holds, whose units and room are the settings'; the stop
+-- was polled as often as it polls, and not armed; and unless the stop signalled, no stop was
+-- signalled to the worker.
 pub record IsUnderWay (problem : Board) (s : SettingsView) (before after : Signal) (port : LonePortView) (worker : WorkerView) : Type 0 where
   pub schedule : List Event
   pub log : List Exchange
@@ -96,7 +102,8 @@ pub record IsUnderWay (problem : Board) (s : SettingsView) (before after : Signa
   pub arms : after.arms ≡ before.arms
   pub early : after.early ≡ before.early
 
--- So with a table and a desk that are watched: those of the world are opened anew for each turn, and these never.
+-- So with a table and a desk that are watched: those of the world are opened anew for each turn,
+-- and these never.
 abbrev pub IsWatched : Board → SettingsView → Signal → Signal → LonePortView → WorkerView → Type 0
 IsWatched problem s before after port worker =
     (its_going : Bool) × (its_stops : Bool) × IsUnderWay problem s before after (record port { going = its_going; stops = its_stops }) worker

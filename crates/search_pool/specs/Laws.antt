@@ -13,13 +13,15 @@ use Rattle.lone_port.specs.Alone.{RunsAlone, IsOwnStep}
 use Rattle.search_pool.specs.declared.end.SearchEnd.{SearchEnd}
 use Rattle.search_pool.specs.End.{IsAlone}
 
--- The settings are the same for one worker: as many units, as much room, as many rows. (It makes no use of the numbers of workers and shards.)
+-- The settings are the same for one worker: as many units, as much room, as many rows. (It makes no
+-- use of the numbers of workers and shards.)
 pub record AreSameAlone (s other : SettingsView) : Type 0 where
   pub expansions : s.expansions ≡ other.expansions
   pub room : s.room ≡ other.room
   pub rows : s.rows ≡ other.rows
 
--- Where a search with one worker has come to: what it asked and was told, its table with its desk, and its worker.
+-- Where a search with one worker has come to: what it asked and was told, its table with its desk,
+-- and its worker.
 pub record Standing : Type 0 where
   pub log : List Exchange
   pub port : LonePortView
@@ -34,13 +36,15 @@ pub record HasRun (problem : Board) (s : SettingsView) (at : Standing) : Type 0 
   pub ended : end_of at.worker.state ≡ Some end
   pub not_starved : end ≢ NoMemory
 
--- A law: a search with one worker goes one way. Two of one problem with the same settings, neither of which ended for want of memory, asked and
--- were told the same, and their tables, their desks and their workers stand the same at the end.
+-- A law: a search with one worker goes one way. Two of one problem with the same settings, neither
+-- of which ended for want of memory, asked and were told the same, and their tables, their desks
+-- and their workers stand the same at the end.
 abbrev pub AloneGoesOneWay : Type 0
 AloneGoesOneWay = (problem : Board) (s r : SettingsView) (end other : Standing) → AreSameAlone s r
     → HasRun problem s end → HasRun problem r other → end ≡ other
 
--- A law: so it has one answer: the same note; or the same cause, and the worker as it stands. (That memory was wanting is no answer.)
+-- A law: so it has one answer: the same note; or the same cause, and the worker as it stands. (That
+-- memory was wanting is no answer.)
 abbrev pub AloneHasOneAnswer : Type 0
 AloneHasOneAnswer = (problem : Board) (s r : SettingsView) (end other : SearchEnd) → AreSameAlone s r
     → IsAlone problem s end → IsAlone problem r other → end ≡ other

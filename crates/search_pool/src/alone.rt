@@ -19,7 +19,8 @@ use std::alloc::{AllocError, Global};
 use visit_log::{WorkEnd, visit_laws};
 use worker_core::{Worker, work};
 
-// Has the worker work over a table and a desk that are watched, until it has ended, and says how. They stay the same ones.
+// Has the worker work over a table and a desk that are watched, until it has ended, and says how.
+// They stay the same ones.
 fn work_watched<G: Gate, T: Stop>(
     alloc: Global,
     problem: &Problem,
@@ -27,12 +28,16 @@ fn work_watched<G: Gate, T: Stop>(
     watched: &mut Watched<'_, G, T>,
     worker: &mut Worker,
 ) -> WorkEnd
-    requires made { watched.old.port.now ≡ alone_at_first problem.now.position settings.now.expansions settings.now.room settings.now.rows }
+    requires made { watched.old.port.now
+        ≡ alone_at_first problem.now.position settings.now.expansions settings.now.room
+        settings.now.rows }
     requires worker { worker.old ≡ worker_at_first problem.now.position 1 }
     requires suits { Suits worker.old (book_of watched.old.port.now) }
     ensures port { watched.new.port.ghost_name ≡ watched.old.port.ghost_name }
     ensures stop { watched.new.stop.ghost_name ≡ watched.old.stop.ghost_name }
-    ensures way { IsWatched problem.now.position (settings_in settings.now) (T.signal watched.old.stop.now) (T.signal watched.new.stop.now) watched.new.port.now worker.new }
+    ensures way { IsWatched problem.now.position (settings_in settings.now)
+        (T.signal watched.old.stop.now) (T.signal watched.new.stop.now) watched.new.port.now
+        worker.new }
     ensures had { HadAll watched.new.port.now worker.new }
     ensures desk { watched.new.port.now.desk.position ≡ problem.now.position }
     ensures ended { end_of worker.new.state ≡ Some result }
@@ -40,7 +45,8 @@ fn work_watched<G: Gate, T: Stop>(
     work(alloc, worker, watched)
 }
 
-// Has the worker work over the table and the desk until it has ended, and says how: each poll asks the stop, and the gate is passed behind each unit.
+// Has the worker work over the table and the desk until it has ended, and says how: each poll asks
+// the stop, and the gate is passed behind each unit.
 fn work_alone<G: Gate, T: Stop>(
     alloc: Global,
     problem: &Problem,
@@ -50,10 +56,13 @@ fn work_alone<G: Gate, T: Stop>(
     gate: &G,
     stop: &mut T,
 ) -> WorkEnd
-    requires made { port.old ≡ alone_at_first problem.now.position settings.now.expansions settings.now.room settings.now.rows }
+    requires made { port.old
+        ≡ alone_at_first problem.now.position settings.now.expansions settings.now.room
+        settings.now.rows }
     requires worker { worker.old ≡ worker_at_first problem.now.position 1 }
     requires suits { Suits worker.old (book_of port.old) }
-    ensures way { IsWatched problem.now.position (settings_in settings.now) (T.signal stop.old) (T.signal stop.new) port.new worker.new }
+    ensures way { IsWatched problem.now.position (settings_in settings.now) (T.signal stop.old)
+        (T.signal stop.new) port.new worker.new }
     ensures had { HadAll port.new worker.new }
     ensures desk { port.new.desk.position ≡ problem.now.position }
     ensures ended { end_of worker.new.state ≡ Some result }
@@ -62,7 +71,8 @@ fn work_alone<G: Gate, T: Stop>(
     work_watched(alloc, problem, settings, &mut watched, worker)
 }
 
-// Why a search gave up whose worker ended so; none where that was for want of memory, or since a note is posted.
+// Why a search gave up whose worker ended so; none where that was for want of memory, or since a
+// note is posted.
 fn cause_of(settings: &Settings, end: WorkEnd) -> Option<Cause>
     ensures cause { IfSome result (IsCauseOf (settings_in settings.now) end) }
     ensures none { IfNone result ((end ≡ Posted) ⊎ (end ≡ NoMemory)) }
@@ -76,7 +86,8 @@ fn cause_of(settings: &Settings, end: WorkEnd) -> Option<Cause>
     }
 }
 
-// Searches a problem over a table and a desk that know nothing yet: has a worker work till it has ended, and tells what came of it.
+// Searches a problem over a table and a desk that know nothing yet: has a worker work till it has
+// ended, and tells what came of it.
 pub(crate) fn search_over<G: Gate, T: Stop>(
     alloc: Global,
     problem: &Problem,
@@ -85,9 +96,14 @@ pub(crate) fn search_over<G: Gate, T: Stop>(
     gate: &G,
     stop: &mut T,
 ) -> Result<SearchEnd, AllocError>
-    requires made { port.old ≡ alone_at_first problem.now.position settings.now.expansions settings.now.room settings.now.rows }
-    requires suits { (number : ℕ) → Suits (worker_at_first problem.now.position number) (book_of port.old) }
-    ensures alone { IfOk result (IsAloneUntil problem.now.position (settings_in settings.now) (T.signal stop.old) (T.signal stop.new)) }
+    requires made { port.old
+        ≡ alone_at_first problem.now.position settings.now.expansions settings.now.room
+        settings.now.rows }
+    requires suits { (number : ℕ)
+        → Suits (worker_at_first problem.now.position number) (book_of port.old) }
+    ensures alone { IfOk result
+        (IsAloneUntil problem.now.position (settings_in settings.now) (T.signal stop.old)
+        (T.signal stop.new)) }
     ensures solution { IfOk result (IsSolution problem.now.position) }
     ensures heeds { IfOk result (HeedsStop (T.signal stop.old) (T.signal stop.new)) }
     ensures armed { (T.signal stop.new).armed ≡ (T.signal stop.old).armed }
@@ -110,10 +126,12 @@ pub(crate) fn search_over<G: Gate, T: Stop>(
     Ok(SearchEnd::Unknown(cause, Crew::new(vec![in alloc; worker]?)))
 }
 
-/// Searches a problem with one worker, whatever the settings say of workers: it works under its own steps, and what the stop signals, till it has ended. Where a note is
-/// posted, that note answers the problem; else the search gave up, for the cause that the worker's end names, and the worker comes with it.
-/// The gate is passed for each unit, as worker 1. The stop is polled before each unit is drawn; where it says that the worker is to stop, the search ends as
-/// stopped. Takes the table's memory at once: about 1 KB a row. Errors: want of memory alone. (df-pn: Nagai 2002.)
+/// Searches a problem with one worker, whatever the settings say of workers: it works under its own
+/// steps, and what the stop signals, till it has ended. Where a note is posted, that note answers
+/// the problem; else the search gave up, for the cause that the worker's end names, and the worker
+/// comes with it. The gate is passed for each unit, as worker 1. The stop is polled before each
+/// unit is drawn; where it says that the worker is to stop, the search ends as stopped. Takes the
+/// table's memory at once: about 1 KB a row. Errors: want of memory alone. (df-pn: Nagai 2002.)
 pub fn search_alone_until<G: Gate, T: Stop>(
     alloc: Global,
     problem: &Problem,
@@ -121,11 +139,16 @@ pub fn search_alone_until<G: Gate, T: Stop>(
     gate: &G,
     stop: &mut T,
 ) -> Result<SearchEnd, AllocError>
-    // It answers what the world of one worker does, in which a stop is signalled only where the stop signalled, which is polled as often as the worker polls.
-    ensures alone { IfOk result (IsAloneUntil problem.now.position (settings_in settings.now) (T.signal stop.old) (T.signal stop.new)) }
-    // A note that solves it is valid, holds on every path, is about the problem's position and for its attacker.
+    // It answers what the world of one worker does, in which a stop is signalled only where the
+    // stop signalled, which is polled as often as the worker polls.
+    ensures alone { IfOk result
+        (IsAloneUntil problem.now.position (settings_in settings.now) (T.signal stop.old)
+        (T.signal stop.new)) }
+    // A note that solves it is valid, holds on every path, is about the problem's position and for
+    // its attacker.
     ensures solution { IfOk result (IsSolution problem.now.position) }
-    // It ends as stopped exactly where the stop signalled, which it does once; then it is polled no more.
+    // It ends as stopped exactly where the stop signalled, which it does once; then it is polled no
+    // more.
     ensures heeds { IfOk result (HeedsStop (T.signal stop.old) (T.signal stop.new)) }
     // A stop is polled, and nothing else.
     ensures armed { (T.signal stop.new).armed ≡ (T.signal stop.old).armed }
@@ -136,7 +159,8 @@ pub fn search_alone_until<G: Gate, T: Stop>(
     search_over(alloc, problem, settings, &mut port, gate, stop)
 }
 
-/// The same with a stop that never signals: it answers what the world of one worker does under its own steps. Errors: want of memory alone.
+/// The same with a stop that never signals: it answers what the world of one worker does under its
+/// own steps. Errors: want of memory alone.
 pub fn search_alone_gated<G: Gate>(
     alloc: Global,
     problem: &Problem,

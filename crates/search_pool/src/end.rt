@@ -41,7 +41,8 @@ impl Crew {
     }
 }
 
-/// How a search ended: with a note that answers the problem; or with the cause why it gave up, and its workers as they ended.
+/// How a search ended: with a note that answers the problem; or with the cause why it gave up, and
+/// its workers as they ended.
 #[derive(Drop)]
 pub enum SearchEnd {
     /// The note is about the problem, and holds on every path.

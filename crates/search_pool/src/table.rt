@@ -13,21 +13,26 @@ use search_limits::Settings;
 use shogi_rules::Problem;
 use std::alloc::{AllocError, Global};
 
-/// A table that searches use one after the other, so that its memory is taken once. It is emptied for each, so none knows what another found.
+/// A table that searches use one after the other, so that its memory is taken once. It is emptied
+/// for each, so none knows what another found.
 #[derive(Drop)]
 pub struct Table {
     port: Option<LonePort>,
 }
 
-// A table of the settings' rows that knows nothing: the one that is at hand, emptied, or one that is made.
+// A table of the settings' rows that knows nothing: the one that is at hand, emptied, or one that
+// is made.
 fn ready(
     alloc: Global,
     at_hand: Option<LonePort>,
     problem: &Problem,
     settings: &Settings,
 ) -> Result<LonePort, AllocError>
-    ensures made { IfOk result (λ port. port ≡ alone_at_first problem.now.position settings.now.expansions settings.now.room settings.now.rows) }
-    ensures suits { IfOk result (λ port. (number : ℕ) → Suits (worker_at_first problem.now.position number) (book_of port)) }
+    ensures made { IfOk result (λ port. port
+        ≡ alone_at_first problem.now.position settings.now.expansions settings.now.room
+        settings.now.rows) }
+    ensures suits { IfOk result (λ port. (number : ℕ)
+        → Suits (worker_at_first problem.now.position number) (book_of port)) }
 {
     if let Some(mut port) = at_hand {
         if port.rows() as u64 == settings.rows {
@@ -44,8 +49,9 @@ impl Table {
         Table { port: None }
     }
 
-    /// Searches a problem with one worker over this table, emptied before, in the time of the rows that have entries: as
-    /// [`search_alone`](crate::search_alone), it answers what the world of one worker does under its own steps. Where the settings want another number of rows, the
+    /// Searches a problem with one worker over this table, emptied before, in the time of the rows
+    /// that have entries: as [`search_alone`](crate::search_alone), it answers what the world of
+    /// one worker does under its own steps. Where the settings want another number of rows, the
     /// table is made anew: about 1 KB a row. Errors: want of memory alone.
     pub fn search(
         &mut self,
@@ -70,8 +76,11 @@ fn search_quietly(
     settings: &Settings,
     port: &mut LonePort,
 ) -> Result<SearchEnd, AllocError>
-    requires made { port.old ≡ alone_at_first problem.now.position settings.now.expansions settings.now.room settings.now.rows }
-    requires suits { (number : ℕ) → Suits (worker_at_first problem.now.position number) (book_of port.old) }
+    requires made { port.old
+        ≡ alone_at_first problem.now.position settings.now.expansions settings.now.room
+        settings.now.rows }
+    requires suits { (number : ℕ)
+        → Suits (worker_at_first problem.now.position number) (book_of port.old) }
     ensures alone { IfOk result (IsAlone problem.now.position (settings_in settings.now)) }
     ensures solution { IfOk result (IsSolution problem.now.position) }
 {

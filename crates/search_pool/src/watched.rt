@@ -1,4 +1,5 @@
-// A table and a desk that are watched: by a stop, which is asked at each poll, and by a gate, which is passed for each unit.
+// A table and a desk that are watched: by a stop, which is asked at each poll, and by a gate, which
+// is passed for each unit.
 ghost use Rattle.std.specs.Prelude.{◌≡◌};
 
 use board_core::Key;
@@ -10,8 +11,8 @@ use search_gate::{Gate, Stop};
 use std::alloc::AllocError;
 use worker_core::Port;
 
-// The table and the desk of a search alone, the gate that its worker passes behind each unit that it draws, as worker 1, and the stop that each of its polls
-// asks.
+// The table and the desk of a search alone, the gate that its worker passes behind each unit that
+// it draws, as worker 1, and the stop that each of its polls asks.
 #[derive(Drop)]
 pub(crate) struct Watched<'a, G: Gate, T: Stop> {
     pub(crate) port: &'a mut LonePort,

@@ -33,8 +33,8 @@ fn split<'a>(rt: &impl Abort, row: &'a str) -> (&'a str, &'a str) {
     row.split_once(' ').expect(rt, row)
 }
 
-// A row has the move, the two numbers, and the position with the attacker to move; the position is the one at
-// hand, or that with the defender to move.
+// A row has the move, the two numbers, and the position with the attacker to move; the position is
+// the one at hand, or that with the defender to move.
 fn compare(rt: &impl Abort, row: &str, is_evasion: bool) {
     let (by, rest) = split(rt, row);
     let (pn, rest) = split(rt, rest);

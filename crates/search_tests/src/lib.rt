@@ -1,8 +1,8 @@
-//! Tests of the search: of the public calls of the crates that hold a search, keep its table and its desk, and
-//! run its workers.
+//! Tests of the search: of the public calls of the crates that hold a search, keep its table and
+//! its desk, and run its workers.
 //!
-//! They stand in a crate of their own, so that no library is proved twice, with its tests and without them.
-//! Without tests this one is empty.
+//! They stand in a crate of their own, so that no library is proved twice, with its tests and
+//! without them. Without tests this one is empty.
 #![tactic(auto)]
 
 #[cfg(test)]

@@ -1,4 +1,5 @@
-// Whole searches by one worker alone: a mate, an escape, and those that run out; and searches that are cut.
+// Whole searches by one worker alone: a mate, an escape, and those that run out; and searches that
+// are cut.
 mod chased;
 mod scripted;
 
@@ -18,8 +19,8 @@ use worker_core::{Worker, work, work_until};
 #[test]
 fn one_worker_searches_to_each_end(rt: HostRuntime) -> Result<(), Fail> {
     let alloc = rt.alloc();
-    // A problem, the units and the room; how the worker ends, what is posted, and the units and the room that were
-    // taken.
+    // A problem, the units and the room; how the worker ends, what is posted, and the units and the
+    // room that were taken.
     let rows = [
         (
             GOLD,
@@ -90,8 +91,8 @@ fn a_search_ends_wherever_it_is_cut(rt: HostRuntime) -> Result<(), Fail> {
     Ok(())
 }
 
-// A search of which so many requests were answered before its worker was starved: how it ended, and whether all
-// that was entered was left; none where it had ended before.
+// A search of which so many requests were answered before its worker was starved: how it ended, and
+// whether all that was entered was left; none where it had ended before.
 fn starved(
     alloc: Global,
     problem: &Problem,
@@ -128,8 +129,8 @@ fn a_starved_worker_leaves_what_it_has_entered(rt: HostRuntime) -> Result<(), Fa
 #[test]
 fn a_repetition_escapes_and_no_note_is_higher_than_the_limit(rt: HostRuntime) -> Result<(), Fail> {
     let alloc = rt.alloc();
-    // A rook chases a king between two positions: it gets away by repetition. Each search is told what the one
-    // before found of the other position, and goes two moves further.
+    // A rook chases a king between two positions: it gets away by repetition. Each search is told
+    // what the one before found of the other position, and goes two moves further.
     let chase = [
         problem(&rt, "5k3/9/9/9/9/9/9/9/4R4 b -"),
         problem(&rt, "4k4/9/9/9/9/9/9/9/5R3 b -"),

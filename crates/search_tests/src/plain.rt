@@ -7,7 +7,8 @@ use search_limits::Expansions;
 use std::sync::atomic::{AtomicU64, Ordering};
 use std::test::Fail;
 
-// A gate that counts how often it is passed, and how often not as the first worker with the next number.
+// A gate that counts how often it is passed, and how often not as the first worker with the next
+// number.
 #[derive(Drop)]
 struct Counting {
     passed: AtomicU64,
@@ -34,9 +35,11 @@ fn told(outcome: &Outcome) -> (&'static str, usize) {
 
 #[test]
 fn each_outcome_comes_for_its_cause(rt: HostRuntime) -> Result<(), Fail> {
-    // A problem, the expansions, the outcome, the number of entries, and how often the gate is passed.
+    // A problem, the expansions, the outcome, the number of entries, and how often the gate is
+    // passed.
     let table = [
-        // A gold is dropped beside the king, guarded by a pawn: the problem, and what its checks lead to.
+        // A gold is dropped beside the king, guarded by a pawn: the problem, and what its checks
+        // lead to.
         (GOLD, 100, ("mate", 1), 8),
         // No check at all: the last expansion decides.
         (ALONE, 1, ("no mate", 1), 1),

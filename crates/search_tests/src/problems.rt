@@ -4,8 +4,8 @@ use sfen_text::read_sfen;
 use shogi_rules::{Problem, accept_problem};
 use std::process::Abort;
 
-// Two rooks: a mate in three, since a rook is dropped far off on the king's row, and the other one follows it to
-// the last.
+// Two rooks: a mate in three, since a rook is dropped far off on the king's row, and the other one
+// follows it to the last.
 pub(crate) const ROOKS: &str = "9/4k4/8R/9/9/9/9/9/9 b R";
 
 // A mate in one by a gold, which a pawn guards.

@@ -2,8 +2,8 @@
 use std::fmt::Debug;
 use std::process::Abort;
 
-/// Ends the test where what was found isn't what was wanted, and tells both, and of which row. All tests assert
-/// by this call, so that the assertion is proved once.
+/// Ends the test where what was found isn't what was wanted, and tells both, and of which row. All
+/// tests assert by this call, so that the assertion is proved once.
 pub fn same<T: PartialEq + Debug + Drop>(
     rt: &impl Abort,
     row: impl Debug + Drop,

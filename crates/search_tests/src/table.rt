@@ -21,7 +21,8 @@ fn key(word: u64) -> Key {
     Key([word, 0, 0, 0, 0, 0, 0, word])
 }
 
-// What a look shows, in short: nothing, or the numbers and how many workers are below; a note is told as 0.
+// What a look shows, in short: nothing, or the numbers and how many workers are below; a note is
+// told as 0.
 fn looked(
     shard: &Shard,
     word: u64,
@@ -140,8 +141,8 @@ fn rule_on(shard: &Shard, key: &Key, path: &Path) -> Result<Option<Rule>, AllocE
     )
 }
 
-// A note that is left, and the rules of those that show where the path has the position after the first evasion,
-// where it has those after all, and where it has none.
+// A note that is left, and the rules of those that show where the path has the position after the
+// first evasion, where it has those after all, and where it has none.
 fn left_in_turn(moves: [Move; 5]) -> [(Leaving, [Option<Rule>; 3]); 7] {
     let [first, second, third, fourth, fifth] = moves;
     let (one, two) = (Rule::EscapeRepeat(first), Rule::EscapeRepeat(second));
@@ -159,7 +160,8 @@ fn left_in_turn(moves: [Move; 5]) -> [(Leaving, [Option<Rule>; 3]); 7] {
     ]
 }
 
-// A king has five evasions; each is noted as a repetition, and the first, which takes the rook, as an escape for good.
+// A king has five evasions; each is noted as a repetition, and the first, which takes the rook, as
+// an escape for good.
 #[test]
 fn a_note_counts_where_its_position_is_on_the_path(rt: HostRuntime) -> Result<(), Fail> {
     let alloc = rt.alloc();

@@ -1,4 +1,5 @@
--- What is read of the hands' field is spelled there; and where it goes wrong, as a relation and as it is read.
+-- What is read of the hands' field is spelled there; and where it goes wrong, as a relation and as
+-- it is read.
 use Rattle.std.proofs.Common.{◌≡◌, ◌≢◌, ◌⊎◌, inl, inr, ℕ, zero, suc, ◌+◌, ◌-◌, ◌*◌, ◌/◌, ◌%◌, ltb, ◌<◌, ◌≤◌, Bool, true, false, cond, List, [], ◌∷◌, ◌++◌, length, Option, Some, None, Result, Ok, Err, refl, sym, ap, subst, ◌∙◌, append_assoc, arith}
 use Rattle.std.specs.Prelude.{slice_set, nat_le, nat_lt, ◌&&◌, unwrap_or}
 use Rattle.std.specs.List.{flat_map}

@@ -9,6 +9,7 @@ is_digit byte = nat_le 48 byte && nat_le byte 57
 abbrev pub is_space : ℕ → Bool
 is_space byte = byte == 32
 
--- Whether a byte is one of the blanks that are dropped at both ends: space, tab, carriage return, line feed.
+-- Whether a byte is one of the blanks that are dropped at both ends: space, tab, carriage return,
+-- line feed.
 abbrev pub is_blank : ℕ → Bool
 is_blank byte = byte == 32 || byte == 9 || byte == 13 || byte == 10

@@ -1,5 +1,6 @@
--- What an input stands for, or its first fault and where it is: relations between whole texts and outcomes, in no order of
--- reading. A fault stands where everything before it is well, and what follows is not.
+-- What an input stands for, or its first fault and where it is: relations between whole texts and
+-- outcomes, in no order of reading. A fault stands where everything before it is well, and what
+-- follows is not.
 use Rattle.std.specs.Prelude.{◌≡◌, ◌≢◌, ◌⊎◌, ◌≤◌, ◌<◌, ◌+◌, ℕ, List, [], ◌∷◌, ◌++◌, length, Option, Result, Ok, Err}
 use Rattle.std.specs.List.{flat_map, AllByRecursion}
 use Rattle.bit_boards.specs.declared.piece.Kind.{Kind}
@@ -28,8 +29,8 @@ row_before_slash row = flat_map stretch_text row ++ 47 ∷ []
 abbrev pub AreNineEach : List (List Stretch) → Type 0
 AreNineEach rows = AllByRecursion (λ row. length (row_squares row) ≡ 9) rows
 
--- The board's field is well up to a place, where the rest of it stands: at most eight whole rows, a slash behind each, and of
--- the next row at most nine squares.
+-- The board's field is well up to a place, where the rest of it stands: at most eight whole rows, a
+-- slash behind each, and of the next row at most nine squares.
 pub record IsWellUpTo (board : Field) (here : ℕ) (rest : List ℕ) : Type 0 where
   pub rows : List (List Stretch)
   pub row : List Stretch
@@ -57,7 +58,8 @@ pub record HasBadRow (board : Field) (here : ℕ) : Type 0 where
   pub well : IsWellUpTo board here rest
   pub wrong : PassesNine well.row rest ⊎ (IsWrongSlash well.rows well.row rest ⊎ IsWrongEnd well.rows well.row rest)
 
--- The board's field is well up to this place, where a byte stands that begins no piece, no run and no slash.
+-- The board's field is well up to this place, where a byte stands that begins no piece, no run and
+-- no slash.
 pub record HasBadPiece (board : Field) (here : ℕ) : Type 0 where
   pub byte : ℕ
   pub behind : List ℕ
@@ -81,7 +83,8 @@ pub record AreItemsUpTo (hands : Field) (here : ℕ) (rest : List ℕ) : Type 0 
   pub parts : hands.text ≡ flat_map hand_item_text items ++ rest
   pub place : here ≡ hands.at + length (flat_map hand_item_text items)
 
--- Behind items, no letter twice, no item begins, and something stands there; or there is no field. A dash alone is well.
+-- Behind items, no letter twice, no item begins, and something stands there; or there is no field.
+-- A dash alone is well.
 pub record HasBadHand (hands : Field) (here : ℕ) : Type 0 where
   pub rest : List ℕ
   pub well : AreItemsUpTo hands here rest
@@ -89,7 +92,8 @@ pub record HasBadHand (hands : Field) (here : ℕ) : Type 0 where
   pub some : (rest ≢ []) ⊎ (hands.text ≡ [])
   pub no_dash : hands.text ≢ 45 ∷ []
 
--- Behind items, no letter twice, comes one more whose letter is among theirs; this is the place of the letter.
+-- Behind items, no letter twice, comes one more whose letter is among theirs; this is the place of
+-- the letter.
 pub record HasLetterTwice (hands : Field) (here : ℕ) : Type 0 where
   pub start : ℕ
   pub next : HandItem
@@ -100,7 +104,8 @@ pub record HasLetterTwice (hands : Field) (here : ℕ) : Type 0 where
 
 -- ---- what stands behind the hands
 
--- The fourth field is no move number; or it is one, and a fifth comes. This is the place of the fourth, or the fifth.
+-- The fourth field is no move number; or it is one, and a fifth comes. This is the place of the
+-- fourth, or the fifth.
 abbrev pub HasTrailing : Field → Field → ℕ → Type 0
 HasTrailing number more here = ((number.text ≢ []) × (IsNumber number.text → ⊥) × (here ≡ number.at)) ⊎ (IsNumber number.text × (more.text ≢ []) × (here ≡ more.at))
 
@@ -118,7 +123,8 @@ IsSideField turn = (side : Side) × (turn.text ≡ side_letter side ∷ [])
 abbrev pub IsHandsField : Field → Type 0
 IsHandsField hands = (black : List ℕ) × (white : List ℕ) × (length black ≡ 7) × (length white ≡ 7) × HandsSpell hands.text black white
 
--- A text spells these parts, of 81 cells and seven counts in each hand, whether or not they make a position.
+-- A text spells these parts, of 81 cells and seven counts in each hand, whether or not they make a
+-- position.
 pub record SpellsParts (input : List ℕ) (b : Board) : Type 0 where
   pub spells : Spells input b
   pub cells : length b.cells ≡ 81

@@ -1,4 +1,5 @@
--- The text within an input, and its fields: texts and their parts side by side, in no order of reading.
+-- The text within an input, and its fields: texts and their parts side by side, in no order of
+-- reading.
 use Rattle.std.specs.Prelude.{◌≡◌, ◌≤◌, ◌+◌, ℕ, List, [], ◌∷◌, ◌++◌, length, Bool, true, false, not}
 use Rattle.std.specs.List.{list_all}
 use Rattle.sfen_text.specs.Bytes.{is_space, is_blank}
@@ -12,8 +13,8 @@ BeginsWithNo test text = (byte : ℕ) (behind : List ℕ) → text ≡ byte ∷ 
 abbrev pub EndsWithNo : (ℕ → Bool) → List ℕ → Type 0
 EndsWithNo test text = (front : List ℕ) (byte : ℕ) → text ≡ front ++ byte ∷ [] → test byte ≡ false
 
--- The text within an input, which begins at a place: the blanks in front are dropped, all of them, then those at the end,
--- and then the one word in front, where there is one.
+-- The text within an input, which begins at a place: the blanks in front are dropped, all of them,
+-- then those at the end, and then the one word in front, where there is one.
 pub record IsTextIn (input text : List ℕ) (at : ℕ) : Type 0 where
   pub before : List ℕ
   pub front : List ℕ
@@ -41,8 +42,8 @@ field at text rest = record { at = at; text = text; rest = rest }
 abbrev pub end_of : Field → ℕ
 end_of field = field.at + length field.text
 
--- The first field of a text that begins at a place: it stands behind all the spaces in front, and reaches to the next space
--- or to the end. Where no byte stands behind the spaces it is empty.
+-- The first field of a text that begins at a place: it stands behind all the spaces in front, and
+-- reaches to the next space or to the end. Where no byte stands behind the spaces it is empty.
 pub record HasField (at : ℕ) (text : List ℕ) (first : Field) : Type 0 where
   pub spaces : List ℕ
   pub parts : text ≡ spaces ++ (first.text ++ first.rest)
@@ -52,8 +53,9 @@ pub record HasField (at : ℕ) (text : List ℕ) (first : Field) : Type 0 where
   pub whole : BeginsWithNo (λ byte. not (is_space byte)) first.rest
   pub place : first.at ≡ at + length spaces
 
--- The first five fields of an input, one behind the other, with their places in it: the board, the side to move, the hands,
--- the move number, and one more. Those that the input lacks are empty and stand at the end of its text.
+-- The first five fields of an input, one behind the other, with their places in it: the board, the
+-- side to move, the hands, the move number, and one more. Those that the input lacks are empty and
+-- stand at the end of its text.
 pub record FieldsOf (input : List ℕ) : Type 0 where
   pub text : List ℕ
   pub at : ℕ

@@ -13,14 +13,15 @@ use Rattle.sfen_text.specs.declared.hands.Holding.{Holding}
 use Rattle.sfen_text.specs.Bytes.{is_digit}
 use Rattle.sfen_text.specs.Pieces.{piece_of}
 
--- The items of a text: each with the place of its letter, its count, side and kind; or the place where an item begins that
--- is none.
+-- The items of a text: each with the place of its letter, its count, side and kind; or the place
+-- where an item begins that is none.
 pub data Items : Type 0 where
   none : Items
   item : ℕ → ℕ → Side → Kind → Items → Items
   broken : ℕ → Items
 
--- An item of this letter's piece, which is no king; its text begins at `start`, its letter stands at `at`.
+-- An item of this letter's piece, which is no king; its text begins at `start`, its letter stands
+-- at `at`.
 abbrev pub letter_item : ℕ → ℕ → ℕ → Option Piece → Items → Items
 letter_item start at count None rest = broken start
 letter_item start at count (Some piece) rest = if same_kind piece.kind King then broken start else item at count piece.side piece.kind rest
@@ -29,13 +30,14 @@ letter_item start at count (Some piece) rest = if same_kind piece.kind King then
 abbrev pub value_with : Option ℕ → ℕ → ℕ
 value_with count byte = 10 * unwrap_or count 0 + (byte - 48)
 
--- What comes at the end of a text of items: nothing more; or the item that is being read, which is none without a letter.
+-- What comes at the end of a text of items: nothing more; or the item that is being read, which is
+-- none without a letter.
 abbrev pub last_item : ℕ → Option ℕ → Items
 last_item start None = none
 last_item start (Some count) = broken start
 
--- The items of a text from `at` on; the item that is being read begins at `start`, and `count` is the value of its digits so
--- far, where there are any. A count is 1 to 18, without a leading zero.
+-- The items of a text from `at` on; the item that is being read begins at `start`, and `count` is
+-- the value of its digits so far, where there are any. A count is 1 to 18, without a leading zero.
 unfoldable pub items : ℕ → Option ℕ → ℕ → List ℕ → Items
 items start count at [] = last_item start count
 items start count at (byte ∷ text) =
@@ -60,7 +62,8 @@ is_byte wanted (byte ∷ next ∷ text) = false
 abbrev pub empty_hand : List ℕ
 empty_hand = 0 ∷ 0 ∷ 0 ∷ 0 ∷ 0 ∷ 0 ∷ 0 ∷ []
 
--- The hands of a field at a place: empty ones for a dash; or the first fault, as where there is no field.
+-- The hands of a field at a place: empty ones for a dash; or the first fault, as where there is no
+-- field.
 unfoldable pub hands_of : ℕ → List ℕ → Result (List ℕ × List ℕ) TextFault
 hands_of at text =
     if length text == 0 then Err (BadHand at)
@@ -71,8 +74,8 @@ abbrev pub IsCountSoFar : Option ℕ → Type 0
 IsCountSoFar None = Unit {0}
 IsCountSoFar (Some count) = (1 ≤ count) × (count ≤ total_of Pawn)
 
--- One more byte was read, as an item's: what is behind it is read on from what was answered; or the fault is there, whatever
--- is behind it.
+-- One more byte was read, as an item's: what is behind it is read on from what was answered; or the
+-- fault is there, whatever is behind it.
 abbrev pub IsItemRead : Holding → ℕ → ℕ → Result Holding TextFault → Type 0
 IsItemRead holding byte at (Ok next) = IsCountSoFar next.count × ((rest : List ℕ) → hands_with holding.black holding.white (items holding.start holding.count at (byte ∷ rest)) ≡ hands_with next.black next.white (items next.start next.count (at + 1) rest))
 IsItemRead holding byte at (Err fault) = (rest : List ℕ) → hands_with holding.black holding.white (items holding.start holding.count at (byte ∷ rest)) ≡ Err fault

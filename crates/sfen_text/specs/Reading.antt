@@ -31,8 +31,8 @@ without_end_blanks text = take (length text - leading is_blank (reverse text)) t
 unfoldable pub front_len : List ℕ → ℕ
 front_len text = if starts_with nat_eq text (codes "position sfen ") then 14 else (if starts_with nat_eq text (codes "sfen ") then 5 else 0)
 
--- The next field of a text that begins at a place: what stands up to the next space, behind the spaces in front. Where the
--- text has ended, an empty field at its end.
+-- The next field of a text that begins at a place: what stands up to the next space, behind the
+-- spaces in front. Where the text has ended, an empty field at its end.
 unfoldable pub field_of : ℕ → List ℕ → Field
 field_of at text =
     let spaces = leading is_space text in
@@ -83,7 +83,8 @@ input_parts input =
     let front = front_len body in
     fields_at (blanks + front) (drop front body)
 
--- The outcome to what was read: its fault; else the position that the parts make, or their first fault.
+-- The outcome to what was read: its fault; else the position that the parts make, or their first
+-- fault.
 abbrev pub IsOutcomeOf : Result Board TextFault → Result Board TextFault → Type 0
 IsOutcomeOf (Err fault) outcome = outcome ≡ Err fault
 IsOutcomeOf (Ok b) (Ok position) = IsBuilt b (Ok position)

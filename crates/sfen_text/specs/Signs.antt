@@ -1,4 +1,5 @@
--- Serves private functions alone: how the board field of an SFEN text is read, its signs and the squares that they fill.
+-- Serves private functions alone: how the board field of an SFEN text is read, its signs and the
+-- squares that they fill.
 use Rattle.std.specs.Prelude.{◌≡◌, ◌+◌, ◌-◌, ◌*◌, ◌/◌, ◌%◌, ◌==◌, ◌&&◌, ℕ, List, [], ◌∷◌, ◌++◌, length, map, replicate, Option, Some, None, Result, Ok, Err, nat_le, nat_lt, if◌then◌else◌, take, ◌≤◌}
 use Rattle.std.specs.List.{range_with_len}
 use Rattle.bit_boards.specs.declared.piece.Piece.{Piece}
@@ -24,7 +25,8 @@ pub data Signs : Type 0 where
   none : Signs
   sign : ℕ → Sign → Signs → Signs
 
--- The signs of a text that begins at a place. A plus and the letter behind it are one sign, a promoted piece.
+-- The signs of a text that begins at a place. A plus and the letter behind it are one sign, a
+-- promoted piece.
 unfoldable pub signs : ℕ → List ℕ → Signs
 signs at [] = none
 signs at (byte ∷ []) = sign at (plain_sign byte) none
@@ -37,8 +39,8 @@ abbrev pub in_front : {A : Type 0} → List A → Result (List A) TextFault → 
 in_front front (Ok read) = Ok (front ++ read)
 in_front front (Err fault) = Err fault
 
--- What stands on the squares that are still to be read, row by row from file 9 to file 1, `left` squares of this row and
--- `rows` whole rows below it; or the first fault. The text ends at `end`.
+-- What stands on the squares that are still to be read, row by row from file 9 to file 1, `left`
+-- squares of this row and `rows` whole rows below it; or the first fault. The text ends at `end`.
 unfoldable pub squares : ℕ → ℕ → ℕ → Signs → Result (List (Option Piece)) TextFault
 squares end further_rows left none = if further_rows == 0 && left == 0 then Ok [] else Err (BadRow end)
 squares end further_rows left (sign at Slash rest) = if left == 0 && nat_lt 0 further_rows then squares end (further_rows - 1) 9 rest else Err (BadRow at)
@@ -46,7 +48,8 @@ squares end further_rows left (sign at (Run n) rest) = if nat_le n left then in_
 squares end further_rows left (sign at (Stands piece) rest) = if nat_lt 0 left then in_front (Some piece ∷ []) (squares end further_rows (left - 1) rest) else Err (BadRow at)
 squares end further_rows left (sign at Broken rest) = Err (BadPiece at)
 
--- The place of a square, by its number, in the order of reading: row a first, each row from file 9 to file 1.
+-- The place of a square, by its number, in the order of reading: row a first, each row from file 9
+-- to file 1.
 abbrev pub reading_place : ℕ → ℕ
 reading_place square = 9 * (square % 9) + (8 - square / 9)
 
@@ -62,14 +65,16 @@ read_count filling = 81 - 9 * filling.further_rows - filling.left
 abbrev pub filled_squares : Filling → List (Option Piece)
 filled_squares filling = take (read_count filling) filling.read
 
--- At most nine squares of a row and eight further rows are still to come, and nothing stands on them yet.
+-- At most nine squares of a row and eight further rows are still to come, and nothing stands on
+-- them yet.
 pub record IsFilling (filling : Filling) : Type 0 where
   pub size : length filling.read ≡ 81
   pub further_rows : filling.further_rows ≤ 8
   pub left : filling.left ≤ 9
   pub ahead : (place : ℕ) → read_count filling ≤ place → piece_at filling.read place ≡ None
 
--- One more sign was taken: what is behind it is read on from the new squares; or the fault is there, whatever is behind it.
+-- One more sign was taken: what is behind it is read on from the new squares; or the fault is
+-- there, whatever is behind it.
 abbrev pub IsSignTaken : Filling → Filling → Sign → ℕ → Result (Unit {0}) TextFault → Type 0
 IsSignTaken old new found at (Ok _) = IsFilling new × ((end : ℕ) (rest : Signs) → in_front (filled_squares old) (squares end old.further_rows old.left (sign at found rest)) ≡ in_front (filled_squares new) (squares end new.further_rows new.left rest))
 IsSignTaken old new found at (Err fault) = (end : ℕ) (rest : Signs) → squares end old.further_rows old.left (sign at found rest) ≡ Err fault

@@ -1,4 +1,5 @@
--- Which text spells which position (SFEN): texts and positions side by side, in no order of reading.
+-- Which text spells which position (SFEN): texts and positions side by side, in no order of
+-- reading.
 use Rattle.std.specs.Prelude.{◌≡◌, ◌≢◌, ◌⊎◌, ◌≤◌, ◌+◌, ◌/◌, ◌%◌, ◌&&◌, ℕ, zero, suc, List, [], ◌∷◌, ◌++◌, map, replicate, length, codes, true, Option, Some, None, nat_lt, if◌then◌else◌}
 use Rattle.std.specs.List.{flat_map, range_with_len, list_all}
 use Rattle.bit_boards.specs.declared.piece.Kind.{Kind}
@@ -17,8 +18,8 @@ pub data Stretch : Type 0 where
   empty : ℕ → Stretch
   one : Piece → Stretch
 
--- A stretch is spelled by the number of its empty squares, a digit, or nothing where there are none; a piece is spelled by
--- its letter, behind a plus where it is promoted.
+-- A stretch is spelled by the number of its empty squares, a digit, or nothing where there are
+-- none; a piece is spelled by its letter, behind a plus where it is promoted.
 abbrev pub stretch_text : Stretch → List ℕ
 stretch_text (empty n) = run_text n
 stretch_text (one piece) = piece_text piece
@@ -36,8 +37,8 @@ row_squares row = flat_map stretch_squares row
 abbrev pub row_behind_slash : List Stretch → List ℕ
 row_behind_slash row = 47 ∷ flat_map stretch_text row
 
--- A text spells the board: with a slash in front it is rows with a slash in front of each, and these rows are the rows a
--- to i, each from file 9 to file 1.
+-- A text spells the board: with a slash in front it is rows with a slash in front of each, and
+-- these rows are the rows a to i, each from file 9 to file 1.
 abbrev pub BoardSpells : List ℕ → List (Option Piece) → Type 0
 BoardSpells text cells = (rows : List (List Stretch)) × (47 ∷ text ≡ flat_map row_behind_slash rows) × (map row_squares rows ≡ map (cells_of_row cells) (range_with_len 1 9))
 
@@ -45,8 +46,8 @@ BoardSpells text cells = (rows : List (List Stretch)) × (47 ∷ text ≡ flat_m
 abbrev pub count_digits : ℕ → List ℕ
 count_digits n = if nat_lt n 10 then (48 + n) ∷ [] else (48 + n / 10) ∷ (48 + n % 10) ∷ []
 
--- An item of the hands: one piece or more of a side's kind, which is no king, and at most as many as there are pawns, 18.
--- Its count may be left out where it is 1.
+-- An item of the hands: one piece or more of a side's kind, which is no king, and at most as many
+-- as there are pawns, 18. Its count may be left out where it is 1.
 pub record HandItem : Type 0 where
   pub digits : List ℕ
   pub count : ℕ
@@ -70,7 +71,8 @@ abbrev pub one_count : ℕ → List ℕ
 one_count zero = []
 one_count (suc n) = suc n ∷ []
 
--- Items hold a side's hand: each kind is counted once, where the hand holds it, by as many as it holds.
+-- Items hold a side's hand: each kind is counted once, where the hand holds it, by as many as it
+-- holds.
 abbrev pub ItemsHold : Side → List HandItem → List ℕ → Type 0
 ItemsHold side items hand = (kind : Kind) → kind ≢ King → counts_for side kind items ≡ one_count (hand_count hand kind)
 
@@ -94,8 +96,8 @@ IsNumber digits = (digits ≢ []) × (length digits ≤ 9) × (list_all is_digit
 abbrev pub IsEnd : List ℕ → Type 0
 IsEnd end = (end ≡ []) ⊎ ((gap : List ℕ) × (digits : List ℕ) × (end ≡ gap ++ digits) × IsGap gap × IsNumber digits)
 
--- A text spells a position: the board, the side to move, the hands and perhaps a move number, with gaps between them; in
--- front of them perhaps a word, and spaces; and at both ends any blanks.
+-- A text spells a position: the board, the side to move, the hands and perhaps a move number, with
+-- gaps between them; in front of them perhaps a word, and spaces; and at both ends any blanks.
 pub record Spells (text : List ℕ) (p : Board) : Type 0 where
   pub before : List ℕ
   pub front : List ℕ

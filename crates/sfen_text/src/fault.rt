@@ -6,18 +6,21 @@ ghost use Rattle.sfen_text.specs.FaultText.{fault_text};
 use board_core::{BadPosition, Square};
 use std::fmt::{self, Write};
 
-/// Why a text is no position with a king of the side that isn't to move: its first fault. Places are byte offsets in the whole
-/// input, from 0.
+/// Why a text is no position with a king of the side that isn't to move: its first fault. Places
+/// are byte offsets in the whole input, from 0.
 #[derive(Clone, Copy, PartialEq, Eq, Debug)]
 pub enum TextFault {
-    /// A piece or a run that would pass nine squares in its row, a slash before the row is full or behind the ninth row,
-    /// or the end of the board before the ninth row is full.
+    /// A piece or a run that would pass nine squares in its row, a slash before the row is full or
+    /// behind the ninth row, or the end of the board before the ninth row is full.
     BadRow(usize),
-    /// A byte of the board that begins no piece, run or slash; a plus without a letter that promotes.
+    /// A byte of the board that begins no piece, run or slash; a plus without a letter that
+    /// promotes.
     BadPiece(usize),
-    /// The field of the side to move is neither `b` nor `w`; at the end of the text, if there is no such field.
+    /// The field of the side to move is neither `b` nor `w`; at the end of the text, if there is no
+    /// such field.
     BadSide(usize),
-    /// The start of an item of the hands that is none; the end of the text, if there is no such field.
+    /// The start of an item of the hands that is none; the end of the text, if there is no such
+    /// field.
     BadHand(usize),
     /// A letter that already came in the same hand.
     HandTwice(usize),
@@ -30,8 +33,8 @@ pub enum TextFault {
 impl fmt::Display for TextFault {
     ghost output = { λ fault. Some (fault_text fault) };
 
-    /// Prints the fault's kind in words, and its place, kind, square or file: `bad row at 7`, `too many P`,
-    /// `dead piece at 9i`, `two pawns on file 5`.
+    /// Prints the fault's kind in words, and its place, kind, square or file: `bad row at 7`, `too
+    /// many P`, `dead piece at 9i`, `two pawns on file 5`.
     fn fmt<W: Write>(&self, f: &mut fmt::Formatter<W>) -> fmt::Result {
         match self {
             TextFault::BadRow(at) => write!(f, "bad row at {at}"),

@@ -10,8 +10,8 @@ use crate::TextFault;
 use crate::pieces::piece_of;
 use board_core::{Hand, Kind, Side};
 
-// What was read so far: the hands, and of the item that is being read where it begins and the value of its digits, where
-// there are any.
+// What was read so far: the hands, and of the item that is being read where it begins and the value
+// of its digits, where there are any.
 #[derive(Clone, Copy)]
 struct Holding {
     start: usize,
@@ -96,7 +96,8 @@ fn take_byte(holding: Holding, byte: u8, at: usize) -> Result<Holding, TextFault
 #[tactic(auto, unfolding(crate::specs::Hands::items, crate::specs::Hands::hands_with))]
 fn items_of(text: &[u8], at: usize) -> Result<(Hand, Hand), TextFault>
     requires { at + length text.now < 2 ^ 64 }
-    ensures { Gives (λ hands. (hands.0, hands.1)) result (hands_with empty_hand empty_hand (items at None at text.now)) }
+    ensures { Gives (λ hands. (hands.0, hands.1)) result
+        (hands_with empty_hand empty_hand (items at None at text.now)) }
 {
     let mut holding = Holding {
         start: at,

@@ -84,7 +84,8 @@ struct Span<'a> {
 fn span_of(text: &[u8], at: usize) -> Span<'_>
     requires { at + length text.now < 2 ^ 64 }
     ensures field { field (result.at) result.text.now result.rest.now ≡ field_of at text.now }
-    ensures within { result.at + length result.text.now + length result.rest.now ≡ at + length text.now }
+    ensures within { result.at + length result.text.now + length result.rest.now
+        ≡ at + length text.now }
 {
     let spaces = leading_spaces(text);
     let here = &text[spaces..];
@@ -98,8 +99,10 @@ fn span_of(text: &[u8], at: usize) -> Span<'_>
 
 fn span_behind(span: Span<'_>) -> Span<'_>
     requires { span.at + length span.text.now + length span.rest.now < 2 ^ 64 }
-    ensures field { field (result.at) result.text.now result.rest.now ≡ next_of (field span.entry.at span.entry.text.now span.entry.rest.now) }
-    ensures within { result.at + length result.text.now + length result.rest.now ≡ span.entry.at + length span.entry.text.now + length span.entry.rest.now }
+    ensures field { field (result.at) result.text.now result.rest.now
+        ≡ next_of (field span.entry.at span.entry.text.now span.entry.rest.now) }
+    ensures within { result.at + length result.text.now + length result.rest.now
+        ≡ span.entry.at + length span.entry.text.now + length span.entry.rest.now }
 {
     span_of(span.rest, span.at + span.text.len())
 }
@@ -136,7 +139,8 @@ fn is_number(text: &[u8]) -> bool
 #[tactic(auto, unfolding(crate::specs::Reading::end_outcome))]
 fn end_outcome(span: Span<'_>) -> Result<(), TextFault>
     requires { span.at + length span.text.now + length span.rest.now < 2 ^ 64 }
-    ensures { Gives (λ _. field span.entry.at span.entry.text.now span.entry.rest.now) result (end_outcome (field span.entry.at span.entry.text.now span.entry.rest.now)) }
+    ensures { Gives (λ _. field span.entry.at span.entry.text.now span.entry.rest.now) result
+        (end_outcome (field span.entry.at span.entry.text.now span.entry.rest.now)) }
 {
     if !is_number(span.text) {
         return Err(TextFault::Trailing(span.at));
@@ -160,7 +164,9 @@ struct Parts {
 #[tactic(auto, unfolding(crate::specs::Reading::fields_at))]
 fn parts_of(text: &[u8], at: usize) -> Result<Parts, TextFault>
     requires { at + length text.now < 2 ^ 64 }
-    ensures { Gives (λ p. record { cells = p.cells; black = p.black; white = p.white; side = p.side }) result (fields_at at text.now) }
+    ensures { Gives (λ p. record
+        { cells = p.cells; black = p.black; white = p.white; side = p.side }) result
+        (fields_at at text.now) }
 {
     let board = span_of(text, at);
     let cells = board_of(board.text, board.at)?;
@@ -192,7 +198,14 @@ fn body_of(input: &[u8]) -> (usize, &[u8])
 
 fn position_of(parts: Parts) -> Result<Position, TextFault>
     ensures defender { IfOk result HasDefender }
-    ensures built { IsOutcomeOf (Ok (record { cells = parts.cells; black = parts.black; white = parts.white; side = parts.side })) result }
+    ensures built { IsOutcomeOf
+        (Ok (record {
+          cells = parts.cells;
+          black = parts.black;
+          white = parts.white;
+          side =
+              parts.side;
+        })) result }
 {
     match Position::build(&parts.cells, parts.black, parts.white, parts.side) {
         Ok(position) => Ok(position),
@@ -209,23 +222,26 @@ fn outcome_of(input: &[u8]) -> Result<Position, TextFault>
     position_of(parts)
 }
 
-/// The position that an SFEN text stands for; else its first fault from the left, with its place in the whole input, or,
-/// where the text is well formed, the fault of its parts ([`TextFault`]). Takes no memory, and time by the length of the text.
+/// The position that an SFEN text stands for; else its first fault from the left, with its place in
+/// the whole input, or, where the text is well formed, the fault of its parts ([`TextFault`]).
+/// Takes no memory, and time by the length of the text.
 ///
-/// Spaces, tabs, carriage returns and line feeds at both ends don't count, nor does `sfen ` or `position sfen ` in front
-/// (USI protocol: `position`). The rest is three or four fields with spaces between: the board from row a to row i, each
-/// from file 9 to file 1; the side to move; the hands; perhaps a move number of one to nine digits, which isn't used.
+/// Spaces, tabs, carriage returns and line feeds at both ends don't count, nor does `sfen ` or
+/// `position sfen ` in front (USI protocol: `position`). The rest is three or four fields with
+/// spaces between: the board from row a to row i, each from file 9 to file 1; the side to move; the
+/// hands; perhaps a move number of one to nine digits, which isn't used.
 pub fn read_sfen(input: &[u8]) -> Result<Position, TextFault>
     // The position that the input spells; else its first fault.
     ensures exact { IsReadingOutcome input.now result }
     // And nothing else is.
-    ensures only { (other : Result Board TextFault) → IsReadingOutcome input.now other → result ≡ other }
+    ensures only { (other : Result Board TextFault) → IsReadingOutcome input.now other → result
+        ≡ other }
     // The defender, the side that isn't to move, has a king.
     ensures defender { IfOk result HasDefender }
     // The text spells the position that is read.
     ensures spelled { IfOk result (λ p. Spells input.now p) }
-    // A position that the text spells is read, where it keeps what every position keeps and the side that isn't to move has
-    // a king.
+    // A position that the text spells is read, where it keeps what every position keeps and the
+    // side that isn't to move has a king.
     ensures read { (p : Board) → Spells input.now p → IsKept p → HasDefender p → result ≡ Ok p }
     // What is written for a position is read as it, where the side that isn't to move has a king.
     ensures again { (p : Board) → IsKept p → HasDefender p → input.now ≡ sfen_of p → result ≡ Ok p }

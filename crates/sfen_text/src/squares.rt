@@ -20,8 +20,8 @@ pub enum Sign {
     Broken,
 }
 
-// What was read so far: the squares in the order of reading, how many rows are still to come, and how many squares of
-// this row.
+// What was read so far: the squares in the order of reading, how many rows are still to come, and
+// how many squares of this row.
 #[derive(Clone, Copy)]
 struct Filling {
     read: [Option<Piece>; 81],
@@ -53,7 +53,8 @@ fn sign_of(text: &[u8]) -> (Sign, usize)
     requires { 0 < length text.now }
     ensures size { 1 ≤ result.1 }
     ensures within { result.1 ≤ length text.now }
-    ensures signs { (at : ℕ) → signs at text.now ≡ sign at result.0 (signs (at + result.1) (drop result.1 text.now)) }
+    ensures signs { (at : ℕ) → signs at text.now
+        ≡ sign at result.0 (signs (at + result.1) (drop result.1 text.now)) }
 {
     let plain = (plain_sign(text[0]), 1);
     if text.len() == 1 {

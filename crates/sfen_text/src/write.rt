@@ -43,7 +43,8 @@ fn put_run(out: &mut Vec<u8>, run: u8) -> Result<(), AllocError>
 fn put_row(out: &mut Vec<u8>, position: &Position, row_number: u8) -> Result<(), AllocError>
     requires from { 1 ≤ row_number }
     requires to { row_number ≤ 9 }
-    ensures { OnOk result (out.new.items ≡ out.old.items ++ row_text 0 (cells_of_row position.now.cells row_number)) }
+    ensures { OnOk result (out.new.items
+        ≡ out.old.items ++ row_text 0 (cells_of_row position.now.cells row_number)) }
 {
     let mut run = 0;
     for file in (1..10).rev() {
@@ -94,14 +95,16 @@ fn put_kind(
     kind: Kind,
 ) -> Result<(), AllocError>
     requires { kind ≢ King }
-    ensures { OnOk result (out.new.items ≡ out.old.items ++ held_text side kind (hand_count (hand_of position.now side) kind)) }
+    ensures { OnOk result (out.new.items
+        ≡ out.old.items ++ held_text side kind (hand_count (hand_of position.now side) kind)) }
 {
     position.laws();
     put_held(out, side, kind, position.hand(side).count(kind))
 }
 
 fn put_hand(out: &mut Vec<u8>, position: &Position, side: Side) -> Result<(), AllocError>
-    ensures { OnOk result (out.new.items ≡ out.old.items ++ hand_text side (hand_of position.now side)) }
+    ensures { OnOk result (out.new.items
+        ≡ out.old.items ++ hand_text side (hand_of position.now side)) }
 {
     put_kind(out, position, side, Kind::Rook)?;
     put_kind(out, position, side, Kind::Bishop)?;
@@ -113,14 +116,17 @@ fn put_hand(out: &mut Vec<u8>, position: &Position, side: Side) -> Result<(), Al
 }
 
 fn put_both(out: &mut Vec<u8>, position: &Position) -> Result<(), AllocError>
-    ensures { OnOk result (out.new.items ≡ out.old.items ++ (hand_text Black position.now.black ++ hand_text White position.now.white)) }
+    ensures { OnOk result (out.new.items
+        ≡ out.old.items ++ (hand_text Black position.now.black ++ hand_text White
+        position.now.white)) }
 {
     put_hand(out, position, Side::Black)?;
     put_hand(out, position, Side::White)
 }
 
 fn put_hands(out: &mut Vec<u8>, position: &Position) -> Result<(), AllocError>
-    ensures { OnOk result (out.new.items ≡ out.old.items ++ hands_text position.now.black position.now.white) }
+    ensures { OnOk result (out.new.items
+        ≡ out.old.items ++ hands_text position.now.black position.now.white) }
 {
     let before = out.len();
     put_both(out, position)?;
@@ -139,8 +145,8 @@ fn side_byte(side: Side) -> u8
     }
 }
 
-/// Writes the text of a position behind what stands there already: see [`write_sfen`]. Where memory is wanted, a part of it may
-/// stand there. Errors: want of memory alone.
+/// Writes the text of a position behind what stands there already: see [`write_sfen`]. Where memory
+/// is wanted, a part of it may stand there. Errors: want of memory alone.
 pub fn append_sfen(out: &mut Vec<u8>, position: &Position) -> Result<(), AllocError>
     ensures text { OnOk result (out.new.items ≡ out.old.items ++ sfen_of position.now) }
     ensures kept { IsKept position.now }
@@ -161,13 +167,15 @@ fn text_of(alloc: Global, position: &Position) -> Result<Vec<u8>, AllocError>
     Ok(text)
 }
 
-/// The text of a position (SFEN): the board with longest runs of empty squares, the side to move, and the hands, a space
-/// between. In the hands Black's letters come first, each side's in the order R B G S N L P, each with its count before it
-/// where that is above 1; a dash where both are empty. No move number, no line feed. Errors: want of memory alone.
+/// The text of a position (SFEN): the board with longest runs of empty squares, the side to move,
+/// and the hands, a space between. In the hands Black's letters come first, each side's in the
+/// order R B G S N L P, each with its count before it where that is above 1; a dash where both are
+/// empty. No move number, no line feed. Errors: want of memory alone.
 pub fn write_sfen(alloc: Global, position: &Position) -> Result<Vec<u8>, AllocError>
     ensures text { IfOk result (λ text. text.items ≡ sfen_of position.now) }
     // No other position has this text.
-    ensures apart { IfOk result (λ text. (other : Board) → IsKept other → sfen_of other ≡ text.items → other ≡ position.now) }
+    ensures apart { IfOk result (λ text. (other : Board) → IsKept other → sfen_of other
+        ≡ text.items → other ≡ position.now) }
     ensures kept { IsKept position.now }
 {
     position.laws();

@@ -39,7 +39,8 @@ cut_rows rows shards (high, is) (low, is_too) few =
     let less : 2 ^ low ≤ 2 ^ high = subst (λ (n : ℕ). n ≤ 2 ^ high) is_too (subst (λ (n : ℕ). shards ≤ n) is few) in
     ap₂ (λ (s r : ℕ). s * (r / s)) is_too is ∙ (cut_powers high low less ∙ sym is)
 
--- Shards that are a power of two, of as many rows each, have all rows, where these are a power of two and no fewer.
+-- Shards that are a power of two, of as many rows each, have all rows, where these are a power of
+-- two and no fewer.
 pub all_rows : (rows shards : ℕ) → ∥ IsPowerOfTwo rows ∥₁ → ∥ IsPowerOfTwo shards ∥₁ → shards ≤ rows → shards * (rows / shards) ≡ rows
 all_rows rows shards power power_too few = elim (cases_eq (shards * (rows / shards)) rows) [
   | inl same ↦ same

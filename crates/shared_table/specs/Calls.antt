@@ -13,7 +13,8 @@ use Rattle.lone_port.specs.Lone.{IsLeftIn}
 use Rattle.shared_table.specs.Rows.{ShardRows}
 use Rattle.shared_table.specs.Seat.{RowSeatView, IsSameSeat, word_at, Loads, Adds, Subtracts}
 
--- The site is the key's: it has the key's hash, and the word of the first slot of the key's row, where there are eight words for each row.
+-- The site is the key's: it has the key's hash, and the word of the first slot of the key's row,
+-- where there are eight words for each row.
 pub record IsSiteOf (site : Site) (key : Key) (words : ℕ) : Type 0 where
   pub hash : site.hash ≡ hash_of key.0
   pub inside : site.word + 8 ≤ words
@@ -24,7 +25,8 @@ abbrev pub AddsKept : RowSeatView → Kept → RowSeatView → Type 0
 AddsKept before Unkept after = after ≡ before
 AddsKept before (Slot slot) after = (slot < 8) × Adds before slot after
 
--- The key's row enters the key as rows do, by the counts that are loaded; then one worker more is below its slot.
+-- The key's row enters the key as rows do, by the counts that are loaded; then one worker more is
+-- below its slot.
 pub record EntersAndAdds (rows : ShardRows) (seat : RowSeatView) (key : Key) (numbers : Numbers) (kept : Kept) (later : ShardRows) (last : RowSeatView) : Type 0 where
   pub between : RowSeatView
   pub enters : EntersInBy Loads rows key numbers seat kept later between
@@ -41,7 +43,8 @@ abbrev pub SubtractsKept : RowSeatView → Kept → RowSeatView → Type 0
 SubtractsKept before Unkept after = after ≡ before
 SubtractsKept before (Slot slot) after = Subtracts before slot after
 
--- The slot's entry is updated where it is the key's, else nothing changes; and one worker less is below the slot.
+-- The slot's entry is updated where it is the key's, else nothing changes; and one worker less is
+-- below the slot.
 pub record LeavesAndSubtracts (rows : ShardRows) (seat : RowSeatView) (kept : Kept) (key : Key) (update : Update) (later : ShardRows) (last : RowSeatView) : Type 0 where
   pub left : IsLeftIn rows kept key update later
   pub subtracts : SubtractsKept seat kept last

@@ -8,7 +8,8 @@ use Rattle.table_shard.specs.Row.{IsRow}
 abbrev pub ShardRows : Type 0
 ShardRows = List (List EntryView)
 
--- What is kept of a shard: it has a row, each row is kept as rows are, and all notes are for the attacker.
+-- What is kept of a shard: it has a row, each row is kept as rows are, and all notes are for the
+-- attacker.
 pub record IsKept (attacker : Side) (rows : ShardRows) : Type 0 where
   pub some : 0 < length rows
   pub rows_kept : All IsRow rows
@@ -20,7 +21,8 @@ pub record Ran (attacker : Side) (ran : ShardRows → ShardRows → Type 0) (old
   pub after : IsKept attacker new
   pub did : ran old new
 
--- Where shards are told, the task ran on the one of this number, and all others stay; where they aren't, it ran on some shard.
+-- Where shards are told, the task ran on the one of this number, and all others stay; where they
+-- aren't, it ran on some shard.
 abbrev pub RanOn : Side → Option (List ShardRows) → Option (List ShardRows) → ℕ → (ShardRows → ShardRows → Type 0) → Type 0
 RanOn attacker None later shard ran = (later ≡ None) × ((old : ShardRows) × (new : ShardRows) × Ran attacker ran old new)
 RanOn attacker (Some shards) later shard ran =

@@ -1,4 +1,5 @@
--- A seat at the words of a table: the row where it is asked, and what each step on a slot's word does to it.
+-- A seat at the words of a table: the row where it is asked, and what each step on a slot's word
+-- does to it.
 use Rattle.std.specs.Prelude.{◌≡◌, ◌+◌, ◌≤◌, ℕ}
 use Rattle.worker_counts.specs.Counts.{SeatView, times, after_load, after_add, after_subtract}
 
@@ -15,7 +16,8 @@ at_row before word = record before { row = word }
 abbrev pub word_at : RowSeatView → ℕ → ℕ
 word_at s slot = s.row + slot
 
--- A seat at the same row of the same words that has added the same, and has as many parts: it may have loaded more.
+-- A seat at the same row of the same words that has added the same, and has as many parts: it may
+-- have loaded more.
 pub record IsSameSeat (before after : RowSeatView) : Type 0 where
   pub row : after.row ≡ before.row
   pub counts : after.seat.counts ≡ before.seat.counts

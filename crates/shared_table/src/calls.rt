@@ -19,8 +19,9 @@ use pn_numbers::Numbers;
 use std::alloc::AllocError;
 use table_shard::Site;
 
-/// What a shard shows of a position, whose site this is, to a worker on the path: where it shows numbers, the count of the slot's word is loaded for it, and else none
-/// is. Errors: want of memory alone.
+/// What a shard shows of a position, whose site this is, to a worker on the path: where it shows
+/// numbers, the count of the slot's word is loaded for it, and else none is. Errors: want of memory
+/// alone.
 pub fn look_in<J: Job>(
     shard: &JobShard<J>,
     seat: &mut RowSeat<'_>,
@@ -29,7 +30,9 @@ pub fn look_in<J: Job>(
     path: &Path,
 ) -> Result<Seen, AllocError>
     requires site { IsSiteOf site key.now seat.old.seat.counts.words }
-    ensures looks { MatchResult result (λ seen. LooksBy Loads (row_of shard.now key.now) key.now path.now (at_row seat.old site.word) seen seat.new) (λ _. at_row seat.old site.word ≡ seat.new) }
+    ensures looks { MatchResult result
+        (λ seen. LooksBy Loads (row_of shard.now key.now) key.now path.now
+        (at_row seat.old site.word) seen seat.new) (λ _. at_row seat.old site.word ≡ seat.new) }
     ensures may { IfOk result (MayShow J.ATTACKER key.now path.now) }
     ensures same { IsSameSeat (at_row seat.old site.word) seat.new }
 {
@@ -37,8 +40,10 @@ pub fn look_in<J: Job>(
     shard.look(site.hash, key, path, seat)
 }
 
-/// Enters a position, whose site this is, as a shard does; where an entry has to be given up for it, the counts of the row's eight words are loaded, in their order, and
-/// else none is. One worker more is below the slot that is answered. The seat must have added fewer than `MOST_ADDED` so far. Takes no memory.
+/// Enters a position, whose site this is, as a shard does; where an entry has to be given up for
+/// it, the counts of the row's eight words are loaded, in their order, and else none is. One worker
+/// more is below the slot that is answered. The seat must have added fewer than `MOST_ADDED` so
+/// far. Takes no memory.
 pub fn enter_in<J: Job>(
     shard: &mut JobShard<J>,
     seat: &mut RowSeat<'_>,
@@ -49,7 +54,8 @@ pub fn enter_in<J: Job>(
     requires site { IsSiteOf site key.now seat.old.seat.counts.words }
     requires open { IsOpen numbers }
     requires room { length seat.old.seat.view.added < MOST_ADDED }
-    ensures { EntersAndAdds shard.old (at_row seat.old site.word) key.now numbers result shard.new seat.new }
+    ensures { EntersAndAdds shard.old (at_row seat.old site.word) key.now numbers result shard.new
+        seat.new }
 {
     seat.go_to(site.word);
     let kept = shard.enter(site.hash, key, numbers, seat);
@@ -60,8 +66,9 @@ pub fn enter_in<J: Job>(
     kept
 }
 
-/// Leaves a position, whose site this is, that was entered so, with an update, as a shard does: where its entry is in the slot no more, nothing is updated. One worker
-/// less is below the slot all the same. Takes no memory.
+/// Leaves a position, whose site this is, that was entered so, with an update, as a shard does:
+/// where its entry is in the slot no more, nothing is updated. One worker less is below the slot
+/// all the same. Takes no memory.
 pub fn leave_in<J: Job>(
     shard: &mut JobShard<J>,
     seat: &mut RowSeat<'_>,
@@ -73,7 +80,8 @@ pub fn leave_in<J: Job>(
     requires site { IsSiteOf site key.now seat.old.seat.counts.words }
     requires sound { IsSoundUpdate J.ATTACKER key.now update }
     requires may { MayLeave (at_row seat.old site.word) kept }
-    ensures { LeavesAndSubtracts shard.old (at_row seat.old site.word) kept key.now update shard.new seat.new }
+    ensures { LeavesAndSubtracts shard.old (at_row seat.old site.word) kept key.now update shard.new
+        seat.new }
 {
     seat.go_to(site.word);
     if let Kept::Slot(slot) = kept {

@@ -47,11 +47,12 @@ pub trait Rows<J: Job> {
         requires below { shard < count self.old }
         requires ready { T.ready task.old }
         ensures count { count self.new ≡ count self.old }
-        ensures ran { RanOn J.ATTACKER (shards self.old) (shards self.new) shard (λ before after. T.ran task.old before task.new after) };
+        ensures ran { RanOn J.ATTACKER (shards self.old) (shards self.new) shard
+            (λ before after. T.ran task.old before task.new after) };
 }
 
-/// Shards behind locks, which threads share. A lock is held for one task, and nothing of the rows is told to proofs but that the task ran
-/// between two shards that the type keeps.
+/// Shards behind locks, which threads share. A lock is held for one task, and nothing of the rows
+/// is told to proofs but that the task ran between two shards that the type keeps.
 #[derive(Drop)]
 pub struct LockedRows<'a, J: Job, R: Wait> {
     wait: &'a R,
@@ -84,7 +85,8 @@ impl<'a, J: Job, R: Wait> Rows<J> for LockedRows<'a, J, R> {
     }
 }
 
-/// Shards in a list, which one worker at a time has to itself. What each task does to the rows is told to proofs.
+/// Shards in a list, which one worker at a time has to itself. What each task does to the rows is
+/// told to proofs.
 #[derive(Drop)]
 pub struct PlainRows<J: Job> {
     shards: Vec<JobShard<J>>,

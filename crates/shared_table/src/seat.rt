@@ -8,8 +8,9 @@ use std::marker::Model;
 use table_shard::Pins;
 use worker_counts::{CountSeat, WorkerCounts};
 
-/// A worker's seat at the words that count workers, and the row of the table whose slots it is asked about: it tells how many workers are below a slot by
-/// loading the slot's word, each time that it is asked.
+/// A worker's seat at the words that count workers, and the row of the table whose slots it is
+/// asked about: it tells how many workers are below a slot by loading the slot's word, each time
+/// that it is asked.
 ///
 /// It keeps that it is a seat of these words, and that the eight words of its row are among them.
 #[derive(Drop)]
@@ -32,7 +33,8 @@ impl<'a> Model for RowSeat<'a> {
 }
 
 impl<'a> RowSeat<'a> {
-    /// The seat at these words, at the first row, which there must be; there are at most 2 ^ 43 words. Takes no memory.
+    /// The seat at these words, at the first row, which there must be; there are at most 2 ^ 43
+    /// words. Takes no memory.
     pub fn new(words: &'a WorkerCounts, seat: CountSeat) -> RowSeat<'a>
         requires seat { seat.counts ≡ words.now }
         requires row { 8 ≤ words.now.words }
@@ -72,7 +74,8 @@ impl<'a> RowSeat<'a> {
         self.words.subtract(&mut self.seat, self.row + slot);
     }
 
-    /// What is kept of the seat at the words. Does nothing; whoever wants to know this of it calls it.
+    /// What is kept of the seat at the words. Does nothing; whoever wants to know this of it calls
+    /// it.
     pub fn laws(&self)
         ensures few { length self.now.seat.view.added ≤ MOST_ADDED }
         ensures row { self.now.row + 8 ≤ self.now.seat.counts.words }

@@ -40,7 +40,8 @@ impl<J: Job> Model for JobShard<J> {
 }
 
 impl<J: Job> JobShard<J> {
-    /// A shard of so many rows, at least one, that knows nothing yet: about 912 bytes a row. Errors: want of memory alone.
+    /// A shard of so many rows, at least one, that knows nothing yet: about 912 bytes a row.
+    /// Errors: want of memory alone.
     pub fn make(alloc: Global, rows: usize) -> Result<JobShard<J>, AllocError>
         requires { 0 < rows }
         ensures { IfOk result (λ shard. shard ≡ replicate rows []) }
@@ -51,7 +52,8 @@ impl<J: Job> JobShard<J> {
         })
     }
 
-    /// What the type keeps. Does nothing; whoever wants to know this of a shard calls it. Takes no memory.
+    /// What the type keeps. Does nothing; whoever wants to know this of a shard calls it. Takes no
+    /// memory.
     pub fn laws(&self)
         ensures some { 0 < length self.now }
         ensures rows { All IsRow self.now }
@@ -60,8 +62,8 @@ impl<J: Job> JobShard<J> {
         self.shard.laws();
     }
 
-    /// The same rows for a search of another attacker: all entries are taken out, in the time of the rows that have some. Takes no
-    /// memory.
+    /// The same rows for a search of another attacker: all entries are taken out, in the time of
+    /// the rows that have some. Takes no memory.
     pub fn turned<K: Job>(self) -> JobShard<K>
         ensures { result ≡ replicate (length self) [] }
     {
@@ -73,8 +75,9 @@ impl<J: Job> JobShard<J> {
         }
     }
 
-    /// What the key's row shows, by the key's hash, to a worker on the path, as `Shard::look` has it; a note is about the key's position, for the attacker, and
-    /// holds on the path. Errors: want of memory alone; then nothing was asked.
+    /// What the key's row shows, by the key's hash, to a worker on the path, as `Shard::look` has
+    /// it; a note is about the key's position, for the attacker, and holds on the path. Errors:
+    /// want of memory alone; then nothing was asked.
     pub fn look<P: Pins>(
         &self,
         hash: u64,
@@ -85,7 +88,9 @@ impl<J: Job> JobShard<J> {
         requires hash { hash ≡ hash_of key.now.0 }
         requires ready { P.ready pins.old }
         ensures ready { P.ready pins.new }
-        ensures looks { MatchResult result (λ seen. LooksBy P.told (row_of self.now key.now) key.now path.now pins.old seen pins.new) (λ _. pins.old ≡ pins.new) }
+        ensures looks { MatchResult result
+            (λ seen. LooksBy P.told (row_of self.now key.now) key.now path.now pins.old seen
+            pins.new) (λ _. pins.old ≡ pins.new) }
         ensures may { IfOk result (MayShow J.ATTACKER key.now path.now) }
     {
         self.laws();
@@ -99,7 +104,8 @@ impl<J: Job> JobShard<J> {
         requires ready { P.ready pins.old }
         requires open { IsOpen numbers }
         ensures ready { P.ready pins.new }
-        ensures entered { EntersInBy P.told self.old key.now numbers pins.old result self.new pins.new }
+        ensures entered { EntersInBy P.told self.old key.now numbers pins.old result self.new
+            pins.new }
         ensures kept { IsKeptAt (row_of self.new key.now) key.now result }
         ensures some { 0 < length self.new }
         ensures slots { All IsRow self.new }
@@ -111,8 +117,9 @@ impl<J: Job> JobShard<J> {
         kept
     }
 
-    /// Leaves a position for which entering was answered this slot, with numbers from 1 to the cap, or with a note about it for the attacker: where the slot has
-    /// its entry, that is updated as `Shard::leave` has it; where it hasn't, nothing changes. Takes no memory.
+    /// Leaves a position for which entering was answered this slot, with numbers from 1 to the cap,
+    /// or with a note about it for the attacker: where the slot has its entry, that is updated as
+    /// `Shard::leave` has it; where it hasn't, nothing changes. Takes no memory.
     pub fn leave(&mut self, hash: u64, slot: u8, key: &Key, update: Update)
         requires hash { hash ≡ hash_of key.now.0 }
         requires sound { IsSoundUpdate J.ATTACKER key.now update }

@@ -13,11 +13,12 @@ use std::marker::Model;
 use std::sync::{Mutex, Wait};
 use worker_counts::{ClosedCounts, CountSeat, WorkerCounts};
 
-/// All shards of the table of a search, each behind a lock that lies on lines of memory of its own, and the words that count workers. It can be emptied for
-/// another search, whose attacker is `K`'s.
+/// All shards of the table of a search, each behind a lock that lies on lines of memory of its own,
+/// and the words that count workers. It can be emptied for another search, whose attacker is `K`'s.
 ///
-/// Contracts see which words it has, in how many shards it is cut, and for how many rows of each shard there are words. Of what stands behind the locks they see
-/// what a [`JobShard`] keeps, and no more: that a shard has these rows, and is empty where it is said to be, is shown by a test.
+/// Contracts see which words it has, in how many shards it is cut, and for how many rows of each
+/// shard there are words. Of what stands behind the locks they see what a [`JobShard`] keeps, and
+/// no more: that a shard has these rows, and is empty where it is said to be, is shown by a test.
 #[derive(Drop)]
 pub struct SharedTable<J: Job, K: Job> {
     shards: Vec<CachePadded<Mutex<JobShard<J>>>>,
@@ -50,16 +51,17 @@ fn locked<J: Job>(shard: JobShard<J>) -> CachePadded<Mutex<JobShard<J>>> {
 }
 
 impl<J: Job, K: Job> SharedTable<J, K> {
-    /// A table with the shards and the rows of the settings, which knows nothing (what its locks hold contracts don't see), and the first seat at its words,
-    /// which has every part. Takes all its memory but
-    /// for that of the notes: about 1 KB a row. Errors: want of memory alone.
+    /// A table with the shards and the rows of the settings, which knows nothing (what its locks
+    /// hold contracts don't see), and the first seat at its words, which has every part. Takes all
+    /// its memory but for that of the notes: about 1 KB a row. Errors: want of memory alone.
     pub fn make(
         alloc: Global,
         settings: &Settings,
     ) -> Result<(SharedTable<J, K>, CountSeat), AllocError>
         ensures shards { IfOk result (λ made. made.0.shards ≡ settings.now.shards) }
         ensures rows { IfOk result (λ made. made.0.shards * made.0.own ≡ settings.now.rows) }
-        ensures seat { IfOk result (λ made. made.1 ≡ record { counts = made.0.words; view = whole }) }
+        ensures seat { IfOk result (λ made. made.1
+            ≡ record { counts = made.0.words; view = whole }) }
     {
         let count = settings.shards as usize;
         let own = (settings.rows / settings.shards) as usize;
@@ -78,8 +80,8 @@ impl<J: Job, K: Job> SharedTable<J, K> {
         Ok((table, seat))
     }
 
-    /// What the type keeps: it has a shard, each shard has a row, and there are eight words for each row. Does nothing; whoever wants to know this of a table
-    /// calls it. Takes no memory.
+    /// What the type keeps: it has a shard, each shard has a row, and there are eight words for
+    /// each row. Does nothing; whoever wants to know this of a table calls it. Takes no memory.
     pub fn laws(&self)
         ensures shards { 0 < self.now.shards }
         ensures own { 0 < self.now.own }
@@ -117,8 +119,8 @@ impl<J: Job, K: Job> SharedTable<J, K> {
         &self.words
     }
 
-    /// The same table for a search of the other attacker: all entries are taken out, in the time of the rows that have some. What seats have added to the words
-    /// stays. Takes no memory.
+    /// The same table for a search of the other attacker: all entries are taken out, in the time of
+    /// the rows that have some. What seats have added to the words stays. Takes no memory.
     pub fn turned(self) -> SharedTable<K, J>
         ensures { result ≡ self }
     {
@@ -146,13 +148,15 @@ impl<J: Job, K: Job> SharedTable<J, K> {
         self.turned().turned()
     }
 
-    /// Lets the table go, and tells the words as they stand once all seats are joined to one: each is how often that seat has added to it and not subtracted from
-    /// it since. Where it has subtracted all that was added, each is zero.
+    /// Lets the table go, and tells the words as they stand once all seats are joined to one: each
+    /// is how often that seat has added to it and not subtracted from it since. Where it has
+    /// subtracted all that was added, each is zero.
     pub fn close(self, seat: CountSeat) -> ClosedCounts
         requires seat { seat.counts ≡ self.words }
         requires every_part { seat.view.parts ≡ MOST_SEATS }
         ensures words { length result ≡ 8 * (self.shards * self.own) }
-        ensures counts { (word : ℕ) → word < 8 * (self.shards * self.own) → slice_index result word ≡ times word seat.view.added }
+        ensures counts { (word : ℕ) → word < 8 * (self.shards * self.own)
+            → slice_index result word ≡ times word seat.view.added }
         ensures zero { seat.view.added ≡ [] → result ≡ replicate (8 * (self.shards * self.own)) 0 }
     {
         let SharedTable {

@@ -22,7 +22,8 @@ fn told(end: &SearchEnd) -> (Option<Conclusion>, Option<Cause>) {
     }
 }
 
-// How many workers a search brought with its cause, and how many units and notes they have together.
+// How many workers a search brought with its cause, and how many units and notes they have
+// together.
 fn crew_of(end: &SearchEnd) -> (usize, u64, u64) {
     match end {
         SearchEnd::Solved(_) => (0, 0, 0),
@@ -50,7 +51,8 @@ fn quiet(alloc: Global) -> Result<Vec<QuietStop>, AllocError>
 fn a_crew_ends_as_it_should(rt: HostRuntime) -> Result<(), Fail> {
     let mate = (Some(Conclusion::Mate), None);
     let escape = (Some(Conclusion::Escape), None);
-    // The problem, its workers, units and notes, how its search ends, and what its crew is, has drawn and has claimed.
+    // The problem, its workers, units and notes, how its search ends, and what its crew is, has
+    // drawn and has claimed.
     let rows = [
         (GOLD, 4, 1_000, 100, mate, (0, 0, 0)),
         (WHITE, 3, 1_000, 100, mate, (0, 0, 0)),
@@ -161,12 +163,14 @@ fn each_worker_heeds_its_own_stop(rt: HostRuntime) -> Result<(), Fail> {
     Ok(())
 }
 
-// How long a worker waits in a gate for another one: so many rounds of so many looks, behind each of which it lets others run.
+// How long a worker waits in a gate for another one: so many rounds of so many looks, behind each
+// of which it lets others run.
 const ROUNDS: u32 = 100_000;
 
 const LOOKS: u32 = 10_000;
 
-// Holds each of two workers at its first unit till the other one has drawn one too, or it has waited long enough.
+// Holds each of two workers at its first unit till the other one has drawn one too, or it has
+// waited long enough.
 #[derive(Drop)]
 struct Meeting {
     first: AtomicU64,

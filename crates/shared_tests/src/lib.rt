@@ -1,7 +1,8 @@
-//! Tests of what threads share: counts of workers, a desk whose counts are words, and jobs that are done side by side.
+//! Tests of what threads share: counts of workers, a desk whose counts are words, and jobs that are
+//! done side by side.
 //!
-//! They call public calls alone. They stand apart from the other tests of the search, so that those aren't proved anew where a word
-//! changes. Without tests this crate is empty.
+//! They call public calls alone. They stand apart from the other tests of the search, so that those
+//! aren't proved anew where a word changes. Without tests this crate is empty.
 #![tactic(auto)]
 
 #[cfg(test)]

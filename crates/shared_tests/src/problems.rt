@@ -16,8 +16,8 @@ pub(crate) fn settings(rt: &impl Abort, expansions: u64, room: u32) -> Settings 
     Settings::new(64, expansions, room, 16, 1).expect(rt, "settings")
 }
 
-// Two rooks: a mate in three, since a rook is dropped far off on the king's row, and the other one follows it to
-// the last.
+// Two rooks: a mate in three, since a rook is dropped far off on the king's row, and the other one
+// follows it to the last.
 pub(crate) const ROOKS: &str = "9/4k4/8R/9/9/9/9/9/9 b R";
 
 // A mate in one by a gold, which a pawn guards.

@@ -53,7 +53,8 @@ impl Jobs for Numbers {
     }
 }
 
-// Has a team of this size do jobs, of which so many are refused, and tells whether each is answered at its place.
+// Has a team of this size do jobs, of which so many are refused, and tells whether each is answered
+// at its place.
 fn are_answered<R: Threads + Sync>(
     rt: &R,
     alloc: Global,

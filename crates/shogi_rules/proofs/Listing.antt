@@ -27,7 +27,8 @@ wanted_from origins w attacker b from within other (moves.Board f t p) h low hig
     wanted_legal w attacker b _ h NotThere (λ own. other (subst (λ (s : ℕ). IsOwn b s) same own))
 wanted_from origins w attacker b from within other (moves.Drop k t) h low high = omega arith
 
--- a wanted move in the stretch of a kind's drops is a drop of that kind, which the mover has in hand
+-- a wanted move in the stretch of a kind's drops is a drop of that kind, which the mover has in
+-- hand
 pub wanted_drop : OrdersByOrigin → PlacesApart → (w : Wanted) (attacker : Side) (b : Board) (k : Kind) → hand_count (hand_of b b.side) k ≡ 0
     → (m : Move) → IsWanted w attacker b m
     → 13122 + 81 * place_of k ≤ order_of m → order_of m < 13122 + 81 * place_of k + 81 → ⊥

@@ -7,8 +7,9 @@ use Rattle.board_core.specs.Board.{Board, piece_at, hand_count, hand_of}
 use Rattle.shogi_rules.specs.Rules.{IsOwn, Fits, IsClear, PromotionFits, IsInCheck, after_board, after_drop, HasPawnOnFile, IsPawnMate, RefusesBoard, RefusesDrop}
 use Rattle.shogi_rules.specs.declared.illegal.Illegal.{Illegal}
 
--- What a legal move on the board has: a piece of the mover on the origin, none on the destination; the piece goes there, nothing stands
--- between, it may be promoted so, or stay so; and the mover's king isn't attacked after it.
+-- What a legal move on the board has: a piece of the mover on the origin, none on the destination;
+-- the piece goes there, nothing stands between, it may be promoted so, or stay so; and the mover's
+-- king isn't attacked after it.
 pub record CanGo (b : Board) (from to : ℕ) (promote : Bool) : Type 0 where
   pub own : IsOwn b from
   pub free : ¬ IsOwn b to
@@ -17,8 +18,9 @@ pub record CanGo (b : Board) (from to : ℕ) (promote : Bool) : Type 0 where
   pub promotion : PromotionFits b from to promote
   pub safe : ¬ IsInCheck (after_board b from to promote).cells b.side
 
--- What a legal drop has: the square is empty, the piece is in hand and could move from there, it is no second pawn on the file; the
--- mover's king isn't attacked after it, and it is no mate by a dropped pawn.
+-- What a legal drop has: the square is empty, the piece is in hand and could move from there, it is
+-- no second pawn on the file; the mover's king isn't attacked after it, and it is no mate by a
+-- dropped pawn.
 pub record CanDrop (b : Board) (kind : Kind) (to : ℕ) : Type 0 where
   pub empty : piece_at b.cells to ≡ None
   pub in_hand : 0 < hand_count (hand_of b b.side) kind

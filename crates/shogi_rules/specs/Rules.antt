@@ -1,5 +1,6 @@
--- The rules of shogi, in the order in which one learns them: how the pieces move, what a move on the board and a drop do,
--- promotion, check, why a move may not be made, and the mate by a dropped pawn.
+-- The rules of shogi, in the order in which one learns them: how the pieces move, what a move on
+-- the board and a drop do, promotion, check, why a move may not be made, and the mate by a dropped
+-- pawn.
 use Rattle.std.specs.Prelude.{◌≡◌, ◌≢◌, ◌<◌, ◌+◌, ◌/◌, ◌&&◌, ◌||◌, ℕ, List, Option, Some, None, Bool, true, false, not, Result, Ok, Err, nat_le, IsTrue, IsSome, IsSomeAnd, refl}
 use Rattle.std.specs.Option.{option_map}
 use Rattle.bit_boards.specs.declared.piece.Kind.{Kind}
@@ -16,7 +17,8 @@ use Rattle.board_core.specs.Board.{Board, piece_at, hand_count, hand_of, with_mo
 use Rattle.shogi_rules.specs.declared.illegal.Illegal.{Illegal}
 use Rattle.shogi_rules.specs.declared.illegal.Illegal.TheVariants.{NotThere, OwnPiece, NoStep, Blocked, BadPromotion, Occupied, NotInHand, DeadDrop, TwoPawns, KingLeft, PawnMate}
 
--- 1. MOVEMENT. How a piece moves on an empty board is said in `bit_boards`; here, over what stands between.
+-- 1. MOVEMENT. How a piece moves on an empty board is said in `bit_boards`; here, over what stands
+-- between.
 
 -- Every square strictly between the two is empty.
 abbrev pub IsClear : List (Option Piece) → ℕ → ℕ → Type 0
@@ -29,13 +31,15 @@ pub record Reaches (cells : List (Option Piece)) (piece : Piece) (from to : ℕ)
 
 -- 2. WHAT A MOVE DOES.
 
--- A piece that was promoted, or that its move promotes where its kind can be, is of a kind that can be.
+-- A piece that was promoted, or that its move promotes where its kind can be, is of a kind that can
+-- be.
 pub promotes_or : (p q c : Bool) → (p ≡ true → c ≡ true) → (p || (q && c)) ≡ true → c ≡ true
 promotes_or true q c h e = h refl
 promotes_or false true c h e = e
 promotes_or false false c h e = absurd (cc)
 
--- A piece as it stands after its move: promoted if it was, or if the move promotes it and its kind can be.
+-- A piece as it stands after its move: promoted if it was, or if the move promotes it and its kind
+-- can be.
 abbrev pub landed_piece : Bool → Piece → Piece
 landed_piece promote piece = record {
   kind = piece.kind;
@@ -49,8 +53,8 @@ abbrev pub hand_with_capture : Option Piece → List ℕ → List ℕ
 hand_with_capture None hand = hand
 hand_with_capture (Some piece) hand = with_more hand piece.kind
 
--- After a move on the board the origin is empty, the piece stands on the destination, what stood there is in the mover's
--- hand, and the other side is to move.
+-- After a move on the board the origin is empty, the piece stands on the destination, what stood
+-- there is in the mover's hand, and the other side is to move.
 abbrev pub after_board : Board → ℕ → ℕ → Bool → Board
 after_board b from to promote =
     with_turn_passed (with_hand
@@ -58,13 +62,15 @@ after_board b from to promote =
     b.side
     (hand_with_capture (piece_at b.cells to) (hand_of b b.side)))
 
--- After a drop the piece stands on the square, the mover's hand has one less of it, and the other side is to move.
+-- After a drop the piece stands on the square, the mover's hand has one less of it, and the other
+-- side is to move.
 abbrev pub after_drop : Board → Kind → ℕ → Board
 after_drop b kind to =
     with_turn_passed (with_hand (with_cell b to (Some (plain_piece kind b.side))) b.side (with_less (hand_of b b.side) kind))
 
--- One cell and one count changed: the piece stands where nothing stood, the mover has one less of its kind, and every other
--- cell, every other count of his hand and the other hand are as they were.
+-- One cell and one count changed: the piece stands where nothing stood, the mover has one less of
+-- its kind, and every other cell, every other count of his hand and the other hand are as they
+-- were.
 pub record IsDropped (old new : Board) (kind : Kind) (to : ℕ) : Type 0 where
   pub was_empty : piece_at old.cells to ≡ None
   pub stands : piece_at new.cells to ≡ Some (plain_piece kind old.side)
@@ -84,8 +90,9 @@ after b (moves.Drop kind to) = after_drop b kind to.number
 abbrev pub is_in_zone : Side → ℕ → Bool
 is_in_zone side square = nat_le 6 (height side square)
 
--- A piece may be promoted once, where its kind can be, by a move that starts or ends in the last three rows. It may stay
--- unpromoted where it could move again: a pawn and a lance not on the last row, a knight not on the last two.
+-- A piece may be promoted once, where its kind can be, by a move that starts or ends in the last
+-- three rows. It may stay unpromoted where it could move again: a pawn and a lance not on the last
+-- row, a knight not on the last two.
 abbrev pub promotion_fits : Piece → ℕ → ℕ → Bool → Bool
 promotion_fits piece from to true = (not piece.promoted && can_promote piece.kind) && (is_in_zone piece.side from || is_in_zone piece.side to)
 promotion_fits piece from to false = not (is_dead to (Some piece))
@@ -127,9 +134,10 @@ Fits b from to = IsSomeAnd (piece_at b.cells from) (λ piece. IsTrue (fits piece
 abbrev pub PromotionFits : Board → ℕ → ℕ → Bool → Type 0
 PromotionFits b from to promote = IsSomeAnd (piece_at b.cells from) (λ piece. IsTrue (promotion_fits piece from to promote))
 
--- A reason against a move on the board. NotThere: no piece of the mover stands on the origin. OwnPiece: one stands on the
--- destination. NoStep: the piece doesn't go there on an empty board. Blocked: a piece stands between. BadPromotion: it may
--- not be promoted, or has to be. KingLeft: the mover's king would be attacked.
+-- A reason against a move on the board. NotThere: no piece of the mover stands on the origin.
+-- OwnPiece: one stands on the destination. NoStep: the piece doesn't go there on an empty board.
+-- Blocked: a piece stands between. BadPromotion: it may not be promoted, or has to be. KingLeft:
+-- the mover's king would be attacked.
 abbrev pub RefusesBoard : Board → ℕ → ℕ → Bool → Illegal → Type 0
 RefusesBoard b from to promote NotThere = ¬ IsOwn b from
 RefusesBoard b from to promote OwnPiece = IsOwn b to
@@ -161,16 +169,18 @@ pub record BoardMove (b : Board) : Type 0 where
   pub to_on_board : to < 81
   pub stands : (why : Illegal) → ¬ RefusesBoard b from to promote why
 
--- Mate by a dropped pawn: the piece is a pawn, its drop gives check, and the other side has no move on the board then
--- that leaves its king safe. (Drops needn't be tried: the pawn stands beside the king.)
+-- Mate by a dropped pawn: the piece is a pawn, its drop gives check, and the other side has no move
+-- on the board then that leaves its king safe. (Drops needn't be tried: the pawn stands beside the
+-- king.)
 pub record IsPawnMate (b : Board) (kind : Kind) (to : ℕ) : Type 0 where
   pub pawn : kind ≡ Pawn
   pub check : IsInCheck (after_drop b kind to).cells (other b.side)
   pub no_move : ¬ BoardMove (after_drop b kind to)
 
--- A reason against a drop. Occupied: the square isn't empty. NotInHand: the mover has none of the kind in hand; he never has
--- a king there. DeadDrop: the piece could never move from there. TwoPawns: it is a pawn, and an unpromoted one of the
--- mover stands on the file. KingLeft: the mover's king would be attacked. PawnMate: it is mate by a dropped pawn.
+-- A reason against a drop. Occupied: the square isn't empty. NotInHand: the mover has none of the
+-- kind in hand; he never has a king there. DeadDrop: the piece could never move from there.
+-- TwoPawns: it is a pawn, and an unpromoted one of the mover stands on the file. KingLeft: the
+-- mover's king would be attacked. PawnMate: it is mate by a dropped pawn.
 abbrev pub RefusesDrop : Board → Kind → ℕ → Illegal → Type 0
 RefusesDrop b k to NotThere = ⊥
 RefusesDrop b k to OwnPiece = ⊥

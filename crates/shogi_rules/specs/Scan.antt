@@ -16,7 +16,8 @@ pub record GoesFrom (b : Board) (from : ℕ) : Type 0 where
   pub on_board : to < 81
   pub goes : GoesTo b from to
 
--- The side to move is in check after a pawn's drop, and has no move on the board that leaves its king safe.
+-- The side to move is in check after a pawn's drop, and has no move on the board that leaves its
+-- king safe.
 pub record IsStuck (b : Board) (kind : Kind) : Type 0 where
   pub pawn : kind ≡ Pawn
   pub check : IsInCheck b.cells b.side

@@ -18,10 +18,13 @@ fn attacks_from(position: &Position, side: Side, from: Square, to: Square) -> bo
     }
 }
 
-/// Squares with pieces of a side, among them all whose piece would go to the square on an empty board: those near it, and of
-/// pieces that slide those on its lines. Takes no memory. (Rules of shogi: movement of the pieces.)
+/// Squares with pieces of a side, among them all whose piece would go to the square on an empty
+/// board: those near it, and of pieces that slide those on its lines. Takes no memory. (Rules of
+/// shogi: movement of the pieces.)
 pub fn candidates(position: &Position, side: Side, to: Square) -> Mask
-    ensures { (from : ℕ) → from < 81 → IsSomeAnd (piece_at position.now.cells from) (λ piece. (piece.side ≡ side) × IsTrue (fits piece from to.number)) → Holds result from }
+    ensures { (from : ℕ) → from < 81
+        → IsSomeAnd (piece_at position.now.cells from) (λ piece. (piece.side ≡ side)
+        × IsTrue (fits piece from to.number)) → Holds result from }
 {
     // A step goes to a near square, and a slide along a line.
     mask_laws();
@@ -41,16 +44,16 @@ fn attacks(position: &Position, side: Side, to: Square) -> bool
     false
 }
 
-/// Whether a piece of `by` attacks the square: it would reach it by one step or slide, whatever stands there. Takes no
-/// memory. (Rules of shogi: movement of the pieces.)
+/// Whether a piece of `by` attacks the square: it would reach it by one step or slide, whatever
+/// stands there. Takes no memory. (Rules of shogi: movement of the pieces.)
 pub fn attacked(position: &Position, square: Square, by: Side) -> bool
     ensures { IsTrue result ↔ Attacks position.now.cells by square.number }
 {
     attacks(position, by, square)
 }
 
-/// Whether the side is in check: its king is attacked by the other side. A side without a king never is. Takes no memory.
-/// (Rules of shogi: check.)
+/// Whether the side is in check: its king is attacked by the other side. A side without a king
+/// never is. Takes no memory. (Rules of shogi: check.)
 pub fn in_check(position: &Position, side: Side) -> bool
     ensures check { IsTrue result ↔ IsInCheck position.now.cells side }
 

@@ -1,6 +1,7 @@
 // Why a move may not be made.
 
-/// Why a move isn't legal. [`crate::legal`] names the first reason that holds, in the order of the variants.
+/// Why a move isn't legal. [`crate::legal`] names the first reason that holds, in the order of the
+/// variants.
 #[derive(Clone, Copy, PartialEq, Eq, PartialOrd, Ord, Debug)]
 pub enum Illegal {
     /// A move on the board: no piece of the mover stands on the origin.

@@ -11,7 +11,8 @@ use board_core::{Key, Kind, Move, Piece, Position, Side, Square};
 
 // A captured piece, where there is one, goes into the side's hand.
 fn capture(key: &mut Key, side: Side, captured: Option<Piece>)
-    ensures { (b : Board) → IsKept b → key.old.0 ≡ key_of b → key.new.0 ≡ key_of (with_hand b side (hand_with_capture captured (hand_of b side))) }
+    ensures { (b : Board) → IsKept b → key.old.0 ≡ key_of b → key.new.0
+        ≡ key_of (with_hand b side (hand_with_capture captured (hand_of b side))) }
 {
     if let Some(piece) = captured {
         key.gain(side, piece.kind);
@@ -58,10 +59,10 @@ fn key_after_drop(position: &Position, key: &Key, kind: Kind, to: Square) -> Key
     next
 }
 
-/// The key of the position after a legal move, from the key of the position before it. The position after the move isn't
-/// made, so this costs a small part of what [`apply`](crate::apply) costs: at most three of the eight words change. It is a
-/// position that keeps what every position keeps, so its key is no other one's.
-/// Takes no memory.
+/// The key of the position after a legal move, from the key of the position before it. The position
+/// after the move isn't made, so this costs a small part of what [`apply`](crate::apply) costs: at
+/// most three of the eight words change. It is a position that keeps what every position keeps, so
+/// its key is no other one's. Takes no memory.
 pub fn key_after(position: &Position, key: &Key, by: Move) -> Key
     requires legal { IsLegal position.now by }
     requires key { key.now.0 ≡ key_of position.now }

@@ -192,10 +192,12 @@ fn legal_drop(position: &Position, kind: Kind, to: Square) -> Result<(), Illegal
     Ok(())
 }
 
-/// Whether the move is legal; else the first reason against it, in the order of [`Illegal`]. Takes no memory.
+/// Whether the move is legal; else the first reason against it, in the order of [`Illegal`]. Takes
+/// no memory.
 ///
-/// The side not to move must not be in check, as it never is after legal moves. A king's drop is `Occupied` or `NotInHand`.
-/// (Rules of shogi: movement, promotion, drops, two pawns, mate by a dropped pawn.)
+/// The side not to move must not be in check, as it never is after legal moves. A king's drop is
+/// `Occupied` or `NotInHand`. (Rules of shogi: movement, promotion, drops, two pawns, mate by a
+/// dropped pawn.)
 pub fn legal(position: &Position, by: Move) -> Result<(), Illegal>
     requires { IsQuiet position.now }
     ensures outcome { IsLegalOutcome position.now by result }

@@ -1,8 +1,9 @@
 //! The rules of shogi, proved: how pieces move, check, legal moves, and what a move does.
 //!
-//! The rules themselves are definitions, in `specs/Rules.antt`, to be read from top to bottom; `specs/Tsume.antt` says what
-//! a check and an evasion of a tsume problem are. Each call here says in its contract that it is exactly a definition.
-//! Only [`trial`] takes memory: it tries every move, and is what faster lists of moves are compared with.
+//! The rules themselves are definitions, in `specs/Rules.antt`, to be read from top to bottom;
+//! `specs/Tsume.antt` says what a check and an evasion of a tsume problem are. Each call here says
+//! in its contract that it is exactly a definition. Only [`trial`] takes memory: it tries every
+//! move, and is what faster lists of moves are compared with.
 #![tactic(auto)]
 
 mod checking;

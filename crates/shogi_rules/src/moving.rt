@@ -26,16 +26,20 @@ pub(crate) fn landed_piece(piece: Piece, promote: bool) -> Piece
 
 // A captured piece, where there is one, goes into the side's hand.
 fn capture(position: &mut Position, side: Side, captured: Option<Piece>)
-    requires { (piece : Piece) → captured ≡ Some piece → (piece.kind ≢ King) × (count_of position.old piece.kind < total_of piece.kind) }
-    ensures position { position.new ≡ with_hand position.old side (hand_with_capture captured (hand_of position.old side)) }
-    ensures counts { (kind : Kind) → count_of position.new kind ≡ count_of position.old kind + one_if (is_of_kind kind captured) }
+    requires { (piece : Piece) → captured ≡ Some piece → (piece.kind ≢ King)
+        × (count_of position.old piece.kind < total_of piece.kind) }
+    ensures position { position.new
+        ≡ with_hand position.old side (hand_with_capture captured (hand_of position.old side)) }
+    ensures counts { (kind : Kind) → count_of position.new kind
+        ≡ count_of position.old kind + one_if (is_of_kind kind captured) }
 {
     if let Some(piece) = captured {
         position.gain(side, piece.kind);
     }
 }
 
-/// The position after a move on the board against which nothing speaks but perhaps the mover's king.
+/// The position after a move on the board against which nothing speaks but perhaps the mover's
+/// king.
 pub(crate) fn move_piece(position: &Position, from: Square, to: Square, promote: bool) -> Position
     requires quiet { IsQuiet position.now }
     requires own { IsOwn position.now from.number }
@@ -65,8 +69,9 @@ pub(crate) fn move_piece(position: &Position, from: Square, to: Square, promote:
     }
 }
 
-/// The position after a drop against which nothing speaks but perhaps what it means for the kings: the mover's own may be in
-/// check after it, and it may be a mate by a dropped pawn. Takes no memory. (Rules of shogi: drops.)
+/// The position after a drop against which nothing speaks but perhaps what it means for the kings:
+/// the mover's own may be in check after it, and it may be a mate by a dropped pawn. Takes no
+/// memory. (Rules of shogi: drops.)
 pub fn drop_piece(position: &Position, kind: Kind, to: Square) -> Position
     requires empty { ¬ RefusesDrop position.now kind to.number Occupied }
     requires in_hand { ¬ RefusesDrop position.now kind to.number NotInHand }
@@ -88,8 +93,8 @@ pub fn drop_piece(position: &Position, kind: Kind, to: Square) -> Position
 
 /// The position after a legal move. Takes no memory.
 ///
-/// The side not to move must not be in check; after the move it isn't either. (Rules of shogi: a captured piece goes
-/// unpromoted into the captor's hand; a dropped piece stands unpromoted.)
+/// The side not to move must not be in check; after the move it isn't either. (Rules of shogi: a
+/// captured piece goes unpromoted into the captor's hand; a dropped piece stands unpromoted.)
 pub fn apply(position: &Position, by: Move) -> Position
     requires quiet { IsQuiet position.now }
     requires legal { IsLegal position.now by }
@@ -100,14 +105,16 @@ pub fn apply(position: &Position, by: Move) -> Position
     // A legal move goes to another square, and drops no king.
     ensures has_text { HasText by }
 
-    // No piece is lost or made: of each kind there are as many as before, on the board and in the hands.
+    // No piece is lost or made: of each kind there are as many as before, on the board and in the
+    // hands.
     ensures conserved { (kind : Kind) → count_of result kind ≡ count_of position.now kind }
 
     // No king is taken: each side has as many as before.
     ensures kings { (side : Side) → kings_of result side ≡ kings_of position.now side }
 
     // A drop changes one cell and one count of one hand.
-    ensures drop { (kind : Kind) (to : Square) → by ≡ Drop kind to → IsDropped position.now result kind to.number }
+    ensures drop { (kind : Kind) (to : Square) → by ≡ Drop kind to
+        → IsDropped position.now result kind to.number }
 {
     match by {
         Move::Board { from, to, promote } => move_piece(position, from, to, promote),

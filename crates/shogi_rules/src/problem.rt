@@ -12,8 +12,8 @@ use board_core::{Position, Side};
 #[derive(Clone, Copy, PartialEq, Eq, Debug)]
 pub struct DefenderInCheck;
 
-/// A tsume problem: a position whose side to move is the attacker. It keeps that the defender, the side not to move, has a
-/// king, and isn't in check.
+/// A tsume problem: a position whose side to move is the attacker. It keeps that the defender, the
+/// side not to move, has a king, and isn't in check.
 #[derive(Clone, Copy)]
 pub struct Problem {
     /// The position that the attacker has to solve.
@@ -30,8 +30,8 @@ impl Problem {
     }
 }
 
-/// Takes a position whose side not to move has a king, as it has after [`Position::build`], for a problem; refuses it
-/// exactly where that side is in check. Takes no memory.
+/// Takes a position whose side not to move has a king, as it has after [`Position::build`], for a
+/// problem; refuses it exactly where that side is in check. Takes no memory.
 pub fn accept_problem(position: Position) -> Result<Problem, DefenderInCheck>
     requires { HasDefender position }
     ensures ok { IfOk result (λ problem. problem.position ≡ position) }

@@ -1,5 +1,5 @@
-//! The plain lists of moves: every move is tried by the rules. Slow and simple, they stay as the yardstick that faster
-//! lists are compared with.
+//! The plain lists of moves: every move is tried by the rules. Slow and simple, they stay as the
+//! yardstick that faster lists are compared with.
 ghost use Rattle.std.specs.Prelude.{◌≡◌, ◌<◌, ◌+◌, ◌*◌, ◌↔◌, IsTrue, IfOk, OnOk};
 ghost use Rattle.bit_boards.specs.Kind.{place_of};
 ghost use Rattle.board_core.specs.Order.{order_of, Lists};
@@ -50,8 +50,12 @@ fn add_from(
     from: Square,
 ) -> Result<(), AllocError>
     requires quiet { IsQuiet position.now }
-    requires before { Lists (IsWantedBefore wanted problem.now.position.side position.now (162 * from.number)) moves.old.items }
-    ensures { OnOk result (Lists (IsWantedBefore wanted problem.now.position.side position.now (162 * from.number + 162)) moves.new.items) }
+    requires before { Lists
+        (IsWantedBefore wanted problem.now.position.side position.now (162 * from.number))
+        moves.old.items }
+    ensures { OnOk result
+        (Lists (IsWantedBefore wanted problem.now.position.side position.now
+        (162 * from.number + 162)) moves.new.items) }
 {
     // No two moves have one place in the order.
     order_laws();
@@ -76,8 +80,12 @@ fn add_drops(
     kind: Kind,
 ) -> Result<(), AllocError>
     requires quiet { IsQuiet position.now }
-    requires before { Lists (IsWantedBefore wanted problem.now.position.side position.now (13122 + 81 * place_of kind)) moves.old.items }
-    ensures { OnOk result (Lists (IsWantedBefore wanted problem.now.position.side position.now (13122 + 81 * place_of kind + 81)) moves.new.items) }
+    requires before { Lists
+        (IsWantedBefore wanted problem.now.position.side position.now (13122 + 81 * place_of kind))
+        moves.old.items }
+    ensures { OnOk result
+        (Lists (IsWantedBefore wanted problem.now.position.side position.now
+        (13122 + 81 * place_of kind + 81)) moves.new.items) }
 {
     // No two moves have one place in the order, and no two kinds one place in theirs.
     order_laws();
@@ -105,7 +113,8 @@ fn wanted_moves(
     position: &Position,
 ) -> Result<Vec<Move>, AllocError>
     requires { IsQuiet position.now }
-    ensures { IfOk result (λ moves. Lists (IsWanted wanted problem.now.position.side position.now) moves.items) }
+    ensures { IfOk result
+        (λ moves. Lists (IsWanted wanted problem.now.position.side position.now) moves.items) }
 {
     // There are 13,770 places in the order.
     order_laws();
@@ -119,32 +128,37 @@ fn wanted_moves(
     Ok(moves)
 }
 
-/// The checks at a position: exactly the legal moves of the problem's attacker after which the defender's king is attacked,
-/// each once, in the order of moves; none where the attacker isn't to move. Errors: want of memory alone.
+/// The checks at a position: exactly the legal moves of the problem's attacker after which the
+/// defender's king is attacked, each once, in the order of moves; none where the attacker isn't to
+/// move. Errors: want of memory alone.
 ///
-/// The side not to move must not be in check. (The tsume rule: each move of the attacker is a check.)
+/// The side not to move must not be in check. (The tsume rule: each move of the attacker is a
+/// check.)
 pub fn trial_checks(
     alloc: Global,
     problem: &Problem,
     position: &Position,
 ) -> Result<Vec<Move>, AllocError>
     requires { IsQuiet position.now }
-    ensures { IfOk result (λ moves. Lists (IsCheck problem.now.position.side position.now) moves.items) }
+    ensures { IfOk result
+        (λ moves. Lists (IsCheck problem.now.position.side position.now) moves.items) }
 {
     wanted_moves(alloc, Wanted::Checks, problem, position)
 }
 
-/// The evasions at a position: exactly the legal moves of the problem's defender, each once, in the order of moves; none
-/// where the defender isn't to move. Errors: want of memory alone.
+/// The evasions at a position: exactly the legal moves of the problem's defender, each once, in the
+/// order of moves; none where the defender isn't to move. Errors: want of memory alone.
 ///
-/// The side not to move must not be in check. (The tsume rule: the defender may make any legal move.)
+/// The side not to move must not be in check. (The tsume rule: the defender may make any legal
+/// move.)
 pub fn trial_evasions(
     alloc: Global,
     problem: &Problem,
     position: &Position,
 ) -> Result<Vec<Move>, AllocError>
     requires { IsQuiet position.now }
-    ensures { IfOk result (λ moves. Lists (IsEvasion problem.now.position.side position.now) moves.items) }
+    ensures { IfOk result
+        (λ moves. Lists (IsEvasion problem.now.position.side position.now) moves.items) }
 {
     wanted_moves(alloc, Wanted::Evasions, problem, position)
 }

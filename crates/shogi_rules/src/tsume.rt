@@ -32,10 +32,11 @@ fn evades(attacker: Side, position: &Position, by: Move) -> bool
     legal(position, by).is_ok()
 }
 
-/// Whether the move is a check of the problem's attacker: it is he who moves, the move is legal, and after it the defender's
-/// king is attacked. Takes no memory.
+/// Whether the move is a check of the problem's attacker: it is he who moves, the move is legal,
+/// and after it the defender's king is attacked. Takes no memory.
 ///
-/// The side not to move must not be in check. (The tsume rule: each move of the attacker is a check.)
+/// The side not to move must not be in check. (The tsume rule: each move of the attacker is a
+/// check.)
 pub fn is_check(problem: &Problem, position: &Position, by: Move) -> bool
     requires { IsQuiet position.now }
     ensures { IsTrue result ↔ IsCheck problem.now.position.side position.now by }
@@ -43,9 +44,11 @@ pub fn is_check(problem: &Problem, position: &Position, by: Move) -> bool
     gives_check(problem.attacker(), position, by)
 }
 
-/// Whether the move is an evasion of the problem's defender: it is he who moves, and the move is legal. Takes no memory.
+/// Whether the move is an evasion of the problem's defender: it is he who moves, and the move is
+/// legal. Takes no memory.
 ///
-/// The side not to move must not be in check. (The tsume rule: the defender may make any legal move.)
+/// The side not to move must not be in check. (The tsume rule: the defender may make any legal
+/// move.)
 pub fn is_evasion(problem: &Problem, position: &Position, by: Move) -> bool
     requires { IsQuiet position.now }
     ensures { IsTrue result ↔ IsEvasion problem.now.position.side position.now by }

@@ -12,7 +12,8 @@ use Rattle.side_by_side.specs.Inside.{AreMade, AreAnswersAt}
 pub none_yet : {A : Type 0} (P : ℕ → A → Type 0) (slots : List (Option A)) → All (λ slot. slot ≡ None) slots → AreAnswersAt P slots
 none_yet {A} P slots all = λ k low. subst (λ (o : Option A). IfSome o (P k)) (sym (all k None low)) tt
 
--- An answer of the job of a place is put there, where there is such a place; or the place is left open.
+-- An answer of the job of a place is put there, where there is such a place; or the place is left
+-- open.
 pub put_answer : {A : Type 0} (P : ℕ → A → Type 0) (slots : List (Option A)) (place : ℕ) (slot : Option A)
     → AreAnswersAt P slots → IfSome slot (P place) → AreAnswersAt P (set slots place slot)
 put_answer {A} P slots place slot are one = λ k low. elim (cases_eq k place) [

@@ -5,8 +5,8 @@ use std::alloc::{AllocError, Global};
 
 /// Jobs of one kind, numbered from 0, which threads do side by side.
 ///
-/// What an answer of a job means is `is_answer`; a job may be done more than once, and each of its answers means that. A refusal of
-/// another kind than want of memory is an answer.
+/// What an answer of a job means is `is_answer`; a job may be done more than once, and each of its
+/// answers means that. A refusal of another kind than want of memory is an answer.
 pub trait Jobs: Sync {
     /// What a thread works with, from one job to the next.
     type Tools: Send + Drop;

@@ -1,8 +1,9 @@
 //! Jobs by number, done side by side over threads.
 //!
-//! Whoever has many jobs of one kind says by [`Jobs`] how many they are, what a thread works with from one to the next, and what the
-//! job of a number answers. A [`Team`] does them: each thread takes the next job that no other has taken, and the answers come in the
-//! order of the numbers. A job that wanted memory is done again when the threads are over. It stands on `rayon`.
+//! Whoever has many jobs of one kind says by [`Jobs`] how many they are, what a thread works with
+//! from one to the next, and what the job of a number answers. A [`Team`] does them: each thread
+//! takes the next job that no other has taken, and the answers come in the order of the numbers. A
+//! job that wanted memory is done again when the threads are over. It stands on `rayon`.
 #![tactic(auto)]
 
 mod jobs;

@@ -35,7 +35,8 @@ impl<T: Drop, A: Drop> Member<T, A> {
     }
 }
 
-// Does the jobs that are next, one after another, till there are none. Where memory is wanted it stops, and leaves its job open.
+// Does the jobs that are next, one after another, till there are none. Where memory is wanted it
+// stops, and leaves its job open.
 fn do_jobs<J: Jobs>(
     alloc: Global,
     jobs: &J,

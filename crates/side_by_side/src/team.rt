@@ -14,8 +14,8 @@ use std::thread::Threads;
 /// How many members a team has at most: as many threads as one call of `rayon` starts.
 pub const MOST_MEMBERS: usize = 32;
 
-/// A team, whose members do jobs side by side, each in a thread of its own. What a member works with stays with it from one call to
-/// the next.
+/// A team, whose members do jobs side by side, each in a thread of its own. What a member works
+/// with stays with it from one call to the next.
 #[derive(Drop)]
 pub struct Team<T, A> {
     members: Vec<Member<T, A>>,
@@ -107,7 +107,8 @@ fn in_order<J: Jobs>(
 ) -> Result<Vec<J::Answer>, AllocError>
     requires count { length slots.old ≡ J.size jobs.now }
     requires slots { AreAnswersAt (J.is_answer jobs.now) slots.old }
-    ensures { IfOk result (λ answers. AreAnswers (J.size jobs.now) (J.is_answer jobs.now) answers.items) }
+    ensures { IfOk result
+        (λ answers. AreAnswers (J.size jobs.now) (J.is_answer jobs.now) answers.items) }
 {
     let mut answers = Vec::with_capacity(alloc, slots.len())?;
     let mut tools = jobs.tools();
@@ -123,8 +124,8 @@ fn any_open<A>(slots: &[Option<A>]) -> bool {
 }
 
 impl<T: Drop, A: Drop> Team<T, A> {
-    /// A team of so many members, but of no more than there are processors (one where that isn't known), and of at most
-    /// [`MOST_MEMBERS`]. Errors: want of memory alone.
+    /// A team of so many members, but of no more than there are processors (one where that isn't
+    /// known), and of at most [`MOST_MEMBERS`]. Errors: want of memory alone.
     pub fn new<R: Threads>(rt: &R, alloc: Global, most: usize) -> Result<Team<T, A>, AllocError> {
         let count = most.min(current_num_threads(rt)).min(MOST_MEMBERS);
         let mut members = Vec::with_capacity(alloc, count)?;
@@ -150,17 +151,20 @@ impl<T: Drop, A: Drop> Team<T, A> {
 }
 
 impl<T: Send + Drop, A: Send + Drop> Team<T, A> {
-    /// Does jobs side by side: there is one answer for each, in the order of their numbers, and each is what its job's answers are.
+    /// Does jobs side by side: there is one answer for each, in the order of their numbers, and
+    /// each is what its job's answers are.
     ///
-    /// A member that wants memory stops, and the others go on; what is then still open is done when they are over and have let go what
-    /// they worked with, one job after another. Errors: want of memory alone.
+    /// A member that wants memory stops, and the others go on; what is then still open is done when
+    /// they are over and have let go what they worked with, one job after another. Errors: want of
+    /// memory alone.
     pub fn answers<J: Jobs<Tools = T, Answer = A>, R: Threads + Sync>(
         &mut self,
         rt: &R,
         alloc: Global,
         jobs: &J,
     ) -> Result<Vec<A>, AllocError>
-        ensures { IfOk result (λ answers. AreAnswers (J.size jobs.now) (J.is_answer jobs.now) answers.items) }
+        ensures { IfOk result
+            (λ answers. AreAnswers (J.size jobs.now) (J.is_answer jobs.now) answers.items) }
     {
         let mut slots = open(alloc, jobs.count())?;
         work_all(rt, alloc, jobs, &mut self.members);

@@ -31,7 +31,8 @@ pub struct Boards {
 }
 
 impl Boards {
-    /// The positions and moves; none where a text is no problem's, which can't be. Errors: want of memory.
+    /// The positions and moves; none where a text is no problem's, which can't be. Errors: want of
+    /// memory.
     pub fn set_up(alloc: Global) -> Result<Option<Boards>, AllocError> {
         let opening = problem_of(b"lnsgkgsnl/1r5b1/ppppppppp/9/9/9/PPPPPPPPP/1B5R1/LNSGKGSNL b -");
         let gold_in_hand = problem_of(b"4k4/9/4P4/9/9/9/9/9/9 b G");

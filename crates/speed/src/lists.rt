@@ -1,4 +1,5 @@
-// Lists of checks and of evasions, how long they are, and with which numbers the search begins behind their moves.
+// Lists of checks and of evasions, how long they are, and with which numbers the search begins
+// behind their moves.
 use crate::pace::{Done, print_done};
 use crate::trees::{Turns, grown_trees};
 use crate::words::Asked;
@@ -67,8 +68,9 @@ fn measure(
     print_done(rt, asked, title, begun, done)
 }
 
-/// Makes the lists and counts at each position of the trees, so many rounds of each, where the sum is that of the
-/// moves; and asks for the numbers behind each check and each evasion, where it is that of all numbers.
+/// Makes the lists and counts at each position of the trees, so many rounds of each, where the sum
+/// is that of the moves; and asks for the numbers behind each check and each evasion, where it is
+/// that of all numbers.
 pub fn lists(rt: &HostRuntime, asked: &Asked) -> io::Result<()> {
     let trees = grown_trees(rt)?;
     let (checks, evasions) = (trees.attacking.as_slice(), trees.defending.as_slice());

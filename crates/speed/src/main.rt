@@ -1,16 +1,18 @@
 //! Measures the parts of the solver, one by one: `speed WHAT [ROUNDS] [times]`.
 //!
-//! WHAT is `read`, which reads the standard input whole; `lists`, which makes the lists of checks and evasions, and
-//! their counts, at the problems of the standard input, a line each, and at the positions behind their checks and the
-//! evasions to these, and asks for the numbers with which the search begins behind each of these moves; `search`,
-//! which solves these problems, at most ROUNDS milliseconds each; `world`, which solves them by ROUNDS workers in
-//! turn; `tables`, which looks and enters in a table of 16,384 rows that is full, and in one of 1,048,576, which
-//! takes a gigabyte; `words`, which steps ROUNDS times on words that threads share, and `units`, which draws ROUNDS units
-//! of a desk that they share, each on one thread and on two and four at once; the word of a part, as [`parts::ROWS`] lists them; or `all`, every part. A part does its work
-//! ROUNDS times, 1 where no number is given, and a line says how many calls that were and a check sum of what they
-//! answered, the same on every machine. Of a problem that is searched it says the verdict, the visits, and the height
-//! of what shows it. With `times` it also says how long each call took, in nanoseconds, and how many a second there
-//! were. Other words end with status 1.
+//! WHAT is `read`, which reads the standard input whole; `lists`, which makes the lists of checks
+//! and evasions, and their counts, at the problems of the standard input, a line each, and at the
+//! positions behind their checks and the evasions to these, and asks for the numbers with which the
+//! search begins behind each of these moves; `search`, which solves these problems, at most ROUNDS
+//! milliseconds each; `world`, which solves them by ROUNDS workers in turn; `tables`, which looks
+//! and enters in a table of 16,384 rows that is full, and in one of 1,048,576, which takes a
+//! gigabyte; `words`, which steps ROUNDS times on words that threads share, and `units`, which
+//! draws ROUNDS units of a desk that they share, each on one thread and on two and four at once;
+//! the word of a part, as [`parts::ROWS`] lists them; or `all`, every part. A part does its work
+//! ROUNDS times, 1 where no number is given, and a line says how many calls that were and a check
+//! sum of what they answered, the same on every machine. Of a problem that is searched it says the
+//! verdict, the visits, and the height of what shows it. With `times` it also says how long each
+//! call took, in nanoseconds, and how many a second there were. Other words end with status 1.
 #![tactic(auto)]
 
 mod boards;

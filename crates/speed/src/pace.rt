@@ -3,7 +3,8 @@ use crate::words::Asked;
 use std::io;
 use std::time::Instant;
 
-/// What was done: how many calls were measured, and a check sum that depends on what each of them answered.
+/// What was done: how many calls were measured, and a check sum that depends on what each of them
+/// answered.
 #[derive(Clone, Copy)]
 pub struct Done {
     pub calls: u64,
@@ -22,8 +23,9 @@ impl Done {
     }
 }
 
-/// Prints a line about what was done since then: how many calls, the check sum and, where that is asked for, the time
-/// of a call in nanoseconds and the calls a second, where any call and any time was measured.
+/// Prints a line about what was done since then: how many calls, the check sum and, where that is
+/// asked for, the time of a call in nanoseconds and the calls a second, where any call and any time
+/// was measured.
 pub fn print_done(
     rt: &HostRuntime,
     asked: &Asked,

@@ -1,5 +1,5 @@
-// The parts that need no input: what is done with positions, and what the rules say of them. A new one is a row and
-// an arm.
+// The parts that need no input: what is done with positions, and what the rules say of them. A new
+// one is a row and an arm.
 use crate::boards::Boards;
 use crate::pace::Done;
 use board_core::{Hand, Key, Kind, Piece, Position, Side, Square, key as key_of};
@@ -25,8 +25,8 @@ pub enum Part {
     Legal,
 }
 
-/// The word of the command line that asks for a part, what its calls do, and the part, in the order in which `all`
-/// measures them.
+/// The word of the command line that asks for a part, what its calls do, and the part, in the order
+/// in which `all` measures them.
 pub const ROWS: [(&'static str, &'static str, Part); 10] = [
     ("build", "positions built", Part::Build),
     ("copy", "positions copied", Part::Copy),
@@ -52,7 +52,8 @@ pub const ROWS: [(&'static str, &'static str, Part); 10] = [
     ("legal", "moves judged", Part::Legal),
 ];
 
-// How many positions stand side by side, so that no round works on what the round before it has in registers.
+// How many positions stand side by side, so that no round works on what the round before it has in
+// registers.
 const RING: u64 = 64;
 
 /// Does a part's work so many rounds. Errors: want of memory.
@@ -71,8 +72,8 @@ pub fn run(part: Part, alloc: Global, boards: &Boards, rounds: u64) -> Result<Do
     }
 }
 
-// A position each round, while the pawn of 2g steps to 2f and back; the sum is how often it was built with the pawn
-// on 2f.
+// A position each round, while the pawn of 2g steps to 2f and back; the sum is how often it was
+// built with the pawn on 2f.
 fn build(boards: &Boards, rounds: u64) -> Done {
     let mut cells = [None; 81];
     for number in 0..81 {
@@ -95,8 +96,8 @@ fn build_each(cells: &mut [Option<Piece>; 81], rounds: u64) -> Done {
     done
 }
 
-// A position copied to the next of a ring each round, with the move given to the other side; the sum is how many have
-// Black to move.
+// A position copied to the next of a ring each round, with the move given to the other side; the
+// sum is how many have Black to move.
 fn copy(alloc: Global, boards: &Boards, rounds: u64) -> Result<Done, AllocError> {
     let mut ring = Vec::new(alloc);
     for _ in 0..RING {
@@ -123,7 +124,8 @@ fn copy(alloc: Global, boards: &Boards, rounds: u64) -> Result<Done, AllocError>
     })
 }
 
-// The key of one of a ring of positions each round, each the opening position without what stood on another square.
+// The key of one of a ring of positions each round, each the opening position without what stood on
+// another square.
 fn key(alloc: Global, boards: &Boards, rounds: u64) -> Result<Done, AllocError> {
     let mut ring = Vec::new(alloc);
     for number in 0..RING as u8 {
@@ -184,7 +186,8 @@ fn checks(alloc: Global, problem: &Problem, rounds: u64) -> Result<Done, AllocEr
     Ok(done)
 }
 
-// Each legal move as a game begins made each round; the sum is that of the keys of the last positions.
+// Each legal move as a game begins made each round; the sum is that of the keys of the last
+// positions.
 fn apply(alloc: Global, boards: &Boards, rounds: u64) -> Result<Done, AllocError> {
     let mut made = Vec::new(alloc);
     for turn in boards.turns.iter() {
@@ -203,7 +206,8 @@ fn apply(alloc: Global, boards: &Boards, rounds: u64) -> Result<Done, AllocError
     Ok(done)
 }
 
-// The key after each legal move as a game begins, from the key before it; the sum is that of the last keys.
+// The key after each legal move as a game begins, from the key before it; the sum is that of the
+// last keys.
 fn key_after(alloc: Global, boards: &Boards, rounds: u64) -> Result<Done, AllocError> {
     let mut made = Vec::new(alloc);
     for turn in boards.turns.iter() {

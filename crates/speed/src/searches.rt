@@ -55,7 +55,8 @@ fn tell(
     print_done(rt, asked, verdict, begun, Done { calls: units, sum })
 }
 
-/// Those of a search by so many workers with so many units, and all room. Errors: a number is out of range.
+/// Those of a search by so many workers with so many units, and all room. Errors: a number is out
+/// of range.
 pub fn settings(workers: u32, units: u64) -> io::Result<Settings> {
     match Settings::new(workers, units, 1_400_000, 65_536, 1) {
         Ok(settings) => Ok(settings),
@@ -83,9 +84,9 @@ fn search(
     tell(rt, asked, begun, gate.units.load(Ordering::SeqCst), found)
 }
 
-/// Searches each problem of the standard input with one worker, the default table and at most so many milliseconds,
-/// and prints a line for each: the verdict and the units. Before them a line tells of the making of a table, which is
-/// a part of each search's time.
+/// Searches each problem of the standard input with one worker, the default table and at most so
+/// many milliseconds, and prints a line for each: the verdict and the units. Before them a line
+/// tells of the making of a table, which is a part of each search's time.
 pub fn searches(rt: &HostRuntime, asked: &Asked) -> io::Result<()> {
     let settings = settings(1, 1_000_000_000)?;
     let problems = problems(rt)?;
@@ -129,8 +130,9 @@ fn play(
     tell(rt, asked, begun, world.drawn(), world.posted())
 }
 
-/// Searches each problem of the standard input by so many workers that make their requests in turn, and prints a line
-/// for each: the verdict, and the units that all workers drew until they had ended.
+/// Searches each problem of the standard input by so many workers that make their requests in turn,
+/// and prints a line for each: the verdict, and the units that all workers drew until they had
+/// ended.
 pub fn worlds(rt: &HostRuntime, asked: &Asked) -> io::Result<()> {
     let workers = u32::try_from(asked.rounds).unwrap_or(0);
     let settings = settings(workers, MOST_UNITS)?;

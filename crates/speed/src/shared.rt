@@ -31,7 +31,8 @@ fn visit(counts: &WorkerCounts, seat: &mut CountSeat, word: usize) -> u64
 
 // So many visits of one word by a thread.
 fn visits(counts: &WorkerCounts, mut seat: CountSeat, word: usize, rounds: u64) -> Done
-    requires { (seat.counts ≡ counts.now) × (word < counts.now.words) × (length seat.view.added < 100) }
+    requires { (seat.counts ≡ counts.now) × (word < counts.now.words)
+        × (length seat.view.added < 100) }
 {
     let mut sum: u64 = 0;
     for _ in 0..rounds {
@@ -76,8 +77,10 @@ fn two_visit<R: Threads + Sync>(
     second: usize,
     rounds: u64,
 ) -> Done
-    requires one { (one.counts ≡ counts.now) × (first < counts.now.words) × (length one.view.added < 100) }
-    requires two { (two.counts ≡ counts.now) × (second < counts.now.words) × (length two.view.added < 100) }
+    requires one { (one.counts ≡ counts.now) × (first < counts.now.words)
+        × (length one.view.added < 100) }
+    requires two { (two.counts ≡ counts.now) × (second < counts.now.words)
+        × (length two.view.added < 100) }
 {
     let (low, high) = join(
         rt,
@@ -97,20 +100,28 @@ fn four_visit<R: Threads + Sync>(
     four: CountSeat,
     rounds: u64,
 ) -> Done
-    requires one { (one.counts ≡ counts.now) × (0 < counts.now.words) × (length one.view.added < 100) }
-    requires two { (two.counts ≡ counts.now) × (1 < counts.now.words) × (length two.view.added < 100) }
-    requires three { (three.counts ≡ counts.now) × (2 < counts.now.words) × (length three.view.added < 100) }
-    requires four { (four.counts ≡ counts.now) × (3 < counts.now.words) × (length four.view.added < 100) }
+    requires one { (one.counts ≡ counts.now) × (0 < counts.now.words)
+        × (length one.view.added < 100) }
+    requires two { (two.counts ≡ counts.now) × (1 < counts.now.words)
+        × (length two.view.added < 100) }
+    requires three { (three.counts ≡ counts.now) × (2 < counts.now.words)
+        × (length three.view.added < 100) }
+    requires four { (four.counts ≡ counts.now) × (3 < counts.now.words)
+        × (length four.view.added < 100) }
 {
     let (low, high) = join(
         rt,
         ||
-            requires one { (one.counts ≡ counts.now) × (0 < counts.now.words) × (length one.view.added < 100) }
-            requires two { (two.counts ≡ counts.now) × (1 < counts.now.words) × (length two.view.added < 100) }
+            requires one { (one.counts ≡ counts.now) × (0 < counts.now.words)
+                × (length one.view.added < 100) }
+            requires two { (two.counts ≡ counts.now) × (1 < counts.now.words)
+                × (length two.view.added < 100) }
         { two_visit(rt, counts, one, 0, two, 1, rounds) },
         ||
-            requires three { (three.counts ≡ counts.now) × (2 < counts.now.words) × (length three.view.added < 100) }
-            requires four { (four.counts ≡ counts.now) × (3 < counts.now.words) × (length four.view.added < 100) }
+            requires three { (three.counts ≡ counts.now) × (2 < counts.now.words)
+                × (length three.view.added < 100) }
+            requires four { (four.counts ≡ counts.now) × (3 < counts.now.words)
+                × (length four.view.added < 100) }
         { two_visit(rt, counts, three, 2, four, 3, rounds) },
     );
     both(low, high)
@@ -153,8 +164,9 @@ fn four_draw<R: Threads + Sync>(
     both(low, high)
 }
 
-/// Adds to a word, reads it and takes that away again, so many times: on one thread, then on two and on four at once, each with a word of its own in one
-/// row. The calls are the steps; the sum is that of the counts that were told.
+/// Adds to a word, reads it and takes that away again, so many times: on one thread, then on two
+/// and on four at once, each with a word of its own in one row. The calls are the steps; the sum is
+/// that of the counts that were told.
 pub fn words<R: Threads + Sync>(rt: &HostRuntime, threads: &R, asked: &Asked) -> io::Result<()> {
     let (counts, mut first) = WorkerCounts::make(rt.alloc(), WORDS)?;
     let alone = counts.make_seat(&mut first);
@@ -175,8 +187,9 @@ pub fn words<R: Threads + Sync>(rt: &HostRuntime, threads: &R, asked: &Asked) ->
     print_done(rt, asked, "four threads", begun, done)
 }
 
-/// Draws so many units, at most a billion, of a desk: by one thread, then by two and by four at once. The calls are the units; the sum is theirs, so that one
-/// which was handed out twice would show.
+/// Draws so many units, at most a billion, of a desk: by one thread, then by two and by four at
+/// once. The calls are the units; the sum is theirs, so that one which was handed out twice would
+/// show.
 pub fn units<R: Threads + Sync>(
     rt: &HostRuntime,
     threads: &R,

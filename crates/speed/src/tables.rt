@@ -48,7 +48,8 @@ fn nobody() -> RowPins<'static> {
     RowPins { counts: &NOBODY }
 }
 
-// A shard of so many rows, nearly all of them full, and the numbers of keys of which nearly all are in it.
+// A shard of so many rows, nearly all of them full, and the numbers of keys of which nearly all are
+// in it.
 fn filled(alloc: Global, rows: usize) -> Result<(Shard, Numbering), AllocError>
     requires { 0 < rows }
 {
@@ -95,8 +96,9 @@ fn enter_each(shard: &mut Shard, keys: &mut Numbering, rounds: u64) -> Done {
     Done { calls: rounds, sum }
 }
 
-/// Looks, so many times, at random keys in a table of so many rows, where the sum is that of the proof numbers that
-/// were found; then enters and leaves such keys, where it is that of the slots that were taken.
+/// Looks, so many times, at random keys in a table of so many rows, where the sum is that of the
+/// proof numbers that were found; then enters and leaves such keys, where it is that of the slots
+/// that were taken.
 pub fn tables(rt: &HostRuntime, asked: &Asked, rows: usize) -> io::Result<()>
     requires { 0 < rows }
 {

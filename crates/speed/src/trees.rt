@@ -1,4 +1,5 @@
-// The problems of the standard input, and the positions behind their checks and the evasions to these.
+// The problems of the standard input, and the positions behind their checks and the evasions to
+// these.
 ghost use Rattle.std.specs.Prelude.{Contains};
 ghost use Rattle.board_core.specs.declared.moves.Move.{Move};
 ghost use Rattle.shogi_rules.specs.Rules.{IsQuiet, IsLegal};

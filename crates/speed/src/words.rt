@@ -12,7 +12,8 @@ pub struct Asked {
     pub is_timed: bool,
 }
 
-/// What the words behind the program's name ask for; none where they are none of `WHAT [ROUNDS] [times]`.
+/// What the words behind the program's name ask for; none where they are none of `WHAT [ROUNDS]
+/// [times]`.
 pub fn asked_for(rt: &HostRuntime) -> io::Result<Option<Asked>> {
     let mut words = env::args(rt)?;
     let _name = words.next();

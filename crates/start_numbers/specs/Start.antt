@@ -23,19 +23,22 @@ abbrev pub drops_of : Move → ℕ
 drops_of (moves.Board from to promote) = 0
 drops_of (moves.Drop dropped to) = 1
 
--- The set has the squares from which pieces of the side reach the square, the king too, and whatever pins them.
+-- The set has the squares from which pieces of the side reach the square, the king too, and
+-- whatever pins them.
 abbrev pub AreReaching : Board → Side → ℕ → Mask → Type 0
 AreReaching b side to squares = (from : ℕ) → Holds squares from ↔ ((from < 81) × AttacksFrom b.cells side from to)
 
--- The proof number after a check, from how many answers it leaves, and how many pieces of each side reach the square to which it went,
--- the piece that moved among them: two for each answer; two more where the defender could take whatever comes there, and one more where
--- he has a second piece for it. 1 where the check leaves no answer.
+-- The proof number after a check, from how many answers it leaves, and how many pieces of each side
+-- reach the square to which it went, the piece that moved among them: two for each answer; two more
+-- where the defender could take whatever comes there, and one more where he has a second piece for
+-- it. 1 where the check leaves no answer.
 abbrev pub proof_after_check : ℕ → ℕ → ℕ → ℕ
 proof_after_check answers attacking defending =
     if answers == 0 then 1
     else 2 * answers + (if nat_le attacking defending then 2 else 0) + (if nat_le 2 defending then 1 else 0)
 
--- The disproof number after a check: larger where the attacker has more pieces there, and most where the check takes a piece.
+-- The disproof number after a check: larger where the attacker has more pieces there, and most
+-- where the check takes a piece.
 abbrev pub disproof_after_check : ℕ → ℕ → Bool → ℕ
 disproof_after_check attacking defending captures = if nat_lt defending attacking then (if captures then 5 else 4) else 2
 
@@ -44,7 +47,8 @@ abbrev pub start_of_check : ℕ → ℕ → ℕ → Bool → Numbers
 start_of_check answers attacking defending captures =
     record { pn = proof_after_check answers attacking defending; dn = disproof_after_check attacking defending captures }
 
--- The numbers after an evasion, from how many checks it leaves: two for each check; 1 where it leaves none.
+-- The numbers after an evasion, from how many checks it leaves: two for each check; 1 where it
+-- leaves none.
 abbrev pub start_of_evasion : ℕ → Numbers
 start_of_evasion checks = record { pn = 2; dn = if checks == 0 then 1 else 2 * checks }
 

@@ -63,7 +63,8 @@ fn disproof_after_check(attacking: u32, defending: u32, captures: bool) -> u32
 
 // How many pieces of the side reach the square.
 fn reaching(position: &Position, to: Square, side: Side) -> u32
-    ensures count { (squares : Mask) → AreReaching position.now side to.number squares → result ≡ count squares }
+    ensures count { (squares : Mask) → AreReaching position.now side to.number squares → result
+        ≡ count squares }
     ensures to { result ≤ 81 }
 {
     u32::from(count_attackers(position, to, side))
@@ -75,7 +76,9 @@ fn start_of_check(problem: &Problem, position: &Position, by: Move) -> Numbers
     requires legal { IsLegal position.now by }
     ensures start { IsStartOfCheck problem.now.position.side position.now by result }
     ensures open { IsOpen result }
-    ensures mate { (evasions : List Move) → Lists (IsEvasion problem.now.position.side (after position.now by)) evasions → (result.pn ≡ 1) ↔ (evasions ≡ []) }
+    ensures mate { (evasions : List Move)
+        → Lists (IsEvasion problem.now.position.side (after position.now by)) evasions
+        → (result.pn ≡ 1) ↔ (evasions ≡ []) }
 {
     let answers = count_answers(problem, &apply(position, by));
     let (to, attacker) = (destination(by), problem.attacker());
@@ -94,7 +97,9 @@ fn start_of_evasion(problem: &Problem, position: &Position, by: Move) -> Numbers
     requires legal { IsLegal position.now by }
     ensures start { IsStartOfEvasion problem.now.position.side position.now by result }
     ensures open { IsOpen result }
-    ensures safe { (checks : List Move) → Lists (IsCheck problem.now.position.side (after position.now by)) checks → (result.dn ≡ 1) ↔ (checks ≡ []) }
+    ensures safe { (checks : List Move)
+        → Lists (IsCheck problem.now.position.side (after position.now by)) checks
+        → (result.dn ≡ 1) ↔ (checks ≡ []) }
 {
     let checks = count_checks(problem, &apply(position, by));
     if checks == 0 {
@@ -106,29 +111,39 @@ fn start_of_evasion(problem: &Problem, position: &Position, by: Move) -> Numbers
     }
 }
 
-/// The numbers with which the position after a move begins, as long as none are known of it: the move is a check of the problem's
-/// attacker at the position, or an evasion of his defender. Takes no memory.
+/// The numbers with which the position after a move begins, as long as none are known of it: the
+/// move is a check of the problem's attacker at the position, or an evasion of his defender. Takes
+/// no memory.
 ///
-/// After a check the proof number is two for each answer, drops on one square being one; two more where no more pieces of the attacker
-/// than of the defender reach the square to which it went, and one more where two of the defender's do. The disproof number is 2; where
-/// the attacker has more pieces there, it is 4, and 5 where the check takes a piece. After an evasion the proof number is 2, and
-/// the disproof number two for each check. A check that leaves no answer has the proof number 1, an evasion that leaves no check the
-/// disproof number 1: so the search visits these first, and one visit settles them.
+/// After a check the proof number is two for each answer, drops on one square being one; two more
+/// where no more pieces of the attacker than of the defender reach the square to which it went, and
+/// one more where two of the defender's do. The disproof number is 2; where the attacker has more
+/// pieces there, it is 4, and 5 where the check takes a piece. After an evasion the proof number is
+/// 2, and the disproof number two for each check. A check that leaves no answer has the proof
+/// number 1, an evasion that leaves no check the disproof number 1: so the search visits these
+/// first, and one visit settles them.
 ///
-/// A piece reaches a square as if nothing were pinned; the piece that moves and the king count, and so does a piece that is dropped. The
-/// side not to move must not be in check. (In place of 1 and 1, with which a search begins after Nagai 2002.)
+/// A piece reaches a square as if nothing were pinned; the piece that moves and the king count, and
+/// so does a piece that is dropped. The side not to move must not be in check. (In place of 1 and
+/// 1, with which a search begins after Nagai 2002.)
 pub fn start(problem: &Problem, position: &Position, by: Move) -> Numbers
     requires quiet { IsQuiet position.now }
     requires legal { IsLegal position.now by }
     ensures open { IsOpen result }
-    ensures check { position.now.side ≡ problem.now.position.side → IsStartOfCheck problem.now.position.side position.now by result }
-    ensures evasion { position.now.side ≡ other problem.now.position.side → IsStartOfEvasion problem.now.position.side position.now by result }
+    ensures check { position.now.side ≡ problem.now.position.side
+        → IsStartOfCheck problem.now.position.side position.now by result }
+    ensures evasion { position.now.side ≡ other problem.now.position.side
+        → IsStartOfEvasion problem.now.position.side position.now by result }
 
     // A check begins with the proof number 1 exactly where it leaves no evasion.
-    ensures mate { position.now.side ≡ problem.now.position.side → (evasions : List Move) → Lists (IsEvasion problem.now.position.side (after position.now by)) evasions → (result.pn ≡ 1) ↔ (evasions ≡ []) }
+    ensures mate { position.now.side ≡ problem.now.position.side → (evasions : List Move)
+        → Lists (IsEvasion problem.now.position.side (after position.now by)) evasions
+        → (result.pn ≡ 1) ↔ (evasions ≡ []) }
 
     // An evasion begins with the disproof number 1 exactly where it leaves no check.
-    ensures safe { position.now.side ≡ other problem.now.position.side → (checks : List Move) → Lists (IsCheck problem.now.position.side (after position.now by)) checks → (result.dn ≡ 1) ↔ (checks ≡ []) }
+    ensures safe { position.now.side ≡ other problem.now.position.side → (checks : List Move)
+        → Lists (IsCheck problem.now.position.side (after position.now by)) checks
+        → (result.dn ≡ 1) ↔ (checks ≡ []) }
 {
     if position.side() == problem.attacker() {
         return start_of_check(problem, position, by);

@@ -31,18 +31,21 @@ IsTrueOf problem Mate = IsMate problem.side problem
 IsTrueOf problem NoMate = ¬ IsMate problem.side problem
 IsTrueOf problem (Unknown cause) = Unit {0}
 
--- The problem's search with these settings comes to the tally: it is that of an end to which the search alone comes, and it is true.
+-- The problem's search with these settings comes to the tally: it is that of an end to which the
+-- search alone comes, and it is true.
 pub record ComesTo (problem : Board) (s : SettingsView) (tally : Tally) : Type 0 where
   pub end : SearchEnd
   pub alone : IsAlone problem s end
   pub told : tally ≡ tally_of end
   pub is_true : IsTrueOf problem tally
 
--- The settings of each search: one worker, so many units, all the room that there can be, and 1,024 rows in one part.
+-- The settings of each search: one worker, so many units, all the room that there can be, and 1,024
+-- rows in one part.
 abbrev pub survey_settings : ℕ → SettingsView
 survey_settings expansions = numbers_of 1 expansions MOST_ROOM 1024 1
 
--- The tally of a number, with so many units: that of the problem that the generator makes of the number.
+-- The tally of a number, with so many units: that of the problem that the generator makes of the
+-- number.
 pub record IsTallied (expansions number : ℕ) (tally : Tally) : Type 0 where
   pub problem : Board
   pub generated : IsGenerated number problem

@@ -1,4 +1,5 @@
--- A port of the shared table and the shared desk: what it tells of itself, and what each request does.
+-- A port of the shared table and the shared desk: what it tells of itself, and what each request
+-- does.
 use Rattle.std.specs.Prelude.{◌≡◌, ◌*◌, ◌/◌, ◌==◌, ◌&&◌, ℕ, Bool, List, [], Option, Some, None, length}
 use Rattle.board_core.specs.declared.keys.Key.{Key}
 use Rattle.notes.specs.declared.words.Kept.TheVariants.{Slot, Unkept}
@@ -32,7 +33,8 @@ shard_of cut key = place_of key (all_rows cut) / cut.own
 abbrev pub first_word : Cut → Key → ℕ
 first_word cut key = word_of (all_rows cut) key 0
 
--- The rows of each shard, where they are told; its seat at the words that count workers; and its seat at the desk.
+-- The rows of each shard, where they are told; its seat at the words that count workers; and its
+-- seat at the desk.
 pub record TablePortView : Type 0 where
   pub cut : Cut
   pub shards : Option (List ShardRows)
@@ -64,15 +66,17 @@ book_of port = record {
 
 -- 2. WHAT EACH REQUEST DOES.
 
--- A task ran on the shard of the key, with the seat at the words of the key's row; nothing else changes.
+-- A task ran on the shard of the key, with the seat at the words of the key's row; nothing else
+-- changes.
 abbrev pub RunsOn : TablePortView → Key → TablePortView → (RowSeatView → ShardRows → ShardRows → RowSeatView → Type 0) → Type 0
 RunsOn before key after ran =
     RanOn before.desk.desk.position.side before.shards after.shards (shard_of before.cut key) (λ old new. ran (at_row before.seat (first_word before.cut key)) old new after.seat)
     × (after ≡ record before { shards = after.shards; seat = after.seat })
 
--- From one state to the next, by a request of a worker on this path and its answer, with what a stop tells before and after. A poll asks the stop. The desk draws,
--- claims, and keeps what is posted first. The key's shard shows what it has, or there is no memory for it; it enters the key, and the seat adds to the slot's
--- word; it leaves the key, and the seat subtracts.
+-- From one state to the next, by a request of a worker on this path and its answer, with what a
+-- stop tells before and after. A poll asks the stop. The desk draws, claims, and keeps what is
+-- posted first. The key's shard shows what it has, or there is no memory for it; it enters the key,
+-- and the seat adds to the slot's word; it leaves the key, and the seat subtracts.
 abbrev pub TableTurns : TablePortView → Signal → List Key → Request → Option Reply → TablePortView → Signal → Type 0
 TableTurns before signal path Poll (Some (Polled stop)) after later = (after ≡ before) × (later ≡ polled signal stop)
 TableTurns before signal path Draw (Some (Drew draw)) after later =

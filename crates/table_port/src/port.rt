@@ -20,11 +20,13 @@ use word_desk::DeskSeat;
 use worker_core::Port;
 use worker_counts::{CountSeat, view_laws};
 
-/// The shared table of positions and the shared desk of a search, for one worker; the gate that the worker passes behind each unit that it draws; and the stop that
-/// each of its polls asks.
+/// The shared table of positions and the shared desk of a search, for one worker; the gate that the
+/// worker passes behind each unit that it draws; and the stop that each of its polls asks.
 ///
-/// It keeps that its seats are of the words and of the desk, each with one part; that there are as many shards as the cut says, and eight words for each row
-/// that it says; and that the desk's problem has the job's attacker. That each shard has so many rows isn't kept: behind a lock nobody could tell.
+/// It keeps that its seats are of the words and of the desk, each with one part; that there are as
+/// many shards as the cut says, and eight words for each row that it says; and that the desk's
+/// problem has the job's attacker. That each shard has so many rows isn't kept: behind a lock
+/// nobody could tell.
 #[derive(Drop)]
 pub struct TablePort<'a, J: Job, R: Rows<J>, G: Gate, T: Stop> {
     rows: R,
@@ -41,8 +43,9 @@ pub struct TablePort<'a, J: Job, R: Rows<J>, G: Gate, T: Stop> {
 }
 
 impl<'a, J: Job, R: Rows<J>, G: Gate, T: Stop> TablePort<'a, J, R, G, T> {
-    /// The port over these rows, cut as `cut` says. Its seats are at the table's words, of which there are eight for each row, and at the desk, each with one
-    /// part. The desk's problem has the job's attacker. Takes no memory.
+    /// The port over these rows, cut as `cut` says. Its seats are at the table's words, of which
+    /// there are eight for each row, and at the desk, each with one part. The desk's problem has
+    /// the job's attacker. Takes no memory.
     pub fn new(
         rows: R,
         cut: Cut,
@@ -59,9 +62,17 @@ impl<'a, J: Job, R: Rows<J>, G: Gate, T: Stop> TablePort<'a, J, R, G, T> {
         ensures cut { result.cut ≡ cut }
         ensures seats { result.seats ≡ seats.entry }
         ensures watch { result.watch ≡ watch.entry }
-        // Where its seats have done nothing, a worker in the search of the problem may begin to work over it.
-        ensures suits { IsUnused seats.entry.row seats.entry.desk_seat → (number : ℕ) → Suits (worker_at_first seats.entry.desk.now.position number)
-            (book_of (record { cut = cut; shards = R.shards rows; seat = seats.entry.row; desk = seats.entry.desk_seat })) }
+        // Where its seats have done nothing, a worker in the search of the problem may begin to
+        // work over it.
+        ensures suits { IsUnused seats.entry.row seats.entry.desk_seat → (number : ℕ)
+            → Suits (worker_at_first seats.entry.desk.now.position number)
+            (book_of (record {
+              cut = cut;
+              shards = R.shards rows;
+              seat = seats.entry.row;
+              desk =
+                  seats.entry.desk_seat;
+            })) }
     {
         TablePort {
             rows,
@@ -79,24 +90,27 @@ impl<'a, J: Job, R: Rows<J>, G: Gate, T: Stop> TablePort<'a, J, R, G, T> {
         self.cut
     }
 
-    /// Exchanges its rows for others, of as many shards, and its stop for another. So several ports of one table can work in turn over rows that are at one of them
-    /// at a time. Takes no memory.
+    /// Exchanges its rows for others, of as many shards, and its stop for another. So several ports
+    /// of one table can work in turn over rows that are at one of them at a time. Takes no memory.
     pub fn exchange(&mut self, rows: &mut R, stop: &mut T)
         requires { R.count rows.old ≡ self.old.cut.shards }
         ensures rows { (self.new.rows ≡ rows.old) × (rows.new ≡ self.old.rows) }
         ensures stop { (self.new.watch.stop ≡ stop.old) × (stop.new ≡ self.old.watch.stop) }
         ensures cut { self.new.cut ≡ self.old.cut }
-        ensures seats { (self.new.seats.row ≡ self.old.seats.row) × (self.new.seats.desk_seat ≡ self.old.seats.desk_seat) }
+        ensures seats { (self.new.seats.row ≡ self.old.seats.row)
+            × (self.new.seats.desk_seat ≡ self.old.seats.desk_seat) }
     {
         mem::swap(&mut self.rows, rows);
         mem::swap(&mut self.watch.stop, stop);
     }
 
-    /// The rows, the seats, each with the one part that it had, and the stop, for their owner. Takes no memory.
+    /// The rows, the seats, each with the one part that it had, and the stop, for their owner.
+    /// Takes no memory.
     pub fn into_parts(self) -> (R, CountSeat, DeskSeat, T)
         ensures parts { (result.1.view.parts ≡ 1) × (result.2.parts ≡ 1) }
         ensures desk { result.2.desk ≡ self.entry.seats.desk.now }
-        ensures all { (result.0 ≡ self.entry.rows) × (result.1 ≡ self.entry.seats.row.seat) × (result.2 ≡ self.entry.seats.desk_seat) × (result.3 ≡ self.entry.watch.stop) }
+        ensures all { (result.0 ≡ self.entry.rows) × (result.1 ≡ self.entry.seats.row.seat)
+            × (result.2 ≡ self.entry.seats.desk_seat) × (result.3 ≡ self.entry.watch.stop) }
     {
         let Seats {
             row,

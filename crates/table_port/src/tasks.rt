@@ -117,8 +117,10 @@ fn look_under<J: Job, R: Rows<J>>(
     ensures seat { task.new.seat.ghost_name ≡ task.old.seat.ghost_name }
     ensures answer { task.new.answer.ghost_name ≡ task.old.answer.ghost_name }
     ensures count { R.count rows.new ≡ R.count rows.old }
-    ensures looks { RanOn J.ATTACKER (R.shards rows.old) (R.shards rows.new) task.old.site.shard (λ old new. (new ≡ old)
-        × ShowsAt task.old.site task.old.key.now task.old.path.now task.old.seat.now old task.new.seat.now result) }
+    ensures looks { RanOn J.ATTACKER (R.shards rows.old) (R.shards rows.new) task.old.site.shard
+        (λ old new. (new ≡ old)
+        × ShowsAt task.old.site task.old.key.now task.old.path.now task.old.seat.now old
+        task.new.seat.now result) }
     ensures same { IsSameSeat (at_row task.old.seat.now task.old.site.word) task.new.seat.now }
     ensures may { IfOk result (MayShow J.ATTACKER task.old.key.now task.old.path.now) }
 {
@@ -138,8 +140,10 @@ fn enter_under<J: Job, R: Rows<J>>(rows: &mut R, task: &mut EnterTask<'_, '_>) -
     requires room { length task.old.seat.now.seat.view.added < MOST_ADDED }
     ensures seat { task.new.seat.ghost_name ≡ task.old.seat.ghost_name }
     ensures count { R.count rows.new ≡ R.count rows.old }
-    ensures enters { RanOn J.ATTACKER (R.shards rows.old) (R.shards rows.new) task.old.site.shard (λ old new.
-        EntersAndAdds old (at_row task.old.seat.now task.old.site.word) task.old.key.now task.old.numbers result new task.new.seat.now) }
+    ensures enters { RanOn J.ATTACKER (R.shards rows.old) (R.shards rows.new) task.old.site.shard
+        (λ old new.
+        EntersAndAdds old (at_row task.old.seat.now task.old.site.word) task.old.key.now
+        task.old.numbers result new task.new.seat.now) }
 {
     rows.under(task.site.shard, task);
     match task.kept {
@@ -157,8 +161,11 @@ fn leave_under<J: Job, R: Rows<J>>(rows: &mut R, task: &mut LeaveTask<'_, '_>)
     ensures seat { task.new.seat.ghost_name ≡ task.old.seat.ghost_name }
     ensures update { task.new.update.ghost_name ≡ task.old.update.ghost_name }
     ensures count { R.count rows.new ≡ R.count rows.old }
-    ensures leaves { IsSomeAnd task.old.update.now (λ update. RanOn J.ATTACKER (R.shards rows.old) (R.shards rows.new) task.old.site.shard (λ old new.
-        LeavesAndSubtracts old (at_row task.old.seat.now task.old.site.word) task.old.kept task.old.key.now update new task.new.seat.now)) }
+    ensures leaves { IsSomeAnd task.old.update.now
+        (λ update. RanOn J.ATTACKER (R.shards rows.old) (R.shards rows.new) task.old.site.shard
+        (λ old new.
+        LeavesAndSubtracts old (at_row task.old.seat.now task.old.site.word) task.old.kept
+        task.old.key.now update new task.new.seat.now)) }
 {
     rows.under(task.site.shard, task);
 }
@@ -175,7 +182,8 @@ pub(crate) fn look_on<J: Job, R: Rows<J>>(
     requires at { IsAt site key.now seat.old }
     ensures count { R.count rows.new ≡ R.count rows.old }
     ensures parts { seat.new.seat.view.parts ≡ seat.old.seat.view.parts }
-    ensures looks { RanOn J.ATTACKER (R.shards rows.old) (R.shards rows.new) site.shard (λ old new. (new ≡ old) × ShowsAt site key.now path.now seat.old old seat.new result) }
+    ensures looks { RanOn J.ATTACKER (R.shards rows.old) (R.shards rows.new) site.shard
+        (λ old new. (new ≡ old) × ShowsAt site key.now path.now seat.old old seat.new result) }
     ensures same { IsSameSeat (at_row seat.old site.word) seat.new }
     ensures may { IfOk result (MayShow J.ATTACKER key.now path.now) }
 {
@@ -204,7 +212,9 @@ pub(crate) fn enter_on<J: Job, R: Rows<J>>(
     requires room { length seat.old.seat.view.added < MOST_ADDED }
     ensures count { R.count rows.new ≡ R.count rows.old }
     ensures parts { seat.new.seat.view.parts ≡ seat.old.seat.view.parts }
-    ensures enters { RanOn J.ATTACKER (R.shards rows.old) (R.shards rows.new) site.shard (λ old new. EntersAndAdds old (at_row seat.old site.word) key.now numbers result new seat.new) }
+    ensures enters { RanOn J.ATTACKER (R.shards rows.old) (R.shards rows.new) site.shard
+        (λ old new. EntersAndAdds old (at_row seat.old site.word) key.now numbers result new
+        seat.new) }
 {
     let mut task = EnterTask {
         seat,
@@ -231,7 +241,9 @@ pub(crate) fn leave_on<J: Job, R: Rows<J>>(
     requires may { MayLeave (at_row seat.old site.word) kept }
     ensures count { R.count rows.new ≡ R.count rows.old }
     ensures parts { seat.new.seat.view.parts ≡ seat.old.seat.view.parts }
-    ensures leaves { RanOn J.ATTACKER (R.shards rows.old) (R.shards rows.new) site.shard (λ old new. LeavesAndSubtracts old (at_row seat.old site.word) kept key.now update new seat.new) }
+    ensures leaves { RanOn J.ATTACKER (R.shards rows.old) (R.shards rows.new) site.shard
+        (λ old new. LeavesAndSubtracts old (at_row seat.old site.word) kept key.now update new
+        seat.new) }
 {
     let mut update = Some(update);
     let mut task = LeaveTask {

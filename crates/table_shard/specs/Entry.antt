@@ -14,7 +14,8 @@ use Rattle.notes.specs.declared.words.Seen.TheVariants.{New, Open, Solved}
 use Rattle.notes.specs.declared.words.Update.{Update}
 use Rattle.notes.specs.declared.words.Update.TheVariants.{Numbers as SetNumbers, Note as AddNote, Nothing as ChangeNothing}
 
--- What a slot holds of a position: the position's key, its numbers, and notes about it, in order of coming.
+-- What a slot holds of a position: the position's key, its numbers, and notes about it, in order of
+-- coming.
 pub record EntryView : Type 0 where
   pub key : Key
   pub numbers : Numbers
@@ -56,8 +57,9 @@ pub record AreTagged (notes : List Derivation) : Type 0 where
   pub few : length notes ≤ 4
   pub tagged : All IsTagged notes
 
--- What is kept of an entry: its numbers are both from 1 to the cap; each note is valid, and about its position; and either one note that holds
--- on every path stands alone, or there are at most four others.
+-- What is kept of an entry: its numbers are both from 1 to the cap; each note is valid, and about
+-- its position; and either one note that holds on every path stands alone, or there are at most
+-- four others.
 pub record IsEntry (entry : EntryView) : Type 0 where
   pub numbers : IsOpen entry.numbers
   pub facts : All (IsFactAbout entry.key) entry.notes
@@ -70,15 +72,16 @@ IsFirstWithin path (note ∷ notes) found =
     (IsWithin (tag_of note) path × (found ≡ Some note))
     ⊎ (¬ IsWithin (tag_of note) path × IsFirstWithin path notes found)
 
--- What an entry shows to a worker on a path, with so many workers below the position: the first note that holds on the path; where
--- none does, its numbers and that count.
+-- What an entry shows to a worker on a path, with so many workers below the position: the first
+-- note that holds on the path; where none does, its numbers and that count.
 abbrev pub Shows : EntryView → List Key → ℕ → Seen → Type 0
 Shows entry path below New = ⊥
 Shows entry path below (Open numbers count) = IsFirstWithin path entry.notes None × (numbers ≡ entry.numbers) × (count ≡ below)
 Shows entry path below (Solved note) = IsFirstWithin path entry.notes (Some note)
 
--- The notes after another came. One that holds on every path replaces all. Another isn't kept beside one that does, or where it
--- depends on more than 32 positions; else it goes last, and the first goes where there are four.
+-- The notes after another came. One that holds on every path replaces all. Another isn't kept
+-- beside one that does, or where it depends on more than 32 positions; else it goes last, and the
+-- first goes where there are four.
 abbrev pub noted : List Derivation → Derivation → List Derivation
 noted notes note =
     if is_closed note then note ∷ []
@@ -91,7 +94,8 @@ updated entry (SetNumbers numbers) = record entry { numbers = numbers }
 updated entry (AddNote note) = record entry { notes = noted entry.notes note }
 updated entry ChangeNothing = entry
 
--- The update may be made to an entry of the key: its numbers are both from 1 to the cap, its note is about the key's position.
+-- The update may be made to an entry of the key: its numbers are both from 1 to the cap, its note
+-- is about the key's position.
 abbrev pub FitsKey : Key → Update → Type 0
 FitsKey key (SetNumbers numbers) = IsOpen numbers
 FitsKey key (AddNote note) = IsAbout key note

@@ -1,4 +1,5 @@
--- A table of positions: what an entry is, what a row of eight slots does, and which row a position has.
+-- A table of positions: what an entry is, what a row of eight slots does, and which row a position
+-- has.
 pub mod Entry
 pub mod Facts
 pub mod Pins

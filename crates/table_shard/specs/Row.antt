@@ -1,4 +1,5 @@
--- A row of eight slots: the entries in the order of their slots, from slot 0; the slots behind them are free.
+-- A row of eight slots: the entries in the order of their slots, from slot 0; the slots behind them
+-- are free.
 use Rattle.std.specs.Prelude.{◌≡◌, ◌≢◌, ◌<◌, ◌≤◌, ◌⊎◌, ◌++◌, ◌+◌, ℕ, zero, suc, List, [], ◌∷◌, All, IsSomeAnd, length, slice_get, slice_set, slice_index, false}
 use Rattle.board_core.specs.declared.keys.Key.{Key}
 use Rattle.pn_numbers.specs.declared.numbers.Numbers.{Numbers}
@@ -23,8 +24,8 @@ pub record IsRow (row : List EntryView) : Type 0 where
   pub entries : All IsEntry row
   pub apart : (one other : ℕ) (key : Key) → HoldsAt row one key → HoldsAt row other key → one ≡ other
 
--- What a look for the key shows: New exactly where no entry is the key's; else what its entry shows, with the count of workers of
--- its slot.
+-- What a look for the key shows: New exactly where no entry is the key's; else what its entry
+-- shows, with the count of workers of its slot.
 abbrev pub Looks : List EntryView → List ℕ → Key → List Key → Seen → Type 0
 Looks row pins key path New = Lacks row key
 Looks row pins key path (Open numbers below) =
@@ -47,8 +48,8 @@ pub record IsFirst (P : ℕ → Type 0) (n : ℕ) : Type 0 where
   pub has : P n
   pub none_before : (m : ℕ) → m < n → ¬ P m
 
--- The slot whose entry is given up for another: of the entries that no worker is below the first without a note that holds on every
--- path; where each of them has such a note, the first of them.
+-- The slot whose entry is given up for another: of the entries that no worker is below the first
+-- without a note that holds on every path; where each of them has such a note, the first of them.
 abbrev pub IsGivenUp : List EntryView → List ℕ → ℕ → Type 0
 IsGivenUp row pins slot =
     IsFirst (IsIdleUnsolved row pins) slot
@@ -58,14 +59,16 @@ IsGivenUp row pins slot =
 abbrev pub fresh : Key → Numbers → EntryView
 fresh key numbers = record { key = key; numbers = numbers; notes = [] }
 
--- The slot that a new entry takes, and the row after it: the first free slot; in a full row the one that is given up.
+-- The slot that a new entry takes, and the row after it: the first free slot; in a full row the one
+-- that is given up.
 abbrev pub Takes : List EntryView → List ℕ → EntryView → ℕ → List EntryView → Type 0
 Takes row pins entry slot after =
     ((length row < 8) × (slot ≡ length row) × (after ≡ row ++ entry ∷ []))
     ⊎ ((length row ≡ 8) × IsGivenUp row pins slot × (after ≡ slice_set row slot entry))
 
--- What entering the key with these numbers answers, and the row after it. The key's own slot: the row stays as it is. Else the slot
--- that a new entry takes. Unkept exactly where eight other entries are there with workers below each: the row stays as it is.
+-- What entering the key with these numbers answers, and the row after it. The key's own slot: the
+-- row stays as it is. Else the slot that a new entry takes. Unkept exactly where eight other
+-- entries are there with workers below each: the row stays as it is.
 abbrev pub Enters : List EntryView → List ℕ → Key → Numbers → Kept → List EntryView → Type 0
 Enters row pins key numbers (Slot slot) after =
     (HoldsAt row slot key × (after ≡ row)) ⊎ (Lacks row key × Takes row pins (fresh key numbers) slot after)
@@ -77,7 +80,8 @@ abbrev pub TellsCounts : {P : Type 0} → (P → ℕ → ℕ → P → Type 0) �
 TellsCounts told slot before [] after = before ≡ after
 TellsCounts {P} told slot before (count ∷ counts) after = (between : P) × told before slot count between × TellsCounts told (slot + 1) between counts after
 
--- Looking asks how many workers are below the key's slot where it shows numbers, and else asks nothing.
+-- Looking asks how many workers are below the key's slot where it shows numbers, and else asks
+-- nothing.
 abbrev pub AsksToLook : {P : Type 0} → (P → ℕ → ℕ → P → Type 0) → List EntryView → Key → P → Seen → P → Type 0
 AsksToLook told row key before (Open numbers below) after = (slot : ℕ) × HoldsAt row slot key × told before slot below after
 AsksToLook told row key before seen after = before ≡ after
@@ -92,7 +96,8 @@ pub record LooksBy {P : Type 0} (told : P → ℕ → ℕ → P → Type 0) (row
 abbrev pub HasPlace : List EntryView → Key → Type 0
 HasPlace row key = ((slot : ℕ) × HoldsAt row slot key) ⊎ (length row < 8)
 
--- Entering asks how many workers are below each of the eight slots where an entry has to be given up, and else asks nothing.
+-- Entering asks how many workers are below each of the eight slots where an entry has to be given
+-- up, and else asks nothing.
 abbrev pub AsksToEnter : {P : Type 0} → (P → ℕ → ℕ → P → Type 0) → List EntryView → Key → P → List ℕ → P → Type 0
 AsksToEnter told row key before counts after =
     (HasPlace row key × (before ≡ after))

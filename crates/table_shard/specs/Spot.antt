@@ -24,7 +24,8 @@ mark_of key = hash_of key.0 / 2 ^ 32
 abbrev pub spot_of : Key → ℕ → Spot
 spot_of key rows = record { place = place_of key rows; mark = mark_of key }
 
--- The word that counts the visits below a slot of a key's row, in a table of so many rows: the words of a row lie side by side, the first of
--- the first row is word 0. What is no slot of the eight has a word that no row has.
+-- The word that counts the visits below a slot of a key's row, in a table of so many rows: the
+-- words of a row lie side by side, the first of the first row is word 0. What is no slot of the
+-- eight has a word that no row has.
 abbrev pub word_of : ℕ → Key → ℕ → ℕ
 word_of rows key slot = if nat_lt slot 8 then 8 * place_of key rows + slot else 8 * rows

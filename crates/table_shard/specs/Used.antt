@@ -7,8 +7,8 @@ use Rattle.table_shard.specs.Row.{IsRow}
 abbrev pub is_free : List EntryView → Bool
 is_free row = length row == 0
 
--- What is kept of a shard: it has a row; each row is as rows are; the list of places has each row that isn't free, and has room for
--- the places of those that are.
+-- What is kept of a shard: it has a row; each row is as rows are; the list of places has each row
+-- that isn't free, and has room for the places of those that are.
 pub record IsShard (rows : List (List EntryView)) (used : List ℕ) (room : ℕ) : Type 0 where
   pub some : 0 < length rows
   pub each : All IsRow rows

@@ -7,7 +7,8 @@ ghost use Rattle.table_shard.specs.Entry.{IsTagged, IsFirstWithin, has_closed};
 use notes::Note;
 use path_tags::Path;
 
-// What is known of a position: nothing; one note that holds on every path; or up to four others, in order of coming.
+// What is known of a position: nothing; one note that holds on every path; or up to four others, in
+// order of coming.
 #[derive(Drop)]
 pub(crate) enum Facts {
     Unknown,
@@ -29,12 +30,15 @@ impl Facts {
         matches!(self, Facts::Closed(_))
     }
 
-    // The facts with another note, which depends on 1 to 32 positions, where none is kept that holds on every path.
+    // The facts with another note, which depends on 1 to 32 positions, where none is kept that
+    // holds on every path.
     pub(crate) fn with(self, note: Note) -> Facts
         requires facts { AreFacts self }
         requires tagged { IsTagged note }
         ensures facts { AreFacts result }
-        ensures notes { notes_of result ≡ (if has_closed (notes_of self) then notes_of self else drop (length (notes_of self) - 3) (notes_of self) ++ note ∷ []) }
+        ensures notes { notes_of result
+            ≡ (if has_closed (notes_of self) then notes_of self else drop
+            (length (notes_of self) - 3) (notes_of self) ++ note ∷ []) }
     {
         match self {
             Facts::Unknown => Facts::One(note),
@@ -68,7 +72,9 @@ impl Facts {
 
 // The note where it holds on the path, else the one that is found behind it.
 fn first<'a>(path: &Path, note: &'a Note, behind: Option<&'a Note>) -> Option<&'a Note>
-    ensures { (notes : List Derivation) → IsFirstWithin path.now notes (option_copied behind.entry) → IsFirstWithin path.now (note.now ∷ notes) (option_copied result) }
+    ensures { (notes : List Derivation)
+        → IsFirstWithin path.now notes (option_copied behind.entry)
+        → IsFirstWithin path.now (note.now ∷ notes) (option_copied result) }
 {
     if note.tag().within(path) {
         return Some(note);

@@ -37,8 +37,9 @@ pub(crate) fn hash_of(key: &Key) -> u64
     hash
 }
 
-/// Where a table has a position: in which row, and by which mark its entry there is told apart at a glance. Both are of a hash of the key's
-/// words, which is reckoned once for all that is asked of the table at a time.
+/// Where a table has a position: in which row, and by which mark its entry there is told apart at a
+/// glance. Both are of a hash of the key's words, which is reckoned once for all that is asked of
+/// the table at a time.
 #[derive(Clone, Copy, Debug)]
 pub struct Spot {
     /// The row, from 0.
@@ -47,7 +48,8 @@ pub struct Spot {
     pub mark: u32,
 }
 
-// Where a table of so many rows has the position of a key whose hash this is: in the row that the hash modulo the rows names.
+// Where a table of so many rows has the position of a key whose hash this is: in the row that the
+// hash modulo the rows names.
 pub(crate) fn spot_at(hash: u64, rows: usize) -> Spot
     requires { 0 < rows }
     ensures spot { (key : Key) → hash ≡ hash_of key.0 → result ≡ spot_of key rows }
@@ -59,8 +61,9 @@ pub(crate) fn spot_at(hash: u64, rows: usize) -> Spot
     }
 }
 
-/// Where a table that is cut into shards has a position: in which shard, by which hash that shard finds it, and which word counts the visits
-/// below the first slot of its row; the words of the other slots follow it.
+/// Where a table that is cut into shards has a position: in which shard, by which hash that shard
+/// finds it, and which word counts the visits below the first slot of its row; the words of the
+/// other slots follow it.
 #[derive(Clone, Copy, Debug)]
 pub struct Site {
     /// The shard, from 0.
@@ -71,8 +74,9 @@ pub struct Site {
     pub word: usize,
 }
 
-/// Where a table of so many shards, each of `own` rows, has the position of a key: in the row that a hash of the key's words names, modulo all
-/// rows. The shards have the rows in their order, so a shard finds the row's place among its own by that hash. Takes no memory.
+/// Where a table of so many shards, each of `own` rows, has the position of a key: in the row that
+/// a hash of the key's words names, modulo all rows. The shards have the rows in their order, so a
+/// shard finds the row's place among its own by that hash. Takes no memory.
 pub fn site_of(key: &Key, shards: usize, own: usize) -> Site
     requires shards { 0 < shards }
     requires own { 0 < own }
@@ -81,7 +85,8 @@ pub fn site_of(key: &Key, shards: usize, own: usize) -> Site
     ensures within { result.shard < shards }
     ensures hash { result.hash ≡ hash_of key.now.0 }
     ensures place { place_of key.now own ≡ place_of key.now (shards * own) % own }
-    ensures words { (slot : ℕ) → slot < 8 → word_of (shards * own) key.now slot ≡ result.word + slot }
+    ensures words { (slot : ℕ) → slot < 8 → word_of (shards * own) key.now slot
+        ≡ result.word + slot }
     ensures inside { result.word + 8 ≤ 8 * (shards * own) }
 {
     let hash = hash_of(key);

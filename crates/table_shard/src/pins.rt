@@ -2,7 +2,8 @@
 ghost use Rattle.std.specs.Prelude.{◌≡◌};
 ghost use Rattle.table_shard.specs.Row.{TellsCounts};
 
-/// TellsCounts how many workers are below a slot of a row, each time that it is asked. What it tells may be another number each time: others count, too.
+/// TellsCounts how many workers are below a slot of a row, each time that it is asked. What it
+/// tells may be another number each time: others count, too.
 pub trait Pins {
     ghost use Rattle.std.specs.Prelude.{◌<◌, ℕ};
 

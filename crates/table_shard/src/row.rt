@@ -19,8 +19,9 @@ use std::marker::Model;
 // How many slots a row has.
 pub(crate) const SLOTS: usize = 8;
 
-// The entries in the order of their slots; the slots behind them are free. Contracts see the list. Their marks stand side by side, so that a
-// look for a position of which the row knows nothing mostly reads these alone.
+// The entries in the order of their slots; the slots behind them are free. Contracts see the list.
+// Their marks stand side by side, so that a look for a position of which the row knows nothing
+// mostly reads these alone.
 #[derive(Drop)]
 pub(crate) struct Row {
     marks: ArrayVec<u32, SLOTS>,
@@ -111,7 +112,9 @@ impl Row {
         requires mark { mark ≡ mark_of key.now }
         requires ready { P.ready pins.old }
         ensures ready { P.ready pins.new }
-        ensures looks { MatchResult result (λ seen. LooksBy P.told self.now key.now path.now pins.old seen pins.new) (λ _. pins.old ≡ pins.new) }
+        ensures looks { MatchResult result
+            (λ seen. LooksBy P.told self.now key.now path.now pins.old seen pins.new)
+            (λ _. pins.old ≡ pins.new) }
     {
         let Some(slot) = slot_of(self.marks.as_slice(), &self.entries, mark, key) else {
             return Ok(Seen::New);
@@ -192,9 +195,11 @@ impl Row {
     }
 }
 
-// Whether the entry in a slot, which has this mark, is the key's. Where the marks differ, nothing of the entries is read.
+// Whether the entry in a slot, which has this mark, is the key's. Where the marks differ, nothing
+// of the entries is read.
 fn is_there(known: u32, entries: &ArrayVec<Entry, SLOTS>, slot: usize, mark: u32, key: &Key) -> bool
-    requires known { IsSomeAnd (slice_get entries.now.items slot) (λ entry. known ≡ mark_of entry.key) }
+    requires known { IsSomeAnd (slice_get entries.now.items slot) (λ entry. known
+        ≡ mark_of entry.key) }
     requires mark { mark ≡ mark_of key.now }
     ensures { IsTrue result ↔ HoldsAt entries.now.items slot key.now }
 {

@@ -18,14 +18,17 @@ use pn_numbers::Numbers;
 use std::alloc::{AllocError, Global};
 use std::marker::Model;
 
-/// Rows of eight slots, in which a search keeps what it knows of positions. Which row a position has, its key says: whoever asks of a
-/// position hands in its [`Spot`] among the shard's rows, reckoned once by [`Shard::spot_of`].
+/// Rows of eight slots, in which a search keeps what it knows of positions. Which row a position
+/// has, its key says: whoever asks of a position hands in its [`Spot`] among the shard's rows,
+/// reckoned once by [`Shard::spot_of`].
 ///
-/// It keeps that it has a row, that each entry is true (its numbers are both from 1 to the cap, its notes are about its position, and
-/// one that holds on every path stands alone), and that no two entries of a row are of one position.
+/// It keeps that it has a row, that each entry is true (its numbers are both from 1 to the cap, its
+/// notes are about its position, and one that holds on every path stands alone), and that no two
+/// entries of a row are of one position.
 ///
-/// Looking and entering ask how many workers are below a slot's entry, where it matters ([`Pins`]). A full row gives up an entry that no worker is
-/// below; only looking can want memory once the shard is made.
+/// Looking and entering ask how many workers are below a slot's entry, where it matters ([`Pins`]).
+/// A full row gives up an entry that no worker is below; only looking can want memory once the
+/// shard is made.
 #[derive(Drop)]
 pub struct Shard {
     rows: Vec<Row>,
@@ -50,8 +53,8 @@ impl Model for Shard {
 }
 
 impl Shard {
-    /// A shard of so many rows, which needs at least one, and all its memory but for that of the notes: about 912 bytes a row.
-    /// Errors: want of memory alone.
+    /// A shard of so many rows, which needs at least one, and all its memory but for that of the
+    /// notes: about 912 bytes a row. Errors: want of memory alone.
     pub fn make(alloc: Global, rows: usize) -> Result<Shard, AllocError>
         requires { 0 < rows }
         ensures { IfOk result (λ shard. shard ≡ replicate rows []) }
@@ -64,8 +67,9 @@ impl Shard {
         Ok(Shard { rows: made, used })
     }
 
-    /// What the type keeps: it has a row, and each row has at most eight entries, each true, no two of one position. Does nothing;
-    /// whoever wants to know this of a shard calls it. Takes no memory.
+    /// What the type keeps: it has a row, and each row has at most eight entries, each true, no two
+    /// of one position. Does nothing; whoever wants to know this of a shard calls it. Takes no
+    /// memory.
     pub fn laws(&self)
         ensures some { 0 < length self.now }
         ensures rows { All IsRow self.now }
@@ -73,8 +77,9 @@ impl Shard {
         let _kept = &self.rows;
     }
 
-    /// Takes all entries out, for the search of another problem, and sets the counts beside each row that had some to zero, in the time of
-    /// the rows that have some. The counts are one of eight for each row, and those beside rows without entries are zero. Takes no memory.
+    /// Takes all entries out, for the search of another problem, and sets the counts beside each
+    /// row that had some to zero, in the time of the rows that have some. The counts are one of
+    /// eight for each row, and those beside rows without entries are zero. Takes no memory.
     pub fn empty(&mut self, pins: &mut [[u64; 8]])
         requires { AreUncounted self.old pins.old }
         ensures rows { self.new ≡ replicate (length self.old) [] }
@@ -87,7 +92,8 @@ impl Shard {
         }
     }
 
-    /// Takes all entries out, for the search of another problem, in the time of the rows that have some. Takes no memory.
+    /// Takes all entries out, for the search of another problem, in the time of the rows that have
+    /// some. Takes no memory.
     pub fn clear(&mut self)
         ensures { self.new ≡ replicate (length self.old) [] }
     {
@@ -96,8 +102,9 @@ impl Shard {
         }
     }
 
-    /// Where it has the position of a key: in the row that a hash of the key's words, modulo its rows, names. Whoever keeps counts beside its
-    /// rows keeps them at these places. Takes no memory.
+    /// Where it has the position of a key: in the row that a hash of the key's words, modulo its
+    /// rows, names. Whoever keeps counts beside its rows keeps them at these places. Takes no
+    /// memory.
     pub fn spot_of(&self, key: &Key) -> Spot
         ensures spot { result ≡ spot_of key.now (length self.now) }
         ensures there { result.place < length self.now }
@@ -105,7 +112,8 @@ impl Shard {
         self.spot_at(hash_of(key))
     }
 
-    /// The same for a key whose hash this is, which [`site_of`](crate::site_of) tells. Takes no memory.
+    /// The same for a key whose hash this is, which [`site_of`](crate::site_of) tells. Takes no
+    /// memory.
     pub fn spot_at(&self, hash: u64) -> Spot
         ensures spot { (key : Key) → hash ≡ hash_of key.0 → result ≡ spot_of key (length self.now) }
         ensures there { result.place < length self.now }
@@ -131,8 +139,9 @@ impl Shard {
         self.rows[spot.place].holds(slot, key)
     }
 
-    /// What the table shows of a position to a worker on the path: New exactly where it has no entry of the key; Solved with the first
-    /// note that holds on the path, where one does; else Open with the numbers and how many workers are below, which is asked for then alone. The
+    /// What the table shows of a position to a worker on the path: New exactly where it has no
+    /// entry of the key; Solved with the first note that holds on the path, where one does; else
+    /// Open with the numbers and how many workers are below, which is asked for then alone. The
     /// note is shared. Errors: want of memory alone; then nothing was asked.
     pub fn look<P: Pins>(
         &self,
@@ -144,21 +153,26 @@ impl Shard {
         requires spot { spot ≡ spot_of key.now (length self.now) }
         requires ready { P.ready pins.old }
         ensures ready { P.ready pins.new }
-        ensures looks { MatchResult result (λ seen. LooksBy P.told (row_of self.now key.now) key.now path.now pins.old seen pins.new) (λ _. pins.old ≡ pins.new) }
+        ensures looks { MatchResult result
+            (λ seen. LooksBy P.told (row_of self.now key.now) key.now path.now pins.old seen
+            pins.new) (λ _. pins.old ≡ pins.new) }
     {
         self.rows[spot.place].look(spot.mark, key, path, pins)
     }
 
-    /// Enters a position: answers the slot of its entry. Where it has none, it gets one with these numbers, both from 1 to the cap, in
-    /// the row's first free slot, else in that of an entry that no worker is below, which is given up: the first without a note that
-    /// holds on every path, else the first. Unkept exactly where eight other entries have workers below. Where an entry has to be given up, the
-    /// counts of all eight slots are asked for, in their order, and else none. Takes no memory.
+    /// Enters a position: answers the slot of its entry. Where it has none, it gets one with these
+    /// numbers, both from 1 to the cap, in the row's first free slot, else in that of an entry that
+    /// no worker is below, which is given up: the first without a note that holds on every path,
+    /// else the first. Unkept exactly where eight other entries have workers below. Where an entry
+    /// has to be given up, the counts of all eight slots are asked for, in their order, and else
+    /// none. Takes no memory.
     pub fn enter<P: Pins>(&mut self, spot: Spot, key: &Key, numbers: Numbers, pins: &mut P) -> Kept
         requires spot { spot ≡ spot_of key.now (length self.old) }
         requires ready { P.ready pins.old }
         requires open { IsOpen numbers }
         ensures ready { P.ready pins.new }
-        ensures entered { EntersInBy P.told self.old key.now numbers pins.old result self.new pins.new }
+        ensures entered { EntersInBy P.told self.old key.now numbers pins.old result self.new
+            pins.new }
         ensures kept { IsKeptAt (row_of self.new key.now) key.now result }
     {
         let place = spot.place;
@@ -173,14 +187,16 @@ impl Shard {
         kept
     }
 
-    /// Leaves a position whose entry is in the slot, with what was found out. A note that holds on every path replaces all notes; any
-    /// other goes last, unless one that holds on every path is there or it depends on more than 32 positions, and where there are four
-    /// the first goes. A note leaves the numbers as they are. Takes no memory.
+    /// Leaves a position whose entry is in the slot, with what was found out. A note that holds on
+    /// every path replaces all notes; any other goes last, unless one that holds on every path is
+    /// there or it depends on more than 32 positions, and where there are four the first goes. A
+    /// note leaves the numbers as they are. Takes no memory.
     pub fn leave(&mut self, spot: Spot, slot: u8, key: &Key, update: Update)
         requires spot { spot ≡ spot_of key.now (length self.old) }
         requires there { HoldsAt (row_of self.old key.now) slot key.now }
         requires fits { FitsKey key.now update }
-        ensures left { self.new ≡ with_row self.old key.now (left (row_of self.old key.now) slot update) }
+        ensures left { self.new
+            ≡ with_row self.old key.now (left (row_of self.old key.now) slot update) }
         ensures stays { (other : Key) (place : ℕ) → StaysAt self.old self.new other place }
     {
         let row = &mut self.rows[spot.place];
@@ -188,8 +204,9 @@ impl Shard {
         row.laws();
     }
 
-    /// Leaves a position for which entering was answered this slot, as [`leave`](Shard::leave) does, where the slot has its entry; where it
-    /// hasn't, nothing changes. So nobody has to know that the entry is still there. Takes no memory.
+    /// Leaves a position for which entering was answered this slot, as [`leave`](Shard::leave)
+    /// does, where the slot has its entry; where it hasn't, nothing changes. So nobody has to know
+    /// that the entry is still there. Takes no memory.
     pub fn leave_held(&mut self, spot: Spot, slot: u8, key: &Key, update: Update)
         requires spot { spot ≡ spot_of key.now (length self.old) }
         requires fits { FitsKey key.now update }

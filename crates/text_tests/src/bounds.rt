@@ -1,4 +1,5 @@
-// Bounds as texts: those that are read are written again, and of the others the first line that is wrong is named.
+// Bounds as texts: those that are read are written again, and of the others the first line that is
+// wrong is named.
 use crate::same::{same, shown};
 use bound_text::{BoundEnd, read_bound, write_bound};
 use sfen_text::read_sfen;

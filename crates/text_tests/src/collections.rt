@@ -5,7 +5,8 @@ use std::alloc::{AllocError, Global};
 use std::process::Abort;
 use std::test::Fail;
 
-// What is listed of a text: of each line its number, `!` where it is too long, and its problem between `<` and `>`.
+// What is listed of a text: of each line its number, `!` where it is too long, and its problem
+// between `<` and `>`.
 fn listed(alloc: Global, text: &[u8]) -> Result<Vec<u8>, AllocError> {
     let mut told = Vec::new(alloc);
     let mut lines = Lines::new(text);
@@ -99,7 +100,8 @@ fn padded(
 #[test]
 fn a_line_of_too_many_bytes_is_told(rt: HostRuntime) -> Result<(), Fail> {
     let alloc = rt.alloc();
-    // The front of the text, how often a byte follows, what stands behind, and what is listed of it but for that byte.
+    // The front of the text, how often a byte follows, what stands behind, and what is listed of it
+    // but for that byte.
     let rows: [(&[u8], u8, usize, &[u8], &str); 8] = [
         (b"", b'a', MOST_PROBLEM_BYTES, b"\nb", "1<>2<b>"),
         (b"", b'a', MOST_PROBLEM_BYTES, b"\r\nb", "1<>2<b>"),

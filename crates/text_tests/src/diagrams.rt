@@ -5,9 +5,9 @@ use std::alloc::Global;
 use std::process::Abort;
 use std::test::Fail;
 
-// A mate in one: the white king on 5a, a black pawn on 5c, a gold in Black's hand. The lines are the comment, White's
-// hand, the files, the frame, the rows a to i in the lines 5 to 13, the frame, Black's hand in line 15, and the first
-// line of the moves.
+// A mate in one: the white king on 5a, a black pawn on 5c, a gold in Black's hand. The lines are
+// the comment, White's hand, the files, the frame, the rows a to i in the lines 5 to 13, the frame,
+// Black's hand in line 15, and the first line of the moves.
 const DIAGRAM: &str = "# KIF
 後手の持駒：なし
   ９ ８ ７ ６ ５ ４ ３ ２ １
@@ -186,7 +186,8 @@ fn the_first_fault_is_named_with_its_place(rt: HostRuntime) -> Result<(), Fail> 
     Ok(())
 }
 
-// A byte that no UTF-8 text has, at each place: the character that it breaks is named by its first byte.
+// A byte that no UTF-8 text has, at each place: the character that it breaks is named by its first
+// byte.
 #[test]
 fn a_broken_character_is_named_by_its_first_byte(rt: HostRuntime) -> Result<(), Fail> {
     let mut starts = 0;

@@ -1,7 +1,8 @@
-//! The public calls on texts (moves, positions, certificates, bounds, collections) and on problems by number, by examples.
+//! The public calls on texts (moves, positions, certificates, bounds, collections) and on problems
+//! by number, by examples.
 //!
-//! The tests of this layer stand here and not in its libraries, so that no library is proved twice. Without tests this
-//! crate is empty.
+//! The tests of this layer stand here and not in its libraries, so that no library is proved twice.
+//! Without tests this crate is empty.
 #![tactic(auto)]
 
 #[cfg(test)]

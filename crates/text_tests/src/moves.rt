@@ -7,7 +7,8 @@ use std::process::Abort;
 use std::test::Fail;
 use usi_text::{mate_line, nomate_line, read_move, timeout_line, write_move};
 
-// Texts, and the moves that they are by the USI protocol. A square's number is 9 * (file - 1) + (row - 1).
+// Texts, and the moves that they are by the USI protocol. A square's number is 9 * (file - 1) +
+// (row - 1).
 #[test]
 fn moves_are_read_and_written(rt: HostRuntime) -> Result<(), Fail> {
     let table = [

@@ -1,5 +1,5 @@
-// What the standard input asks for: a problem, the settings of its search, and what happens in the world of its
-// workers.
+// What the standard input asks for: a problem, the settings of its search, and what happens in the
+// world of its workers.
 use lone_port::Event;
 use search_limits::Settings;
 use sfen_text::read_sfen;
@@ -15,7 +15,8 @@ pub struct Asked {
     pub settings: Settings,
     /// Whether several workers search, and a schedule says what happens; else one searches alone.
     pub is_world: bool,
-    /// Whether each of several workers has a port of its own of one shared table, whose rows go from one to the next.
+    /// Whether each of several workers has a port of its own of one shared table, whose rows go
+    /// from one to the next.
     pub is_by_ports: bool,
     /// The schedule.
     pub events: Vec<Event>,

@@ -175,9 +175,9 @@ impl Lines {
         self.end_by(word, &[]);
     }
 
-    /// The last line of a world: how many units were drawn, for how many notes room was claimed, whether a note is
-    /// posted, how many workers have ended, and how many visits are below the slots of the table. Nothing where one
-    /// worker is alone.
+    /// The last line of a world: how many units were drawn, for how many notes room was claimed,
+    /// whether a note is posted, how many workers have ended, and how many visits are below the
+    /// slots of the table. Nothing where one worker is alone.
     pub fn total(&mut self, drawn: u64, claimed: u32, posted: bool, ended: u32, below: u64) {
         if !self.is_world {
             return;

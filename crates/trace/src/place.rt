@@ -3,8 +3,8 @@ ghost use Rattle.std.specs.Prelude.{◌<◌};
 
 use board_core::{Hand, Key, Kind, Piece, Position, Side};
 
-// The piece of a code: 1 to 14 are Black's, 15 to 28 White's. Of these 1 to 8 are the kinds in their order, 9 to 14
-// the promoted ones.
+// The piece of a code: 1 to 14 are Black's, 15 to 28 White's. Of these 1 to 8 are the kinds in
+// their order, 9 to 14 the promoted ones.
 fn piece_of(code: u64) -> Option<Piece> {
     let (side, low) = if code > 14 {
         (Side::White, code - 14)
@@ -57,8 +57,8 @@ fn hand_of(bits: u64) -> Hand {
     ])
 }
 
-/// The position of a key, in the search of a problem of this attacker; none where it is the key of none. The attacker
-/// may have no king, so it is built with him to move.
+/// The position of a key, in the search of a problem of this attacker; none where it is the key of
+/// none. The attacker may have no king, so it is built with him to move.
 pub fn position_of(key: &Key, attacker: Side) -> Option<Position> {
     let mut cells = [None; 81];
     for number in 0..81 {

@@ -32,7 +32,8 @@ struct Shared<J: Job> {
     lines: Lines,
 }
 
-// A worker with its port, and the stop that its polls ask. While it isn't at work its port has rows and a stop of no account.
+// A worker with its port, and the stop that its polls ask. While it isn't at work its port has rows
+// and a stop of no account.
 #[derive(Drop)]
 struct Lane<'a, J: Job>
 where
@@ -95,7 +96,8 @@ where
     }
 }
 
-// What all workers stand on: the words that count them, the desk, the gate, and how the table is cut.
+// What all workers stand on: the words that count them, the desk, the gate, and how the table is
+// cut.
 #[derive(Clone, Copy, Drop)]
 struct Ground<'a> {
     words: &'a WorkerCounts,
@@ -132,9 +134,13 @@ where
     requires attacks { problem.now.position.side ≡ J.ATTACKER }
     requires desk { ground.desk.now.position ≡ problem.now.position }
     requires seat { (seat.old.counts ≡ ground.words.now) × (1 < seat.old.view.parts) }
-    requires desk_seat { (desk_seat.old.desk ≡ ground.desk.now) × (1 < desk_seat.old.parts) × (desk_seat.old.draw_ends ≡ 0) × (desk_seat.old.claim_ends ≡ 0) }
-    ensures seat { (seat.new.counts ≡ seat.old.counts) × (seat.new.view.parts + 1 ≡ seat.old.view.parts) }
-    ensures desk_seat { (desk_seat.new.desk ≡ desk_seat.old.desk) × (desk_seat.new.parts + 1 ≡ desk_seat.old.parts) × (desk_seat.new.draw_ends ≡ 0) × (desk_seat.new.claim_ends ≡ 0) }
+    requires desk_seat { (desk_seat.old.desk ≡ ground.desk.now) × (1 < desk_seat.old.parts)
+        × (desk_seat.old.draw_ends ≡ 0) × (desk_seat.old.claim_ends ≡ 0) }
+    ensures seat { (seat.new.counts ≡ seat.old.counts)
+        × (seat.new.view.parts + 1 ≡ seat.old.view.parts) }
+    ensures desk_seat { (desk_seat.new.desk ≡ desk_seat.old.desk)
+        × (desk_seat.new.parts + 1 ≡ desk_seat.old.parts) × (desk_seat.new.draw_ends ≡ 0)
+        × (desk_seat.new.claim_ends ≡ 0) }
 {
     let seats = Seats {
         row: RowSeat::new(ground.words, ground.words.make_seat(seat)),
@@ -275,7 +281,8 @@ where
     requires attacks { problem.now.position.side ≡ J.ATTACKER }
     requires desk { ground.desk.now.position ≡ problem.now.position }
     requires seat { (seat.old.counts ≡ ground.words.now) × (count < seat.old.view.parts) }
-    requires desk_seat { (desk_seat.old.desk ≡ ground.desk.now) × (count < desk_seat.old.parts) × (desk_seat.old.draw_ends ≡ 0) × (desk_seat.old.claim_ends ≡ 0) }
+    requires desk_seat { (desk_seat.old.desk ≡ ground.desk.now) × (count < desk_seat.old.parts)
+        × (desk_seat.old.draw_ends ≡ 0) × (desk_seat.old.claim_ends ≡ 0) }
 {
     let mut lanes = Vec::new(alloc);
     for place in 0..count {
@@ -323,7 +330,8 @@ where
     turns.into_text().ok_or(AllocError)
 }
 
-/// The lines of the world that is asked for, where each worker has a port of its own. Errors: want of memory alone.
+/// The lines of the world that is asked for, where each worker has a port of its own. Errors: want
+/// of memory alone.
 pub fn trace_ports(alloc: Global, asked: &Asked) -> Result<Vec<u8>, AllocError> {
     match asked.problem.attacker() {
         Side::Black => traced::<BlackJob>(alloc, asked),

@@ -11,7 +11,8 @@ use std::marker::Model;
 use worker_core::Worker;
 use world_play::{World, starve_in_crew, turn_in_crew};
 
-/// The workers of a world, and the table and the desk that they share, with the lines that tell what happened.
+/// The workers of a world, and the table and the desk that they share, with the lines that tell
+/// what happened.
 ///
 /// It keeps that what the table and the desk count is what its workers have, all together.
 #[derive(Drop)]
@@ -154,7 +155,8 @@ impl Told {
     }
 }
 
-/// The lines of the search that is asked for, by one worker, or of the world of several. Errors: want of memory alone.
+/// The lines of the search that is asked for, by one worker, or of the world of several. Errors:
+/// want of memory alone.
 pub fn trace(alloc: Global, asked: &Asked) -> Result<Vec<u8>, AllocError> {
     if asked.is_by_ports {
         return trace_ports(alloc, asked);

@@ -31,8 +31,9 @@ GivesProblem None = ⊥
 GivesProblem (Some (to_check asked)) = IsProblemAsked asked.problem
 GivesProblem (Some other) = ⊥
 
--- Why no command was begun: the words are refused with this cause; or they give a problem that is none; or memory was wanted, which is free.
--- (That a word is no UTF-8 is told before the program's run.)
+-- Why no command was begun: the words are refused with this cause; or they give a problem that is
+-- none; or memory was wanted, which is free. (That a word is no UTF-8 is told before the program's
+-- run.)
 abbrev pub IsRefusal : List Word → Option Wish → Refusal → Type 0
 IsRefusal words wish NotUtf8 = ⊥
 IsRefusal words wish (Words fault) = (wish ≡ None) × IsRefusalOf words fault
@@ -47,9 +48,10 @@ IsUnasked stops source = IsUntouched source × AreUnused stops
 abbrev pub help_meaning : Statement (String Global)
 help_meaning = record { IsTrue = λ text. ⊤; text_of = string_bytes }
 
--- What a run kept, by how it ended and what the words asked for: what the command promises of its run, where it ended as that command does;
--- and no other command ends a run. Where no command was begun, words that ask for none may ask for help, whose text was written; or there was a
--- refusal, and nothing was written.
+-- What a run kept, by how it ended and what the words asked for: what the command promises of its
+-- run, where it ended as that command does; and no other command ends a run. Where no command was
+-- begun, words that ask for none may ask for help, whose text was written; or there was a refusal,
+-- and nothing was written.
 abbrev pub IsKept : Ended → Option Wish → List Word → Signals → Shown → Shown → Type 0
 IsKept (Solve ended) (Some (to_solve asked)) words stops source sink =
     IsSolveRun asked stops source sink ended

@@ -24,7 +24,8 @@ use Rattle.tsume_app.specs.declared.telling.Told.{Told}
 use Rattle.tsume_app.specs.declared.telling.Told.TheVariants.{Whole, InPart, Nothing}
 use Rattle.tsume_app.specs.Run.{IsKept, GivesFault, GivesHelp, WantsMemory}
 
--- How many expansions a search has that the user is told of while it runs; none where that wasn't asked for.
+-- How many expansions a search has that the user is told of while it runs; none where that wasn't
+-- asked for.
 abbrev pub limit_told : Wish → Option ℕ
 limit_told (to_solve asked) = if asked.watch.progress then Some asked.settings.expansions else None
 limit_told (to_check asked) = None
@@ -38,7 +39,8 @@ refusal_status (Words fault) = 2
 refusal_status (Asked fault) = 2
 refusal_status NoMemory = 6
 
--- The status of a run: that of the command's ending, by that of its answer, which is 0 for a survey and for help; or that of the refusal.
+-- The status of a run: that of the command's ending, by that of its answer, which is 0 for a survey
+-- and for help; or that of the refusal.
 abbrev pub status_of : Ended → ℕ
 status_of (Solve ended) = ended_status solution_status ended
 status_of (Check ended) = ended_status judgement_status ended
@@ -47,15 +49,16 @@ status_of (Collection ended) = ended_status counts_status ended
 status_of (Help ended) = written_status (λ text. 0) ended
 status_of (Refused refusal) = refusal_status refusal
 
--- What the user is told where no command was begun: a line, and behind it more for want of memory alone.
+-- What the user is told where no command was begun: a line, and behind it more for want of memory
+-- alone.
 abbrev pub refusal_telling : Refusal → Telling
 refusal_telling NotUtf8 = alone (codes "a word is not UTF-8")
 refusal_telling (Words fault) = alone (word_fault_text fault)
 refusal_telling (Asked fault) = alone (problem_fault_text fault)
 refusal_telling NoMemory = plainly (codes "out of memory")
 
--- What the user is told of a run beside its answer: what is told of the command's ending, by what is told of a fault of its text; or of the
--- refusal.
+-- What the user is told of a run beside its answer: what is told of the command's ending, by what
+-- is told of a fault of its text; or of the refusal.
 abbrev pub telling_of : Ended → Telling
 telling_of (Solve ended) = ended_telling problem_fault_text MayFollowProblem ended
 telling_of (Check ended) = ended_telling certificate_fault_text (λ fault. IsPlain) ended
@@ -78,13 +81,15 @@ pub record IsToldInPart (errors : Shown) (ended : Ended) : Type 0 where
   pub grew : GrewByPrefix errors.told errors.told_after text
   pub failed : Rose errors.faults errors.faults_after
 
--- How much of a run's ending the user was told: all; a part, where the sink failed; or nothing, for want of memory, which is free.
+-- How much of a run's ending the user was told: all; a part, where the sink failed; or nothing, for
+-- want of memory, which is free.
 abbrev pub IsTold : Shown → Ended → Told → Type 0
 IsTold errors ended Whole = IsToldWhole errors ended
 IsTold errors ended InPart = IsToldInPart errors ended
 IsTold errors ended Nothing = IsUntouched errors
 
--- A run ended as runs do, the user was told of it whole, in part or not at all, and the status is the ending's.
+-- A run ended as runs do, the user was told of it whole, in part or not at all, and the status is
+-- the ending's.
 pub record IsToldRun (words : List Word) (stops : Signals) (source sink errors : Shown) (status : ℕ) : Type 0 where
   pub ended : Ended
   pub told : Told

@@ -16,7 +16,8 @@ use tsume_words::WordFault;
 /// Why no command was begun. Nothing was read or written.
 #[derive(Drop)]
 pub enum Refusal {
-    /// A word of the command line is no UTF-8. The program's run takes text alone: whoever makes the words tells this.
+    /// A word of the command line is no UTF-8. The program's run takes text alone: whoever makes
+    /// the words tells this.
     NotUtf8,
     /// The words of the command line are refused.
     Words(WordFault),
@@ -74,8 +75,10 @@ impl Refusal {
 }
 
 impl Ended {
-    /// The exit status: 0 for a verdict, an accepted certificate, a survey or help, 1 where a search gave up, 7 where a certificate is refused; of
-    /// a collection 3 where a line is no problem, else 1 where a search gave up, else 0; 2 where the words are refused, 3 where the input is, 4 where the source failed, 5 where the sink failed, 6 for want of memory.
+    /// The exit status: 0 for a verdict, an accepted certificate, a survey or help, 1 where a
+    /// search gave up, 7 where a certificate is refused; of a collection 3 where a line is no
+    /// problem, else 1 where a search gave up, else 0; 2 where the words are refused, 3 where the
+    /// input is, 4 where the source failed, 5 where the sink failed, 6 for want of memory.
     pub fn status(&self) -> u8
         ensures { result ≡ status_of self.now }
     {
@@ -89,8 +92,9 @@ impl Ended {
         }
     }
 
-    /// What the user is told of the run beside its answer: nothing where it was answered; else a line, and behind it what is at fault, what was
-    /// expected, and what to do. Errors: want of memory for the line.
+    /// What the user is told of the run beside its answer: nothing where it was answered; else a
+    /// line, and behind it what is at fault, what was expected, and what to do. Errors: want of
+    /// memory for the line.
     pub fn told(&self, alloc: Global) -> Result<Vec<u8>, AllocError>
         ensures { IfOk result (λ text. BeginsAsTold (telling_of self.now) text.items) }
     {

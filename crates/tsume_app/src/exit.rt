@@ -5,8 +5,8 @@ ghost use Rattle.std.specs.Process.{exit_status};
 use std::io::Eprint;
 use std::process::{ExitCode, Termination};
 
-/// How the process ends: with the status of its run. Nothing but [`start`](crate::start) makes one, so a `main` that returns it can't
-/// end otherwise.
+/// How the process ends: with the status of its run. Nothing but [`start`](crate::start) makes one,
+/// so a `main` that returns it can't end otherwise.
 #[derive(Drop)]
 pub struct Exit {
     pub(crate) status: u8,

@@ -1,9 +1,11 @@
-//! The program `tsume` as a library: [`run`] takes the words of the command line, read once ([`WordsRead`]), a source, a sink, a gate, stops and the handle
-//! for threads, and hands them on to the command that the words ask for.
+//! The program `tsume` as a library: [`run`] takes the words of the command line, read once
+//! ([`WordsRead`]), a source, a sink, a gate, stops and the handle for threads, and hands them on
+//! to the command that the words ask for.
 //!
-//! Its contract is the commands' own: whatever command ended the run is the one that the words asked for, and kept all that it promises. How a run
-//! ended is an [`Ended`], a sum of the commands' endings, with the status and what the user is told as each command has them. So a further
-//! command is a variant of it, and an arm.
+//! Its contract is the commands' own: whatever command ended the run is the one that the words
+//! asked for, and kept all that it promises. How a run ended is an [`Ended`], a sum of the
+//! commands' endings, with the status and what the user is told as each command has them. So a
+//! further command is a variant of it, and an arm.
 #![tactic(auto)]
 
 mod ended;

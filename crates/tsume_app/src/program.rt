@@ -35,7 +35,8 @@ use tsume_words::WordsEnd;
 // text's first fault.
 fn asked(command: &Command) -> Result<(), ProblemFault>
     ensures fault { IfErr result (GivesFault (Some (wish_of command.now))) }
-    ensures stopped { (fault : ProblemFault) → GivesFault (Some (wish_of command.now)) fault → result ≡ Err fault }
+    ensures stopped { (fault : ProblemFault) → GivesFault (Some (wish_of command.now)) fault
+        → result ≡ Err fault }
 {
     match command {
         Command::Check(asked) => {
@@ -86,9 +87,12 @@ fn command_ended<R: Threads + Wait + Sync, S: Source, K: Sink, G: Gate, T: Stop 
     stops: &mut Vec<T>,
 ) -> Ended
     requires { length stops.old.items ≡ MOST_WORKERS }
-    ensures kept { (words : List Word) → IsKept result (Some (wish_of command.now)) words (signals T.signal stops.old.items stops.new.items)
+    ensures kept { (words : List Word)
+        → IsKept result (Some (wish_of command.now)) words
+        (signals T.signal stops.old.items stops.new.items)
         (shown S.left S.faults source.old source.new) (shown K.kept K.faults sink.old sink.new) }
-    ensures asked { (fault : ProblemFault) → GivesFault (Some (wish_of command.now)) fault → result ≡ Ended.Refused (Refusal.Asked fault) }
+    ensures asked { (fault : ProblemFault) → GivesFault (Some (wish_of command.now)) fault
+        → result ≡ Ended.Refused (Refusal.Asked fault) }
 {
     match command {
         Command::Solve(asked) => Ended::Solve(solve(rt, alloc, asked, source, sink, gate, stops)),
@@ -108,13 +112,17 @@ fn words_ended<R: Threads + Wait + Sync, S: Source, K: Sink, G: Gate, T: Stop + 
     stops: &mut Vec<T>,
 ) -> Ended
     requires { length stops.old.items ≡ MOST_WORKERS }
-    ensures kept { IsKept result (command_of words) words (signals T.signal stops.old.items stops.new.items)
+    ensures kept { IsKept result (command_of words) words
+        (signals T.signal stops.old.items stops.new.items)
         (shown S.left S.faults source.old source.new) (shown K.kept K.faults sink.old sink.new) }
-    ensures help { AsksForHelp words → ¬ Rose (K.faults sink.old) (K.faults sink.new) → GivesHelp result ⊎ WantsMemory result }
+    ensures help { AsksForHelp words → ¬ Rose (K.faults sink.old) (K.faults sink.new)
+        → GivesHelp result ⊎ WantsMemory result }
     ensures stopped { (fault : WordFault) → FailsFirst words fault
-        → (result ≡ Ended.Refused (Refusal.Words fault)) ⊎ (result ≡ Ended.Refused Refusal.NoMemory) }
+        → (result ≡ Ended.Refused (Refusal.Words fault))
+        ⊎ (result ≡ Ended.Refused Refusal.NoMemory) }
     ensures asked { (fault : ProblemFault) → GivesFault (command_of words) fault
-        → (result ≡ Ended.Refused (Refusal.Asked fault)) ⊎ (result ≡ Ended.Refused Refusal.NoMemory) }
+        → (result ≡ Ended.Refused (Refusal.Asked fault))
+        ⊎ (result ≡ Ended.Refused Refusal.NoMemory) }
 {
     match words.into_reading() {
         Ok(asked) => command_ended(rt, alloc, &asked.command, source, sink, gate, stops),
@@ -126,7 +134,8 @@ fn words_ended<R: Threads + Wait + Sync, S: Source, K: Sink, G: Gate, T: Stop + 
 
 // The same text once more. Errors: want of memory alone.
 fn copied(alloc: Global, text: &Option<String>) -> Result<Option<String>, AllocError>
-    ensures { IfOk result (λ copy. option_map string_bytes copy ≡ option_map string_bytes text.now) }
+    ensures { IfOk result (λ copy. option_map string_bytes copy
+        ≡ option_map string_bytes text.now) }
 {
     match text {
         Some(text) => Ok(Some(String::from_str(alloc, text.as_str())?)),
@@ -134,17 +143,21 @@ fn copied(alloc: Global, text: &Option<String>) -> Result<Option<String>, AllocE
     }
 }
 
-/// The file that the words name for their command to read, as they have its path: the word FILE, unless it is `-`. None where the standard
-/// input is to be read, and where the words are refused, ask for help, or give a problem that is none, so that nothing is opened then. Whoever calls [`run`] makes the
-/// source of it: one whose first read fails, where the file can't be opened. Errors: want of memory alone.
+/// The file that the words name for their command to read, as they have its path: the word FILE,
+/// unless it is `-`. None where the standard input is to be read, and where the words are refused,
+/// ask for help, or give a problem that is none, so that nothing is opened then. Whoever calls
+/// [`run`] makes the source of it: one whose first read fails, where the file can't be opened.
+/// Errors: want of memory alone.
 pub fn named_file(alloc: Global, words: &WordsRead) -> Result<Option<String>, AllocError>
     // The file of a command whose problem, where the words give one, has no fault.
-    ensures named { (wish : Wish) → command_of words.now ≡ Some wish → ((fault : ProblemFault) → ¬ GivesFault (Some wish) fault)
+    ensures named { (wish : Wish) → command_of words.now ≡ Some wish
+        → ((fault : ProblemFault) → ¬ GivesFault (Some wish) fault)
         → IfOk result (λ file. option_map string_bytes file ≡ file_of words.now) }
 
     // None where the words ask for no command, or give a problem that is none.
     ensures unasked { command_of words.now ≡ None → IfOk result (λ file. file ≡ None) }
-    ensures asked { (fault : ProblemFault) → GivesFault (command_of words.now) fault → IfOk result (λ file. file ≡ None) }
+    ensures asked { (fault : ProblemFault) → GivesFault (command_of words.now) fault
+        → IfOk result (λ file. file ≡ None) }
 {
     match words.reading() {
         Ok(asking) => match asked(&asking.command) {
@@ -173,10 +186,12 @@ fn limit_told(command: &Command) -> Option<u64>
     }
 }
 
-/// How many expansions the search has of which the words ask that its progress be told; none where they don't ask for it. Whoever calls [`run`] makes
-/// a gate that tells it. Errors: want of memory alone.
+/// How many expansions the search has of which the words ask that its progress be told; none where
+/// they don't ask for it. Whoever calls [`run`] makes a gate that tells it. Errors: want of memory
+/// alone.
 pub fn told_limit(words: &WordsRead) -> Result<Option<u64>, AllocError>
-    ensures told { (wish : Wish) → command_of words.now ≡ Some wish → IfOk result (λ limit. limit ≡ limit_told wish) }
+    ensures told { (wish : Wish) → command_of words.now ≡ Some wish
+        → IfOk result (λ limit. limit ≡ limit_told wish) }
     ensures unasked { command_of words.now ≡ None → IfOk result (λ limit. limit ≡ None) }
 {
     match words.reading() {
@@ -187,30 +202,41 @@ pub fn told_limit(words: &WordsRead) -> Result<Option<u64>, AllocError>
     }
 }
 
-/// Runs the program on the words of the command line, those behind the program's name, which were read ([`WordsRead::new`](program_words::WordsRead::new)). What they ask for is what clap says
-/// of them, and three tests after it; words that are refused end the run before anything is read. So does a request for help or for the
-/// version, whose text is written to the sink.
+/// Runs the program on the words of the command line, those behind the program's name, which were
+/// read ([`WordsRead::new`](program_words::WordsRead::new)). What they ask for is what clap says of
+/// them, and three tests after it; words that are refused end the run before anything is read. So
+/// does a request for help or for the version, whose text is written to the sink.
 ///
-/// `solve` reads a problem from the source, an SFEN or, with `--kif`, the board diagram of a KIF file in UTF-8; with `--rest` the defender
-/// is then given all pieces but kings that are neither on the board nor in a hand. It writes to the sink the USI answer that the problem is a mate, with a main line, or that it is
-/// none, and the certificate, which `check` reads; or, where a limit was used up first, a stop was signalled, or the certificate might have
-/// more entries than are read, that it is unknown, and why. `check` reads a certificate,
-/// perhaps behind the line of the USI answer, and writes whether it is valid for its own problem, or for the one that `--problem` gives
-/// (SFEN), or the first reason why it isn't; a certificate of another problem isn't valid for it. Positions are compared, and not texts.
-/// A `--problem` that is none refuses the words, before anything is read.
+/// `solve` reads a problem from the source, an SFEN or, with `--kif`, the board diagram of a KIF
+/// file in UTF-8; with `--rest` the defender is then given all pieces but kings that are neither on
+/// the board nor in a hand. It writes to the sink the USI answer that the problem is a mate, with a
+/// main line, or that it is none, and the certificate, which `check` reads; or, where a limit was
+/// used up first, a stop was signalled, or the certificate might have more entries than are read,
+/// that it is unknown, and why. `check` reads a certificate, perhaps behind the line of the USI
+/// answer, and writes whether it is valid for its own problem, or for the one that `--problem`
+/// gives (SFEN), or the first reason why it isn't; a certificate of another problem isn't valid for
+/// it. Positions are compared, and not texts. A `--problem` that is none refuses the words, before
+/// anything is read.
 ///
-/// `survey` reads nothing: it decides the problems that the generator makes of a range of numbers, over threads, and writes how many are mates, have
-/// none, or were given up. `collection` reads a text with a problem in each line, and writes for each, in order, that it is a mate, with a main
-/// line, that it is none, that it was given up, or what its fault is, perhaps with certificates, and the counts behind the last; a faulty line
-/// doesn't end the run.
+/// `survey` reads nothing: it decides the problems that the generator makes of a range of numbers,
+/// over threads, and writes how many are mates, have none, or were given up. `collection` reads a
+/// text with a problem in each line, and writes for each, in order, that it is a mate, with a main
+/// line, that it is none, that it was given up, or what its fault is, perhaps with certificates,
+/// and the counts behind the last; a faulty line doesn't end the run.
 ///
-/// Everything else ends with a named fault and its cause: more than [`MOST_PROBLEM_BYTES`](problem_lines::MOST_PROBLEM_BYTES) of a problem,
-/// [`MOST_COLLECTION_BYTES`](crate::MOST_COLLECTION_BYTES) of a collection or [`MOST_CERTIFICATE_BYTES`](crate::MOST_CERTIFICATE_BYTES) of a certificate; a text that is no problem or no certificate, with its first fault; a source or a
-/// sink whose count of faults rose; want of memory. The whole text is made before the first write, but for a collection, whose reports are written
-/// one by one. `solve` passes the gate for each
-/// unit, one visit of a position, as the worker that visits it (no clause says it), and no other command does. The stops, one for each worker that there may be, are armed once, with the deadline that the words
-/// give or with none, when `solve` has accepted its problem, and before that they aren't used; then each worker polls the one at its place. Only `solve` with several workers waits, for them: who
-/// asks for another command may call it in its own crate, without the handle for waiting. (The tsume rule; USI protocol: `checkmate`.)
+/// Everything else ends with a named fault and its cause: more than
+/// [`MOST_PROBLEM_BYTES`](problem_lines::MOST_PROBLEM_BYTES) of a problem,
+/// [`MOST_COLLECTION_BYTES`](crate::MOST_COLLECTION_BYTES) of a collection or
+/// [`MOST_CERTIFICATE_BYTES`](crate::MOST_CERTIFICATE_BYTES) of a certificate; a text that is no
+/// problem or no certificate, with its first fault; a source or a sink whose count of faults rose;
+/// want of memory. The whole text is made before the first write, but for a collection, whose
+/// reports are written one by one. `solve` passes the gate for each unit, one visit of a position,
+/// as the worker that visits it (no clause says it), and no other command does. The stops, one for
+/// each worker that there may be, are armed once, with the deadline that the words give or with
+/// none, when `solve` has accepted its problem, and before that they aren't used; then each worker
+/// polls the one at its place. Only `solve` with several workers waits, for them: who asks for
+/// another command may call it in its own crate, without the handle for waiting. (The tsume rule;
+/// USI protocol: `checkmate`.)
 pub fn run<R: Threads + Wait + Sync, S: Source, K: Sink, G: Gate, T: Stop + Drop>(
     rt: &R,
     alloc: Global,
@@ -221,22 +247,30 @@ pub fn run<R: Threads + Wait + Sync, S: Source, K: Sink, G: Gate, T: Stop + Drop
     stops: &mut Vec<T>,
 ) -> Ended
     requires { length stops.old.items ≡ MOST_WORKERS }
-    // Whatever command ended the run is the one that the words asked for, and it kept all that it promises, clause by clause: see `solve`, `check`,
-    // `survey` and `collection` of their crates. Where none was begun, the words asked for none, and help was written, where they may ask for it, or
-    // they are refused with the cause; or they gave a problem that is none; or memory was wanted. Nothing was read then, and no stop used.
-    ensures kept { IsKept result (command_of words) words (signals T.signal stops.old.items stops.new.items)
+    // Whatever command ended the run is the one that the words asked for, and it kept all that it
+    // promises, clause by clause: see `solve`, `check`, `survey` and `collection` of their crates.
+    // Where none was begun, the words asked for none, and help was written, where they may ask for
+    // it, or they are refused with the cause; or they gave a problem that is none; or memory was
+    // wanted. Nothing was read then, and no stop used.
+    ensures kept { IsKept result (command_of words) words
+        (signals T.signal stops.old.items stops.new.items)
         (shown S.left S.faults source.old source.new) (shown K.kept K.faults sink.old sink.new) }
 
     // A request for help or for the version is answered, unless the sink fails or memory is wanted.
-    ensures help { AsksForHelp words → ¬ Rose (K.faults sink.old) (K.faults sink.new) → GivesHelp result ⊎ WantsMemory result }
+    ensures help { AsksForHelp words → ¬ Rose (K.faults sink.old) (K.faults sink.new)
+        → GivesHelp result ⊎ WantsMemory result }
 
-    // Each of the three tests after clap is named where it is the first to fail, unless memory is wanted.
+    // Each of the three tests after clap is named where it is the first to fail, unless memory is
+    // wanted.
     ensures stopped { (fault : WordFault) → FailsFirst words fault
-        → (result ≡ Ended.Refused (Refusal.Words fault)) ⊎ (result ≡ Ended.Refused Refusal.NoMemory) }
+        → (result ≡ Ended.Refused (Refusal.Words fault))
+        ⊎ (result ≡ Ended.Refused Refusal.NoMemory) }
 
-    // A problem that the words give for a certificate, and that is none, is named with its first fault, before anything is read, unless memory is wanted.
+    // A problem that the words give for a certificate, and that is none, is named with its first
+    // fault, before anything is read, unless memory is wanted.
     ensures asked { (fault : ProblemFault) → GivesFault (command_of words) fault
-        → (result ≡ Ended.Refused (Refusal.Asked fault)) ⊎ (result ≡ Ended.Refused Refusal.NoMemory) }
+        → (result ≡ Ended.Refused (Refusal.Asked fault))
+        ⊎ (result ≡ Ended.Refused Refusal.NoMemory) }
 {
     words_ended(rt, alloc, words, source, sink, gate, stops)
 }

@@ -42,8 +42,8 @@ impl fmt::Display for Grouped {
     }
 }
 
-/// A gate that tells the user how many of so many visits were used, a few times a second and each time over the line before; where it isn't asked to,
-/// it is an open gate.
+/// A gate that tells the user how many of so many visits were used, a few times a second and each
+/// time over the line before; where it isn't asked to, it is an open gate.
 #[derive(Drop)]
 pub(crate) struct Progress<'a, R> {
     system: &'a R,

@@ -33,9 +33,10 @@ pub enum Told {
     Nothing,
 }
 
-/// Tells the user how a run ended, on a sink beside that of the answer: nothing where it was answered, else a line with `tsume: ` and
-/// why it wasn't. Behind it lines may stand for a reader: what is at fault, what was expected, and what to do. No clause
-/// says which, but that they are of printable ASCII, and of a diagram's fault of the characters of Japanese texts too.
+/// Tells the user how a run ended, on a sink beside that of the answer: nothing where it was
+/// answered, else a line with `tsume: ` and why it wasn't. Behind it lines may stand for a reader:
+/// what is at fault, what was expected, and what to do. No clause says which, but that they are of
+/// printable ASCII, and of a diagram's fault of the characters of Japanese texts too.
 pub fn tell<K: Sink>(alloc: Global, ended: &Ended, errors: &mut K) -> Told
     ensures { IsTold (shown K.kept K.faults errors.old errors.new) ended.now result }
 {
@@ -48,7 +49,8 @@ pub fn tell<K: Sink>(alloc: Global, ended: &Ended, errors: &mut K) -> Told
     Told::Whole
 }
 
-/// Runs the program as [`run`] does, and tells the user how it ended: see [`tell`]. What comes back is the exit status.
+/// Runs the program as [`run`] does, and tells the user how it ended: see [`tell`]. What comes back
+/// is the exit status.
 pub fn run_and_tell<R: Threads + Wait + Sync, S: Source, K: Sink, E: Sink, G: Gate, T: Stop + Drop>(
     rt: &R,
     alloc: Global,
@@ -60,7 +62,8 @@ pub fn run_and_tell<R: Threads + Wait + Sync, S: Source, K: Sink, E: Sink, G: Ga
     stops: &mut Vec<T>,
 ) -> u8
     requires { length stops.old.items ≡ MOST_WORKERS }
-    ensures { IsToldRun words (signals T.signal stops.old.items stops.new.items) (shown S.left S.faults source.old source.new) (shown K.kept K.faults sink.old sink.new)
+    ensures { IsToldRun words (signals T.signal stops.old.items stops.new.items)
+        (shown S.left S.faults source.old source.new) (shown K.kept K.faults sink.old sink.new)
         (shown E.kept E.faults errors.old errors.new) result }
 {
     let ended = run(rt, alloc, words, source, sink, gate, stops);
@@ -97,7 +100,8 @@ fn opened<R: io::Input + Files>(rt: &R, file: &Option<String>) -> Opened<R::File
     }
 }
 
-// A name that prints with an escape in place of each character that doesn't print, so that no name of a file steers a terminal.
+// A name that prints with an escape in place of each character that doesn't print, so that no name
+// of a file steers a terminal.
 #[derive(Clone, Copy)]
 struct Name<'a>(&'a str);
 
@@ -153,7 +157,8 @@ fn stops_by<R: Clock + AllocGlobal + Sync>(
     Ok(stops)
 }
 
-// The program over the file that the words name, or over the standard input. What comes back is the exit status.
+// The program over the file that the words name, or over the standard input. What comes back is the
+// exit status.
 fn run_on_file<
     R: io::Input + Print + Eprint + Files + Clock + AllocGlobal + Threads + Wait + Sync,
     W: io::Write + Drop,
@@ -192,10 +197,13 @@ fn run_on_file<
     status
 }
 
-/// The program over the words of the command line, the file that they name or the standard input, the standard output, and a writer for
-/// what the user is told: see [`named_file`] and [`run_and_tell`]. Words that are no UTF-8 are refused. Where reading failed, a second line
-/// tells what was read and what the system said. Where the words ask for progress, a line of how many visits were used is written a few times a second,
-/// each over the one before, and cleared when the answer is written or the user is told of a fault; behind a verdict a line tells how many it took. What comes back ends the process with the exit status.
+/// The program over the words of the command line, the file that they name or the standard input,
+/// the standard output, and a writer for what the user is told: see [`named_file`] and
+/// [`run_and_tell`]. Words that are no UTF-8 are refused. Where reading failed, a second line tells
+/// what was read and what the system said. Where the words ask for progress, a line of how many
+/// visits were used is written a few times a second, each over the one before, and cleared when the
+/// answer is written or the user is told of a fault; behind a verdict a line tells how many it
+/// took. What comes back ends the process with the exit status.
 pub fn start<
     R: Env + io::Input + Print + Eprint + Files + Clock + AllocGlobal + Threads + Wait + Sync,
     W: io::Write + Drop,

@@ -1,4 +1,5 @@
--- A count of faults. It is of 64 bits and stops at its last value, 2 ^ 64 - 1, where no rise can be told.
+-- A count of faults. It is of 64 bits and stops at its last value, 2 ^ 64 - 1, where no rise can be
+-- told.
 use Rattle.std.specs.Prelude.{◌≡◌, ℕ, ◌+◌, ◌-◌, ◌^◌, ◌<◌, ◌⊎◌, min}
 
 -- The count rose, or stands at its last value.

@@ -40,7 +40,8 @@ source_script source = source.script
 abbrev pub bytes_left : MemSource → List ℕ
 bytes_left source = drop source.at source.bytes.items
 
--- how many bytes a call that doesn't fail gives: as many as the piece, the place for them and the rest allow
+-- how many bytes a call that doesn't fail gives: as many as the piece, the place for them and the
+-- rest allow
 abbrev pub bytes_given : MemSource → ℕ → ℕ
 bytes_given source place = min (min source.script.piece place) (length (bytes_left source))
 

@@ -1,5 +1,5 @@
--- What a write does to the bytes that a sink has kept. They are `None` where the sink doesn't tell them; of these nothing is said,
--- but that they still aren't told.
+-- What a write does to the bytes that a sink has kept. They are `None` where the sink doesn't tell
+-- them; of these nothing is said, but that they still aren't told.
 use Rattle.std.specs.Prelude.{◌≡◌, ℕ, ◌<◌, ◌≤◌, List, ◌++◌, length, take, Option, None, Some}
 
 -- The kept bytes grew by these at the end. What was told is still told, what wasn't isn't.

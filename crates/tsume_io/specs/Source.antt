@@ -1,8 +1,9 @@
--- What a read does to the bytes that a source has left. They are `None` where the source doesn't tell them; of these nothing is
--- said, but that they still aren't told.
+-- What a read does to the bytes that a source has left. They are `None` where the source doesn't
+-- tell them; of these nothing is said, but that they still aren't told.
 use Rattle.std.specs.Prelude.{◌≡◌, ℕ, ◌+◌, ◌<◌, ◌≤◌, List, [], ◌++◌, length, Option, None, Some}
 
--- These bytes were taken from the front of those that were left, and no others. What was told is still told, what wasn't isn't.
+-- These bytes were taken from the front of those that were left, and no others. What was told is
+-- still told, what wasn't isn't.
 abbrev pub Took : Option (List ℕ) → Option (List ℕ) → List ℕ → Type 0
 Took None None taken = Unit {0}
 Took (Some before) (Some after) taken = before ≡ taken ++ after

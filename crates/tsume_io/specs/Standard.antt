@@ -35,7 +35,8 @@ times_asked clock = clock.asks
 abbrev pub noted_reader : {R : Type 0} → Noted R → R
 noted_reader noted = noted.reader
 
--- the bytes that reads of what was opened will give, where a file and the standard input tell theirs; nothing is told where opening was refused
+-- the bytes that reads of what was opened will give, where a file and the standard input tell
+-- theirs; nothing is told where opening was refused
 abbrev pub bytes_left : {F R : Type 0} → (F → Option (List ℕ)) → (R → Option (List ℕ)) → Opened F R → Option (List ℕ)
 bytes_left of_file of_reader (File file) = of_file file
 bytes_left of_file of_reader (Standard reader) = of_reader reader

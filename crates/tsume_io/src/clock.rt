@@ -5,8 +5,8 @@ ghost use Rattle.tsume_io.specs.Standard.{last_shown, times_asked};
 use search_gate::Clock;
 use std::time;
 
-/// The clock of std that never goes back, in whole milliseconds, at most 2^64 - 1. Where the system doesn't tell the time, it answers what it
-/// last answered; at first 0.
+/// The clock of std that never goes back, in whole milliseconds, at most 2^64 - 1. Where the system
+/// doesn't tell the time, it answers what it last answered; at first 0.
 #[derive(Drop)]
 pub struct StdClock<R> {
     system: R,

@@ -14,8 +14,8 @@ pub fn raised(count: u64) -> u64
     count.saturating_add(1)
 }
 
-// What the outside answered, each of its errors counted as a fault, and an answer of fewer bytes than
-// `least` too. It can't make an error of its own, since it knows nothing of the type.
+// What the outside answered, each of its errors counted as a fault, and an answer of fewer bytes
+// than `least` too. It can't make an error of its own, since it knows nothing of the type.
 pub fn counted<E: Drop>(
     answer: Result<usize, E>,
     least: usize,

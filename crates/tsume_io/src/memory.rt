@@ -8,8 +8,8 @@ use crate::script::Script;
 use crate::{Sink, Source};
 use std::alloc::{AllocError, Global};
 
-/// A source in memory. It gives at most `piece` bytes a call, which is at least one, and fails at the
-/// calls whose numbers, from 1 on, are listed.
+/// A source in memory. It gives at most `piece` bytes a call, which is at least one, and fails at
+/// the calls whose numbers, from 1 on, are listed.
 #[derive(Drop)]
 pub struct MemSource {
     bytes: Vec<u8>,
@@ -90,8 +90,8 @@ impl Source for MemSource {
     }
 }
 
-/// A sink in memory. It takes at most `piece` bytes a call, which is at least one, fails at the calls
-/// whose numbers, from 1 on, are listed, and fails where a call would pass its room.
+/// A sink in memory. It takes at most `piece` bytes a call, which is at least one, fails at the
+/// calls whose numbers, from 1 on, are listed, and fails where a call would pass its room.
 #[derive(Drop)]
 pub struct MemSink {
     kept: Vec<u8>,

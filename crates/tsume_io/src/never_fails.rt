@@ -5,8 +5,8 @@ ghost use Rattle.std.specs.Prelude.{◌≡◌, ◌≤◌, Some, vec_len};
 use crate::copy::copy_front;
 use crate::{Failed, Source};
 
-/// A source of these bytes that never fails: its count of faults is the constant 0, so `read_all` of it
-/// can't end in a fault. It gives as many bytes a call as it has left and there is place for.
+/// A source of these bytes that never fails: its count of faults is the constant 0, so `read_all`
+/// of it can't end in a fault. It gives as many bytes a call as it has left and there is place for.
 #[derive(Drop)]
 pub struct NeverFails {
     bytes: Vec<u8>,

@@ -13,9 +13,9 @@ pub trait Sink {
     /// How often a write has failed, up to 2^64 - 1.
     ghost faults: { Self → ℕ };
 
-    /// Keeps the first bytes of `piece` and answers how many: at least one, unless `piece` is empty.
-    /// `Failed` comes only where the count of faults rose in this call, and then no byte was kept. The
-    /// count never falls, and rises only so.
+    /// Keeps the first bytes of `piece` and answers how many: at least one, unless `piece` is
+    /// empty. `Failed` comes only where the count of faults rose in this call, and then no byte was
+    /// kept. The count never falls, and rises only so.
     fn write(&mut self, piece: &[u8]) -> Result<usize, Failed>
         ensures count { IfOk result (λ n. IsWriteOf n piece.now) }
         ensures grew { IfOk result (λ n. GrewBy (kept self.old) (kept self.new) (take n piece.now)) }

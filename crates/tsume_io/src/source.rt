@@ -15,9 +15,10 @@ pub trait Source {
     /// How often a read has failed, up to 2^64 - 1.
     ghost faults: { Self → ℕ };
 
-    /// Moves bytes to the front of `into` and answers how many: 0 only at the end, or where `into` is
-    /// empty. What stands in `into` behind them isn't said. `Failed` comes only where the count of
-    /// faults rose in this call, and then no byte was moved. The count never falls, and rises only so.
+    /// Moves bytes to the front of `into` and answers how many: 0 only at the end, or where `into`
+    /// is empty. What stands in `into` behind them isn't said. `Failed` comes only where the count
+    /// of faults rose in this call, and then no byte was moved. The count never falls, and rises
+    /// only so.
     fn read(&mut self, into: &mut [u8]) -> Result<usize, Failed>
         ensures within { IfOk result (λ n. n ≤ length into.new) }
         ensures took { IfOk result (λ n. Took (left self.old) (left self.new) (take n into.new)) }
@@ -61,20 +62,23 @@ impl From<AllocError> for ReadEnd {
 // How many bytes one read asks for, at most.
 const PIECE: usize = 65_536;
 
-/// Reads the bytes of a source to their end, at most `limit` of them. Every turn takes a byte or ends,
-/// and a source that never ends is left after `limit` + 1 bytes. It asks for 64 KiB at most at a time, and takes
-/// memory for the bytes that came, which grows by doubling. After a refusal, what was taken from the
-/// source is lost.
+/// Reads the bytes of a source to their end, at most `limit` of them. Every turn takes a byte or
+/// ends, and a source that never ends is left after `limit` + 1 bytes. It asks for 64 KiB at most
+/// at a time, and takes memory for the bytes that came, which grows by doubling. After a refusal,
+/// what was taken from the source is lost.
 pub fn read_all<S: Source>(alloc: Global, source: &mut S, limit: usize) -> Result<Vec<u8>, ReadEnd>
     ensures whole { IfOk result
         (λ bytes. TookAll (S.left source.old) (S.left source.new) bytes.items) }
     ensures within { IfOk result (λ bytes. length bytes.items ≤ limit) }
 
     // A fault is answered only where one was counted in this call, and none is counted otherwise.
-    ensures fault { IsErrOf result ReadEnd.Fault → Rose (S.faults source.old) (S.faults source.new) }
+    ensures fault { IsErrOf result ReadEnd.Fault
+        → Rose (S.faults source.old) (S.faults source.new) }
     ensures counted { OnOk result (S.faults source.new ≡ S.faults source.old) }
-    ensures too_long_counted { IsErrOf result ReadEnd.TooLong → S.faults source.new ≡ S.faults source.old }
-    ensures no_memory_counted { IsErrOf result ReadEnd.NoMemory → S.faults source.new ≡ S.faults source.old }
+    ensures too_long_counted { IsErrOf result ReadEnd.TooLong → S.faults source.new
+        ≡ S.faults source.old }
+    ensures no_memory_counted { IsErrOf result ReadEnd.NoMemory → S.faults source.new
+        ≡ S.faults source.old }
     ensures fault_within { IsErrOf result ReadEnd.Fault
         → TookAtMost limit (S.left source.old) (S.left source.new) }
     ensures never_falls { S.faults source.old ≤ S.faults source.new }

@@ -1,7 +1,7 @@
-// std's readers and writers as a source and a sink: the edge that is trusted, since nothing is told of
-// a real file's bytes, and std's words don't say when a reader or a writer fails. So each body is one
-// call, whose answer `counted` tells on: what is a fault is proved there, and tests show that the call
-// is made, with all that was asked.
+// std's readers and writers as a source and a sink: the edge that is trusted, since nothing is told
+// of a real file's bytes, and std's words don't say when a reader or a writer fails. So each body
+// is one call, whose answer `counted` tells on: what is a fault is proved there, and tests show
+// that the call is made, with all that was asked.
 ghost use Rattle.std.specs.Prelude.{◌≡◌, ◌-◌, ◌^◌, ◌≤◌, None, length, IfOk, OnOk, OnErr};
 ghost use Rattle.std.specs.Io.KnownBytes.{ReadConsumes, WriteAppends};
 ghost use Rattle.tsume_io.specs.Faults.{Rose, one_more};

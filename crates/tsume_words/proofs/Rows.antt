@@ -1,5 +1,5 @@
--- What a walk of clap's that finds no fault leaves: each value passed the parser of its argument, and each argument with
--- a default has a row.
+-- What a walk of clap's that finds no fault leaves: each value passed the parser of its argument,
+-- and each argument with a default has a row.
 use Rattle.std.proofs.Common.{◌≡◌, ◌∙◌, ◌<◌, ◌+◌, ◌&&◌, ◌||◌, ◌⊎◌, inl, inr, not, ℕ, Bool, true, false, zero, suc, List, [], ◌∷◌, ◌++◌, Option, Some, None, refl, sym, ap, subst, arith, length, length-append, min, is_some, drop}
 use Rattle.std.proofs.lemmas.Option.{same_Some}
 use Rattle.std.specs.Prelude.{IsSomeAnd, option_and_then, option_map, nat_lt, if◌then◌else◌, find, fold, slice_get, encode_utf8}

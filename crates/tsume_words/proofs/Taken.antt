@@ -1,4 +1,5 @@
--- What clap gives where it takes the words: for each option what its line says, and for a program what it gives for one of its commands.
+-- What clap gives where it takes the words: for each option what its line says, and for a program
+-- what it gives for one of its commands.
 use Rattle.std.proofs.Common.{◌≡◌, ◌∙◌, ◌&&◌, ◌||◌, not, inl, inr, ◌⊎◌, ℕ, Bool, true, false, List, [], ◌∷◌, Option, Some, None, refl, sym, ap, subst, is_some, codes}
 use Rattle.std.specs.Prelude.{IsSomeAnd, find, IfSome, option_map, if◌then◌else◌}
 use Rattle.std.specs.Option.{option_map_or}
@@ -57,7 +58,8 @@ wanted s rows true want e = refl
 wanted s rows false want e = absurd (no_want (s.arg_required_else_help && not (list_any (λ r. explicit_source r.source) rows)) s.subcommand_required
     (not (s.subcommand_negates_reqs && false) && list_any (λ a. a.required && not (is_given a.id rows)) s.rules) want e)
 
--- each argument that keeps its values gives one that its parser accepts, if it gives one; and it does where it has a default
+-- each argument that keeps its values gives one that its parser accepts, if it gives one; and it
+-- does where it has a default
 pub record GivesValue (rows : List Row) (a : Rule) : Type 0 where
   pub value : keeps_values a ≡ true → is_empty a.defaults ≡ false
       → (v : Text) × (one_of a.id rows ≡ Some (read_as (reading_by a) v)) × (accepts a.ignore_case (parser_of_value a.parser) v ≡ true)

@@ -5,7 +5,8 @@ use Rattle.search_limits.specs.declared.faults.Size.TheVariants.{Rows, Shards}
 use Rattle.tsume_words.specs.declared.faults.WordFault.{WordFault}
 use Rattle.tsume_words.specs.declared.faults.WordFault.TheVariants.{Clap, NotPowerOfTwo, MoreShardsThanRows}
 
--- What is wrong with the words, in words: the text that clap made, without white space at its end, or which test failed.
+-- What is wrong with the words, in words: the text that clap made, without white space at its end,
+-- or which test failed.
 abbrev pub word_fault_text : WordFault → List ℕ
 word_fault_text (Clap text) = trim_end (string_bytes text)
 word_fault_text (NotPowerOfTwo Rows) = codes "rows is no power of two"

@@ -38,12 +38,14 @@ but_dash (Some word) = if bytes_eq word (codes "-") then None else Some word
 abbrev pub file_of : List Row → Option Text
 file_of found = but_dash (text_of (codes "file") found)
 
--- The parts of a table of so many rows: as many as are asked for, or else the lesser of 64 and the rows.
+-- The parts of a table of so many rows: as many as are asked for, or else the lesser of 64 and the
+-- rows.
 abbrev pub shards_for : ℕ → Option ℕ → ℕ
 shards_for its_rows None = min DEFAULT_SHARDS its_rows
 shards_for its_rows (Some asked) = asked
 
--- The five numbers of a search by so many workers; clap gives the others, but for the shards where nothing is said of them.
+-- The five numbers of a search by so many workers; clap gives the others, but for the shards where
+-- nothing is said of them.
 abbrev pub settings_by : ℕ → List Row → SettingsView
 settings_by workers found = numbers_of workers (number_of (codes "expansions") found) (number_of (codes "room") found)
     (number_of (codes "rows") found) (shards_for (number_of (codes "rows") found) (number_if_given (codes "shards") found))
@@ -60,7 +62,8 @@ form_of found = record {
   rest = is_flagged (codes "rest") found;
 }
 
--- How a search is watched: after how many milliseconds it gives up, if at all; and whether the user is told how far it has come.
+-- How a search is watched: after how many milliseconds it gives up, if at all; and whether the user
+-- is told how far it has come.
 pub record WatchView : Type 0 where
   pub deadline : Option ℕ
   pub progress : Bool

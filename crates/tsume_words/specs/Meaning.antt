@@ -1,4 +1,5 @@
--- What words mean, of any command and of any program of commands: what clap gives for them, where it passes the tests after it.
+-- What words mean, of any command and of any program of commands: what clap gives for them, where
+-- it passes the tests after it.
 use Rattle.std.specs.Prelude.{◌≡◌, ℕ, Result, Ok, Err, String, map, string_bytes, ◌&&◌, Bool, true, false, List, [], ◌∷◌, Option, Some, None, option_and_then}
 use Rattle.std.specs.Prelude.{◌⊎◌, if◌then◌else◌, nat_le, IfOk, IfErr, IsOkAnd, IsSomeAnd, ⊤, codes}
 use Rattle.std.specs.Global.{Global}
@@ -19,7 +20,8 @@ use Rattle.tsume_words.specs.declared.faults.WordsEnd.TheVariants.{Help, Fault, 
 
 -- ---- the tests after clap
 
--- The tests of what words ask for, after clap's: whether it passes them all, and which is the first that it fails.
+-- The tests of what words ask for, after clap's: whether it passes them all, and which is the first
+-- that it fails.
 pub record Tests (View : Type 0) : Type 1 where
   pub is_sound : View → Bool
   pub IsStoppedBy : WordFault → View → Type 0
@@ -32,8 +34,8 @@ no_tests = record { is_sound = λ view. true; IsStoppedBy = λ fault view. ⊥ }
 abbrev pub are_sound : SettingsView → Bool
 are_sound n = is_power_of_two n.rows && (is_power_of_two n.shards && nat_le n.shards n.rows)
 
--- The numbers fail this test and pass those before it: the rows are a power of two, then the shards, and then there are
--- no more shards than rows.
+-- The numbers fail this test and pass those before it: the rows are a power of two, then the
+-- shards, and then there are no more shards than rows.
 abbrev pub FailFirst : WordFault → SettingsView → Type 0
 FailFirst (NotPowerOfTwo size) n = IsFirstOdd size n
 FailFirst MoreShardsThanRows n = HaveMoreShards n
@@ -46,18 +48,21 @@ search_tests numbers = record {
   IsStoppedBy = λ fault view. FailFirst fault (numbers view);
 }
 
--- The outcome of the tests of a search, on these numbers: they are sound and stand in the settings, or else the first test that fails.
+-- The outcome of the tests of a search, on these numbers: they are sound and stand in the settings,
+-- or else the first test that fails.
 abbrev pub AreTested : SettingsView → Result Settings WordFault → Type 0
 AreTested n (Ok settings) = (settings_in settings ≡ n) × (are_sound n ≡ true)
 AreTested n (Err fault) = FailFirst fault n
 
--- The laws of tests: what a test stops isn't sound; only one test is the first to fail; and none of them is clap's.
+-- The laws of tests: what a test stops isn't sound; only one test is the first to fail; and none of
+-- them is clap's.
 pub record HasTestLaws {View : Type 0} (tests : Tests View) : Type 0 where
   pub unsound : (fault : WordFault) (view : View) → tests.IsStoppedBy fault view → ¬ (tests.is_sound view ≡ true)
   pub one : (fault other : WordFault) (view : View) → tests.IsStoppedBy fault view → tests.IsStoppedBy other view → other ≡ fault
   pub own : (text : String Global) (view : View) → ¬ tests.IsStoppedBy (Clap text) view
 
--- The outcome of what words ask for, before the tests: it passes them and stands in the answer, or else the first test that it fails. Want of memory is free.
+-- The outcome of what words ask for, before the tests: it passes them and stands in the answer, or
+-- else the first test that it fails. Want of memory is free.
 abbrev pub IsOutcome : {View Answer : Type 0} → Tests View → (Answer → View) → View → Result Answer WordsEnd → Type 0
 IsOutcome tests view given (Ok answer) = (view answer ≡ given) × (tests.is_sound given ≡ true)
 IsOutcome tests view given (Err (Help text)) = ⊥
@@ -66,8 +71,9 @@ IsOutcome tests view given (Err NoMemory) = ⊤
 
 -- ---- the words of a command
 
--- What the words of a command mean: its clap line; what clap gives for it; what is asked for then, before its tests; the tests; and the
--- file that it reads, none for the standard input or where it reads nothing.
+-- What the words of a command mean: its clap line; what clap gives for it; what is asked for then,
+-- before its tests; the tests; and the file that it reads, none for the standard input or where it
+-- reads nothing.
 pub record CommandMeaning (View : Type 0) : Type 1 where
   pub line : App
   pub IsGiven : List Row → Type 0
@@ -79,15 +85,17 @@ pub record CommandMeaning (View : Type 0) : Type 1 where
 abbrev pub shape_of : App → Shape
 shape_of line = built_leaf line.top
 
--- A law of a command: where clap finds no fault in the words behind its name, it gives for it what the command wants of it.
+-- A law of a command: where clap finds no fault in the words behind its name, it gives for it what
+-- the command wants of it.
 abbrev pub IsGivenWhereTaken : {View : Type 0} → CommandMeaning View → Type 0
 IsGivenWhereTaken words = (behind : List Text) → level_fault (shape_of words.line) [] nothing_held behind false [] ≡ []
     → words.IsGiven (rows_after (shape_of words.line).rules [] behind)
 
 -- ---- the words of a program
 
--- What the words of a program mean: its clap line; what clap gives for a command of a name; what is asked for then, before the tests, none where
--- there is no such command; the tests; and the file that is read.
+-- What the words of a program mean: its clap line; what clap gives for a command of a name; what is
+-- asked for then, before the tests, none where there is no such command; the tests; and the file
+-- that is read.
 pub record ProgramMeaning (Wish : Type 0) : Type 1 where
   pub line : App
   pub IsGiven : Text × List Row → Type 0
@@ -117,8 +125,9 @@ is_help DisplayHelp = true
 is_help DisplayVersion = true
 is_help other = false
 
--- Clap's first fault may be a request for help or for the version: one of the kinds that clap names for it is. (For the command
--- `help` clap names two: that request, and that what follows is no command.)
+-- Clap's first fault may be a request for help or for the version: one of the kinds that clap names
+-- for it is. (For the command `help` clap names two: that request, and that what follows is no
+-- command.)
 abbrev pub MayAsk : App → List Text → Type 0
 MayAsk line words = (kind : ErrorKind) × IsAmong kind (clap_faults line words) × (is_help kind ≡ true)
 
@@ -157,7 +166,8 @@ file_by program words = option_and_then program.file (subcommand_of program.line
 abbrev pub IsStopped : {Wish : Type 0} → ProgramMeaning Wish → List Text → WordFault → Type 0
 IsStopped program words fault = IsSomeAnd (given_by program words) (program.tests.IsStoppedBy fault)
 
--- What an error of clap of this kind becomes: help, where it is a request, or else a refusal; or want of memory.
+-- What an error of clap of this kind becomes: help, where it is a request, or else a refusal; or
+-- want of memory.
 abbrev pub IsClapsEnd : ErrorKind → WordsEnd → Type 0
 IsClapsEnd kind (Help text) = is_help kind ≡ true
 IsClapsEnd kind (Fault (Clap text)) = is_help kind ≡ false
@@ -165,13 +175,14 @@ IsClapsEnd kind (Fault (NotPowerOfTwo size)) = ⊥
 IsClapsEnd kind (Fault MoreShardsThanRows) = ⊥
 IsClapsEnd kind NoMemory = ⊤
 
--- Why the words are refused: clap's first fault is no request, or this test after clap is the first to fail.
+-- Why the words are refused: clap's first fault is no request, or this test after clap is the first
+-- to fail.
 abbrev pub IsRefused : {Wish : Type 0} → ProgramMeaning Wish → List Text → WordFault → Type 0
 IsRefused program words (Clap text) = MayFail program.line words
 IsRefused program words fault = IsStopped program words fault
 
--- Why the words give no command: clap's first fault is a request for help or for the version; or they are refused; want of memory says
--- nothing.
+-- Why the words give no command: clap's first fault is a request for help or for the version; or
+-- they are refused; want of memory says nothing.
 abbrev pub IsEnd : {Wish : Type 0} → ProgramMeaning Wish → List Text → WordsEnd → Type 0
 IsEnd program words (Help text) = MayAsk program.line words
 IsEnd program words (Fault fault) = IsRefused program words fault
@@ -184,13 +195,14 @@ IsHelp (Err (Help text)) = ⊤
 IsHelp (Err (Fault fault)) = ⊥
 IsHelp (Err NoMemory) = ⊥
 
--- All that a reading of words promises, by what it came to, what is asked for then and which file is read.
+-- All that a reading of words promises, by what it came to, what is asked for then and which file
+-- is read.
 pub record IsReading {Wish Answer : Type 0} (program : ProgramMeaning Wish) (view : Answer → Wish) (file_in : Answer → Option Text) (words : List Text) (result : Result Answer WordsEnd) : Type 0 where
   -- What comes back is what the words ask for, and the file that they name.
   pub command : IfOk result (λ answer. asked_by program words ≡ Some (view answer))
   pub file : IfOk result (λ answer. file_in answer ≡ file_by program words)
-  -- Help comes only where clap's first fault is a request for it or for the version, clap's refusal only where it is none, and each
-  -- other fault only where its test is the first to fail.
+  -- Help comes only where clap's first fault is a request for it or for the version, clap's refusal
+  -- only where it is none, and each other fault only where its test is the first to fail.
   pub ended : IfErr result (IsEnd program words)
   -- Help comes wherever clap's first fault is such a request, but for want of memory.
   pub help : Asks program.line words → IsHelp result ⊎ (result ≡ Err NoMemory)

@@ -6,7 +6,8 @@ use std::alloc::{AllocError, AllocFailed};
 use std::error::Error;
 use std::fmt;
 
-/// Why words are refused. It prints as the text for the user, with no line feed at the end: the caller adds one.
+/// Why words are refused. It prints as the text for the user, with no line feed at the end: the
+/// caller adds one.
 #[derive(Debug, Drop)]
 pub enum WordFault {
     /// Clap refuses the words: its text, as it made it.

@@ -14,6 +14,7 @@ pub enum Format {
 pub struct ProblemForm {
     /// How its position is written.
     pub format: Format,
-    /// Whether the defender is then given all pieces but kings that are neither on the board nor in a hand.
+    /// Whether the defender is then given all pieces but kings that are neither on the board nor in
+    /// a hand.
     pub rest: bool,
 }

@@ -40,7 +40,8 @@ pub fn is_flagged(given: &ArgMatches<'_>, name: &str) -> bool
 
 /// The text that clap gives for the option of this name. Errors: want of memory alone.
 pub fn text(alloc: Global, given: &ArgMatches<'_>, name: &str) -> Result<Option<String>, AllocError>
-    ensures { IfOk result (λ text. option_map string_bytes text ≡ text_of name.now (rows_of (found_of given.now))) }
+    ensures { IfOk result (λ text. option_map string_bytes text
+        ≡ text_of name.now (rows_of (found_of given.now))) }
 {
     match given.get_str(name) {
         Some(text) => Ok(Some(String::from_str(alloc, text)?)),
@@ -48,9 +49,11 @@ pub fn text(alloc: Global, given: &ArgMatches<'_>, name: &str) -> Result<Option<
     }
 }
 
-/// The file that clap gives for a command: none for the standard input. Errors: want of memory alone.
+/// The file that clap gives for a command: none for the standard input. Errors: want of memory
+/// alone.
 pub fn file(alloc: Global, given: &ArgMatches<'_>) -> Result<Option<String>, AllocError>
-    ensures { IfOk result (λ file. option_map string_bytes file ≡ file_of (rows_of (found_of given.now))) }
+    ensures { IfOk result (λ file. option_map string_bytes file
+        ≡ file_of (rows_of (found_of given.now))) }
 {
     let Some(word) = text(alloc, given, "file")? else {
         return Ok(None);
@@ -88,11 +91,13 @@ fn rows(given: &ArgMatches<'_>) -> u64
     number(given, "rows")
 }
 
-// The parts of a table of so many rows: as many as the words say, or else as many as it has by default.
+// The parts of a table of so many rows: as many as the words say, or else as many as it has by
+// default.
 fn shards(given: &ArgMatches<'_>, rows: u64) -> u64
     requires shards { HasNumberIfAny (codes "shards") 1 MOST_SHARDS (rows_of (found_of given.now)) }
     requires rows { LEAST_ROWS ≤ rows }
-    ensures number { result ≡ shards_for rows (number_if_given (codes "shards") (rows_of (found_of given.now))) }
+    ensures number { result
+        ≡ shards_for rows (number_if_given (codes "shards") (rows_of (found_of given.now))) }
     ensures range { IsFromTo 1 MOST_SHARDS result }
 {
     match number_if_given(given, "shards") {
@@ -101,7 +106,8 @@ fn shards(given: &ArgMatches<'_>, rows: u64) -> u64
     }
 }
 
-/// The numbers that clap gives for a search by so many workers, tested. Errors: the first test that fails.
+/// The numbers that clap gives for a search by so many workers, tested. Errors: the first test that
+/// fails.
 pub fn settings(given: &ArgMatches<'_>, workers: u32) -> Result<Settings, WordFault>
     requires workers { IsFromTo 1 MOST_WORKERS workers }
     requires given { IsForSearch (rows_of (found_of given.now)) }
@@ -138,7 +144,8 @@ pub fn problem_form(given: &ArgMatches<'_>) -> ProblemForm
 
 /// How the words say that the search is watched.
 pub fn search_watch(given: &ArgMatches<'_>) -> Watch
-    requires deadline { HasNumberIfAny (codes "deadline") 1 MOST_DEADLINE (rows_of (found_of given.now)) }
+    requires deadline { HasNumberIfAny (codes "deadline") 1 MOST_DEADLINE
+        (rows_of (found_of given.now)) }
     requires progress { HasFlag (codes "progress") (rows_of (found_of given.now)) }
     ensures { watch_in result ≡ watch_of (rows_of (found_of given.now)) }
 {

@@ -1,11 +1,14 @@
 //! How the words of a command line are read, whatever the commands are.
 //!
-//! A command's words are its own: what they ask for is a type of its crate, which is [`CommandWords`]. Here stand the kinds of options that its line is
-//! made of ([`number_option`], [`flag_option`] and so on), those that several commands have, and what reads them of clap's answer ([`number`],
-//! [`settings`] and so on). Which words clap takes, and what it gives for them, is clap's own meaning of the line; a command may have tests
-//! behind it, as that the rows and the shards of a search are powers of two and that there are no more shards than rows. Words that are refused are a
-//! [`WordFault`] with the text for the user; a request for help or for the version ends with clap's text ([`WordsEnd`]).
-//! What a whole program promises of its words follows from what each command's words mean.
+//! A command's words are its own: what they ask for is a type of its crate, which is
+//! [`CommandWords`]. Here stand the kinds of options that its line is made of ([`number_option`],
+//! [`flag_option`] and so on), those that several commands have, and what reads them of clap's
+//! answer ([`number`], [`settings`] and so on). Which words clap takes, and what it gives for them,
+//! is clap's own meaning of the line; a command may have tests behind it, as that the rows and the
+//! shards of a search are powers of two and that there are no more shards than rows. Words that are
+//! refused are a [`WordFault`] with the text for the user; a request for help or for the version
+//! ends with clap's text ([`WordsEnd`]). What a whole program promises of its words follows from
+//! what each command's words mean.
 #![tactic(auto)]
 
 mod command;

@@ -1,5 +1,5 @@
-// The kinds of options that commands have, and those that several have, as clap is told of them. Lines of help end below 80
-// columns, where a test looks; clap doesn't wrap them.
+// The kinds of options that commands have, and those that several have, as clap is told of them.
+// Lines of help end below 80 columns, where a test looks; clap doesn't wrap them.
 ghost use Rattle.std.specs.Prelude.{◌≡◌, codes, false};
 ghost use Rattle.clap.specs.Words.{rule_of};
 ghost use Rattle.tsume_words.specs.Options.{number_option, number_if_any_option, text_option, flag_option, file_word};
@@ -139,7 +139,8 @@ pub fn rows_option<'a>(alloc: Global) -> Arg<'a>
     )
 }
 
-/// Into how many parts the table is cut, which matters to several workers alone; hidden where there is one.
+/// Into how many parts the table is cut, which matters to several workers alone; hidden where there
+/// is one.
 pub fn shards_option<'a>(alloc: Global, is_hidden: bool) -> Arg<'a>
     ensures rule { rule_of result ≡ shards_option }
     ensures local { result.global ≡ false }

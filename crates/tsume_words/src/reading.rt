@@ -7,9 +7,11 @@ use crate::{WordFault, WordsEnd};
 use clap::error::ErrorKind;
 use std::alloc::{AllocError, Global};
 
-/// The words that clap reads: the program's name, and these behind it. Errors: want of memory alone.
+/// The words that clap reads: the program's name, and these behind it. Errors: want of memory
+/// alone.
 pub fn with_program<'a>(alloc: Global, words: &'a [String]) -> Result<Vec<&'a str>, AllocError>
-    ensures { IfOk result (λ texts. map (λ text. text.now) texts.items ≡ all_words (texts_of words.entry.now)) }
+    ensures { IfOk result (λ texts. map (λ text. text.now) texts.items
+        ≡ all_words (texts_of words.entry.now)) }
 {
     let mut texts = vec![in alloc; "tsume"]?;
     for word in words {

@@ -9,8 +9,8 @@ pub const MOST_DEADLINE: u64 = 86_400_000;
 /// How a search is watched while it runs.
 #[derive(Clone, Copy, Debug, PartialEq, Eq)]
 pub struct Watch {
-    /// After how many milliseconds it gives up, 1 to [`MOST_DEADLINE`], counted from when its problem was accepted; none where it may take as long
-    /// as it needs.
+    /// After how many milliseconds it gives up, 1 to [`MOST_DEADLINE`], counted from when its
+    /// problem was accepted; none where it may take as long as it needs.
     pub deadline: Option<u64>,
     /// Whether the user is told how far it has come.
     pub progress: bool,

@@ -10,8 +10,8 @@ use Rattle.search_limits.specs.Sizes.{IsFromTo}
 use Rattle.search_limits.specs.declared.expansions.TheConstants.{MOST_EXPANSIONS}
 use Rattle.search_limits.specs.declared.settings.TheConstants.{MOST_ROOM}
 
--- The problem's position, how many units and notes there may be, how many units were drawn and for how many notes room was claimed, and
--- the note that is posted.
+-- The problem's position, how many units and notes there may be, how many units were drawn and for
+-- how many notes room was claimed, and the note that is posted.
 pub record DeskView : Type 0 where
   pub position : Board
   pub expansions : ℕ
@@ -20,14 +20,15 @@ pub record DeskView : Type 0 where
   pub claimed : ℕ
   pub posted : Option Derivation
 
--- The note answers the problem: it holds on every path, is about the problem's position, and for its attacker, who is to move there.
+-- The note answers the problem: it holds on every path, is about the problem's position, and for
+-- its attacker, who is to move there.
 pub record IsAnswerTo (position : Board) (note : Derivation) : Type 0 where
   pub closed : tag_of note ≡ []
   pub about : position_of note ≡ position
   pub same_attacker : attacker_of note ≡ position.side
 
--- What is kept of a desk: its limits are those of settings, no more is drawn than there are units, no more is claimed than there is room,
--- and what is posted answers the problem.
+-- What is kept of a desk: its limits are those of settings, no more is drawn than there are units,
+-- no more is claimed than there is room, and what is posted answers the problem.
 pub record IsDesk (desk : DeskView) : Type 0 where
   pub expansions : IsFromTo 1 MOST_EXPANSIONS desk.expansions
   pub room : IsFromTo 1 MOST_ROOM desk.room
@@ -43,14 +44,15 @@ fresh position expansions room = record { position = position; expansions = expa
 abbrev pub HasPosted : DeskView → Type 0
 HasPosted desk = IsSome desk.posted
 
--- What a draw answers, and the desk after it. Done: a note is posted. Spent: none is, and all units were drawn. Go: none is, and the next
--- unit is drawn. Nothing else changes.
+-- What a draw answers, and the desk after it. Done: a note is posted. Spent: none is, and all units
+-- were drawn. Go: none is, and the next unit is drawn. Nothing else changes.
 abbrev pub Draws : DeskView → Draw → DeskView → Type 0
 Draws desk Done after = HasPosted desk × (after ≡ desk)
 Draws desk Spent after = (¬ HasPosted desk) × (desk.drawn ≡ desk.expansions) × (after ≡ desk)
 Draws desk (Go unit) after = (¬ HasPosted desk) × (desk.drawn < desk.expansions) × (unit ≡ desk.drawn + 1) × (after ≡ record desk { drawn = unit })
 
--- What a claim answers, and the desk after it. NoRoom: all room was claimed. Room: that of the next note is claimed. Nothing else changes.
+-- What a claim answers, and the desk after it. NoRoom: all room was claimed. Room: that of the next
+-- note is claimed. Nothing else changes.
 abbrev pub Claims : DeskView → RoomAnswer → DeskView → Type 0
 Claims desk NoRoom after = (desk.claimed ≡ desk.room) × (after ≡ desk)
 Claims desk (Room note) after = (desk.claimed < desk.room) × (note ≡ desk.claimed + 1) × (after ≡ record desk { claimed = note })

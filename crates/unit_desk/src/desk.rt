@@ -12,8 +12,9 @@ use std::marker::Model;
 
 /// Hands out the units and the room of a search, and keeps the note that answers its problem.
 ///
-/// It keeps that no more units were drawn, and no more room claimed, than there are, and that the note that is posted answers the
-/// problem: it holds on every path, is about the problem's position, and for its attacker. No call takes memory.
+/// It keeps that no more units were drawn, and no more room claimed, than there are, and that the
+/// note that is posted answers the problem: it holds on every path, is about the problem's
+/// position, and for its attacker. No call takes memory.
 #[derive(Drop)]
 pub struct Desk {
     position: Position,
@@ -39,7 +40,8 @@ impl Model for Desk {
 }
 
 impl Desk {
-    /// The desk of a problem, with the units and the room of the settings: nothing is drawn, claimed or posted.
+    /// The desk of a problem, with the units and the room of the settings: nothing is drawn,
+    /// claimed or posted.
     pub fn make(problem: &Problem, settings: &Settings) -> Desk
         ensures { result ≡ fresh problem.now.position settings.now.expansions settings.now.room }
     {
@@ -53,12 +55,14 @@ impl Desk {
         }
     }
 
-    /// The next unit of work: Done exactly where a note is posted; else Spent exactly where all units were drawn; else the number of
-    /// the unit, from 1, which is drawn then. Nothing else changes.
+    /// The next unit of work: Done exactly where a note is posted; else Spent exactly where all
+    /// units were drawn; else the number of the unit, from 1, which is drawn then. Nothing else
+    /// changes.
     pub fn draw(&mut self) -> Draw
         ensures draws { Draws self.old result self.new }
         ensures done { (result ≡ Done) ↔ HasPosted self.old }
-        ensures spent { (result ≡ Spent) ↔ ((¬ HasPosted self.old) × (self.old.drawn ≡ self.old.expansions)) }
+        ensures spent { (result ≡ Spent)
+            ↔ ((¬ HasPosted self.old) × (self.old.drawn ≡ self.old.expansions)) }
     {
         if self.note.is_some() {
             return Draw::Done;
@@ -70,8 +74,8 @@ impl Desk {
         Draw::Go(self.drawn)
     }
 
-    /// Room for another note: NoRoom exactly where all room was claimed; else the number of the note, from 1, whose room is claimed
-    /// then. Nothing else changes.
+    /// Room for another note: NoRoom exactly where all room was claimed; else the number of the
+    /// note, from 1, whose room is claimed then. Nothing else changes.
     pub fn claim(&mut self) -> RoomAnswer
         ensures claims { Claims self.old result self.new }
         ensures no_room { (result ≡ NoRoom) ↔ (self.old.claimed ≡ self.old.room) }
@@ -83,8 +87,9 @@ impl Desk {
         RoomAnswer::Room(self.claimed)
     }
 
-    /// Posts a note that answers the problem: it holds on every path, is about the problem's position, and for its attacker. The first
-    /// that is posted stays, and another is let go. Nothing else changes.
+    /// Posts a note that answers the problem: it holds on every path, is about the problem's
+    /// position, and for its attacker. The first that is posted stays, and another is let go.
+    /// Nothing else changes.
     pub fn post(&mut self, note: Note)
         requires { IsAnswerTo self.old.position note }
         ensures { self.new ≡ record self.old { posted = first_posted self.old.posted note } }
@@ -122,8 +127,8 @@ impl Desk {
         self.claimed
     }
 
-    /// What the type keeps: no more is drawn or claimed than there is, and what is posted answers the problem. Does nothing; whoever
-    /// wants to know this of a desk calls it.
+    /// What the type keeps: no more is drawn or claimed than there is, and what is posted answers
+    /// the problem. Does nothing; whoever wants to know this of a desk calls it.
     pub fn laws(&self)
         ensures { IsDesk self.now }
     {

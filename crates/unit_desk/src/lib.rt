@@ -1,10 +1,12 @@
-//! The desk of a search: it hands out the units of work and the room for notes, and keeps the note that answers the problem.
+//! The desk of a search: it hands out the units of work and the room for notes, and keeps the note
+//! that answers the problem.
 //!
-//! A unit is one visit of a position, as its worker draws it; room is claimed for each note that is made. Both are counted against
-//! the [`Settings`](search_limits::Settings) of the search. What is posted first stays, and it is an answer: it holds on every path,
-//! and it is about the problem.
+//! A unit is one visit of a position, as its worker draws it; room is claimed for each note that is
+//! made. Both are counted against the [`Settings`](search_limits::Settings) of the search. What is
+//! posted first stays, and it is an answer: it holds on every path, and it is about the problem.
 //!
-//! Contracts see a desk as its counts, its limits, the problem's position and what is posted (`specs/Desk.antt`).
+//! Contracts see a desk as its counts, its limits, the problem's position and what is posted
+//! (`specs/Desk.antt`).
 #![tactic(auto)]
 
 mod desk;

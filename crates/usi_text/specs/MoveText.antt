@@ -15,12 +15,14 @@ abbrev pub promotion_text : Bool → List ℕ
 promotion_text true = 43 ∷ []
 promotion_text false = []
 
--- A board move: origin, destination, and a plus where it promotes. A drop: the kind's letter, a star, the square.
+-- A board move: origin, destination, and a plus where it promotes. A drop: the kind's letter, a
+-- star, the square.
 abbrev pub move_text : Move → List ℕ
 move_text (moves.Board from to promote) = square_text from.number ++ square_text to.number ++ promotion_text promote
 move_text (moves.Drop kind to) = kind_letter kind ∷ 42 ∷ square_text to.number
 
--- What bytes are read as: the move whose text they are; none, where they are the text of no move that has one.
+-- What bytes are read as: the move whose text they are; none, where they are the text of no move
+-- that has one.
 abbrev pub IsRead : List ℕ → Option Move → Type 0
 IsRead bytes (Some m) = HasText m × (bytes ≡ move_text m)
 IsRead bytes None = (m : Move) → HasText m → bytes ≡ move_text m → ⊥

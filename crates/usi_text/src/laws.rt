@@ -3,8 +3,8 @@ ghost use Rattle.usi_text.specs.MoveText.{MoveTextsApart};
 
 use board_core::value_laws;
 
-/// A law: no two moves have one text (USI protocol: moves). Does nothing; whoever reads texts that hold moves calls it to
-/// know this. Takes no memory.
+/// A law: no two moves have one text (USI protocol: moves). Does nothing; whoever reads texts that
+/// hold moves calls it to know this. Takes no memory.
 pub fn move_laws()
     ensures { MoveTextsApart }
 {

@@ -6,8 +6,8 @@ use crate::write_move;
 use board_core::Move;
 use std::alloc::{AllocError, Global};
 
-/// Writes the answer that these moves mate behind what stands there already: see [`mate_line`]. Where memory is wanted, a part
-/// of it may stand there. Errors: want of memory alone.
+/// Writes the answer that these moves mate behind what stands there already: see [`mate_line`].
+/// Where memory is wanted, a part of it may stand there. Errors: want of memory alone.
 pub fn append_mate_line(out: &mut Vec<u8>, moves: &[Move]) -> Result<(), AllocError>
     requires { AllHaveText moves.now }
     ensures { OnOk result (out.new.items ≡ out.old.items ++ mate_text moves.now) }
@@ -20,8 +20,8 @@ pub fn append_mate_line(out: &mut Vec<u8>, moves: &[Move]) -> Result<(), AllocEr
     Ok(())
 }
 
-/// The answer that these moves mate: `checkmate` and the moves, a space before each (USI protocol: `checkmate`). No line
-/// feed. Each move has a text in the protocol. Errors: want of memory alone.
+/// The answer that these moves mate: `checkmate` and the moves, a space before each (USI protocol:
+/// `checkmate`). No line feed. Each move has a text in the protocol. Errors: want of memory alone.
 pub fn mate_line(alloc: Global, moves: &[Move]) -> Result<Vec<u8>, AllocError>
     requires { AllHaveText moves.now }
     ensures { IfOk result (λ line. line.items ≡ mate_text moves.now) }
@@ -31,7 +31,8 @@ pub fn mate_line(alloc: Global, moves: &[Move]) -> Result<Vec<u8>, AllocError>
     Ok(line)
 }
 
-/// Writes the answer that there is no mate behind what stands there already: see [`nomate_line`]. Errors: want of memory alone.
+/// Writes the answer that there is no mate behind what stands there already: see [`nomate_line`].
+/// Errors: want of memory alone.
 pub fn append_nomate_line(out: &mut Vec<u8>) -> Result<(), AllocError>
     ensures { OnOk result (out.new.items ≡ out.old.items ++ nomate_text) }
 {
@@ -39,8 +40,8 @@ pub fn append_nomate_line(out: &mut Vec<u8>) -> Result<(), AllocError>
     Ok(())
 }
 
-/// The answer that there is no mate: `checkmate nomate` (USI protocol: `checkmate`). No line feed. Errors: want of memory
-/// alone.
+/// The answer that there is no mate: `checkmate nomate` (USI protocol: `checkmate`). No line feed.
+/// Errors: want of memory alone.
 pub fn nomate_line(alloc: Global) -> Result<Vec<u8>, AllocError>
     ensures { IfOk result (λ line. line.items ≡ nomate_text) }
 {
@@ -49,8 +50,8 @@ pub fn nomate_line(alloc: Global) -> Result<Vec<u8>, AllocError>
     Ok(line)
 }
 
-/// Writes the answer that the time was over first behind what stands there already: see [`timeout_line`]. Errors: want of memory
-/// alone.
+/// Writes the answer that the time was over first behind what stands there already: see
+/// [`timeout_line`]. Errors: want of memory alone.
 pub fn append_timeout_line(out: &mut Vec<u8>) -> Result<(), AllocError>
     ensures { OnOk result (out.new.items ≡ out.old.items ++ timeout_text) }
 {
@@ -58,8 +59,8 @@ pub fn append_timeout_line(out: &mut Vec<u8>) -> Result<(), AllocError>
     Ok(())
 }
 
-/// The answer that the time was over first: `checkmate timeout` (USI protocol: `checkmate`). No line feed. Errors: want of
-/// memory alone.
+/// The answer that the time was over first: `checkmate timeout` (USI protocol: `checkmate`). No
+/// line feed. Errors: want of memory alone.
 pub fn timeout_line(alloc: Global) -> Result<Vec<u8>, AllocError>
     ensures { IfOk result (λ line. line.items ≡ timeout_text) }
 {

@@ -63,8 +63,8 @@ fn move_of(bytes: &[u8]) -> Option<Move>
     }
 }
 
-/// The move whose text the bytes are (USI protocol: moves); none where they are no move's text, as for a king's drop and
-/// for a board move to where it began. Takes no memory.
+/// The move whose text the bytes are (USI protocol: moves); none where they are no move's text, as
+/// for a king's drop and for a board move to where it began. Takes no memory.
 pub fn read_move(bytes: &[u8]) -> Option<Move>
     ensures exact { IsRead bytes.now result }
     ensures again { (m : Move) → HasText m → bytes.now ≡ move_text m → result ≡ Some m }

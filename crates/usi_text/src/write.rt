@@ -8,8 +8,8 @@ use board_core::{Move, Square, value_laws};
 use std::fmt::{self, Write};
 use std::marker::Model;
 
-/// The text of a move, four or five bytes of ASCII (USI protocol: moves). A plain value of fixed size; contracts see the
-/// list of the bytes.
+/// The text of a move, four or five bytes of ASCII (USI protocol: moves). A plain value of fixed
+/// size; contracts see the list of the bytes.
 #[derive(Clone, Copy)]
 pub struct MoveText {
     bytes: [u8; 5],
@@ -90,11 +90,12 @@ fn text_of(m: Move) -> MoveText
     }
 }
 
-/// The text of a move: origin and destination, each as the digit of its file and the letter of its row, and a plus where
-/// it promotes, as `8h2b+`; or the letter of the dropped kind, a star and the square, as `G*5b` (USI protocol: moves).
+/// The text of a move: origin and destination, each as the digit of its file and the letter of its
+/// row, and a plus where it promotes, as `8h2b+`; or the letter of the dropped kind, a star and the
+/// square, as `G*5b` (USI protocol: moves).
 ///
-/// No other move has the same text. A board move to where it began and a drop of a king have no text in the protocol: what
-/// is written for one is read as no move. Takes no memory.
+/// No other move has the same text. A board move to where it began and a drop of a king have no
+/// text in the protocol: what is written for one is read as no move. Takes no memory.
 pub fn write_move(m: Move) -> MoveText
     ensures text { result ≡ move_text m }
     ensures apart { (other : Move) → move_text other ≡ result → other ≡ m }

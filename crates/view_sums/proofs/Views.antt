@@ -1,4 +1,5 @@
--- Sums over lists, one element of which is told by its place: what the views of several threads come to.
+-- Sums over lists, one element of which is told by its place: what the views of several threads
+-- come to.
 use Rattle.std.proofs.Common.{◌≡◌, ℕ, zero, suc, ◌+◌, ◌<◌, ◌≤◌, List, [], ◌∷◌, length, set, get_or, sym, subst, arith}
 use Rattle.std.specs.Prelude.{All, sum_by}
 use Rattle.std.proofs.lemmas.List.Sums.{sum_by-set, get_or-le-sum_by}

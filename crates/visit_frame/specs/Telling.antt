@@ -9,7 +9,8 @@ use Rattle.notes.specs.declared.words.Seen.{Seen}
 use Rattle.visit_log.specs.declared.parts.Child.{Child}
 use Rattle.visit_log.specs.Round.{MayShow}
 
--- The child at the place is behind a legal move, its key is that of the position there, and what was told of it may be told.
+-- The child at the place is behind a legal move, its key is that of the position there, and what
+-- was told of it may be told.
 pub record MayTell (attacker : Side) (b : Board) (children : List Child) (place : ℕ) (seen : Seen) : Type 0 where
   pub child : Child
   pub there : slice_get children place ≡ Some child

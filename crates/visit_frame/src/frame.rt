@@ -26,14 +26,17 @@ use std::marker::Model;
 use std::mem::size_of;
 use visit_log::{Child, Entry, Left, Stage};
 
-// What a frame takes, and what each child takes beside it: itself, and its places in the room for one round.
+// What a frame takes, and what each child takes beside it: itself, and its places in the room for
+// one round.
 const _: () = prove!(size_of::<Frame>() <= 384);
 
 const _: () = prove!(size_of::<Child>() + size_of::<Counted>() + size_of::<Numbers>() <= 136);
 
-/// What is known in one visit: of which position it is, its thresholds, and what the table showed of the position's successors.
+/// What is known in one visit: of which position it is, its thresholds, and what the table showed
+/// of the position's successors.
 ///
-/// Contracts see it as `Visiting` of `visit_log`. It takes at most 384 bytes, and each child at most 136 more.
+/// Contracts see it as `Visiting` of `visit_log`. It takes at most 384 bytes, and each child at
+/// most 136 more.
 #[derive(Drop)]
 pub struct Frame {
     position: Position,
@@ -67,7 +70,14 @@ impl Model for Frame {
 impl Frame {
     /// The visit of a position before it is entered. Takes no memory.
     pub fn begun(alloc: Global, position: Position, entry: Entry) -> Frame
-        ensures { result ≡ begun (record { position = position; key = entry.key; limits = entry.limits; numbers = entry.numbers }) }
+        ensures { result ≡ begun
+            (record {
+              position = position;
+              key = entry.key;
+              limits = entry.limits;
+              numbers =
+                  entry.numbers;
+            }) }
     {
         Frame {
             position,
@@ -89,7 +99,8 @@ impl Frame {
         self.kept = Some(kept);
     }
 
-    /// Of the visit only what is left of it is known: its position, and what entering that was answered. Takes no memory.
+    /// Of the visit only what is left of it is known: its position, and what entering that was
+    /// answered. Takes no memory.
     pub fn bare(&mut self)
         ensures { self.new ≡ bare self.old }
     {
@@ -127,9 +138,11 @@ impl Frame {
         &self.position
     }
 
-    /// The key of the child at the place, from 0; none where there is no such child. Takes no memory.
+    /// The key of the child at the place, from 0; none where there is no such child. Takes no
+    /// memory.
     pub fn child_key(&self, place: usize) -> Option<Key>
-        ensures there { (child : Child) → slice_get self.now.children place ≡ Some child → result ≡ Some child.key }
+        ensures there { (child : Child) → slice_get self.now.children place ≡ Some child → result
+            ≡ Some child.key }
         ensures none { slice_get self.now.children place ≡ None → result ≡ None }
     {
         match self.children.get(place) {
@@ -138,14 +151,23 @@ impl Frame {
         }
     }
 
-    /// Lists the successors of the position, in the order of moves, when nothing is known of them yet: those that are attacker's positions
-    /// on the path are marked, and aren't to be looked at. The side not to move must not be in check. Errors: want of memory
-    /// alone, and then nothing has changed.
+    /// Lists the successors of the position, in the order of moves, when nothing is known of them
+    /// yet: those that are attacker's positions on the path are marked, and aren't to be looked at.
+    /// The side not to move must not be in check. Errors: want of memory alone, and then nothing
+    /// has changed.
     pub fn list(&mut self, alloc: Global, problem: &Problem, path: &Path) -> Result<(), AllocError>
         requires quiet { IsQuiet self.old.place.position }
         requires key { self.old.place.key.0 ≡ key_of self.old.place.position }
-        ensures children { OnOk result (AreChildren problem.now.position.side self.old.place.position path.now self.new.children) }
-        ensures listed { OnOk result (self.new ≡ record { place = self.old.place; kept = self.old.kept; children = self.new.children; chosen = 0 }) }
+        ensures children { OnOk result
+            (AreChildren problem.now.position.side self.old.place.position path.now
+            self.new.children) }
+        ensures listed { OnOk result (self.new
+            ≡ record {
+              place = self.old.place;
+              kept = self.old.kept;
+              children = self.new.children;
+              chosen = 0;
+            }) }
         ensures unchanged { OnErr result (self.new ≡ self.old) }
     {
         let children = children_of(alloc, problem, &self.position, &self.key, path)?;
@@ -162,11 +184,14 @@ impl Frame {
         Ok(())
     }
 
-    // The child at the place is selected: it is visited, where this round has looked at it, and else looked at.
+    // The child at the place is selected: it is visited, where this round has looked at it, and
+    // else looked at.
     fn go_to(&mut self, node: Node, own: Numbers, place: usize, second: u128) -> Stage
         requires { IsSome (slice_get self.old.children place) }
-        ensures { (task : Task) → node ≡ node_in task self.old → own ≡ own_in task self.old → Selects task self.old place second
-            → ((path : List Key) × IsListed task path self.old) → Settles task self.old result self.new }
+        ensures { (task : Task) → node ≡ node_in task self.old → own ≡ own_in task self.old
+            → Selects task self.old place second
+            → ((path : List Key) × IsListed task path self.old)
+            → Settles task self.old result self.new }
     {
         let child = &self.children[place];
         if is_fresh(child.look) {
@@ -179,7 +204,8 @@ impl Frame {
 
     // What comes next where no child is due.
     fn settle_round(&mut self, problem: &Problem, worker: u32) -> Stage
-        requires listed { (path : List Key) × IsListed (task_for problem.now.position worker) path self.old }
+        requires listed { (path : List Key)
+            × IsListed (task_for problem.now.position worker) path self.old }
         requires none_due { first_due self.old.children ≡ None }
         ensures { Settles (task_for problem.now.position worker) self.old result self.new }
     {
@@ -201,11 +227,13 @@ impl Frame {
         }
     }
 
-    /// What comes next: a look at a child; to claim room for a note, where the node is solved on the path; to leave with the node's own
-    /// numbers, where they have come to a threshold of the visit; or the visit of a child, with its thresholds. Takes no memory. (Nagai
-    /// 2002; among children of equal numbers each worker takes its own: Kaneko 2010.)
+    /// What comes next: a look at a child; to claim room for a note, where the node is solved on
+    /// the path; to leave with the node's own numbers, where they have come to a threshold of the
+    /// visit; or the visit of a child, with its thresholds. Takes no memory. (Nagai 2002; among
+    /// children of equal numbers each worker takes its own: Kaneko 2010.)
     pub fn settle(&mut self, problem: &Problem, worker: u32) -> Stage
-        requires listed { (path : List Key) × IsListed (task_for problem.now.position worker) path self.old }
+        requires listed { (path : List Key)
+            × IsListed (task_for problem.now.position worker) path self.old }
         ensures { Settles (task_for problem.now.position worker) self.old result self.new }
     {
         match first_due(&self.children) {
@@ -214,13 +242,18 @@ impl Frame {
         }
     }
 
-    /// The child at the place was looked at. Where the table has no entry of it, its start numbers are reckoned here. Takes no memory.
+    /// The child at the place was looked at. Where the table has no entry of it, its start numbers
+    /// are reckoned here. Takes no memory.
     pub fn look(&mut self, problem: &Problem, worker: u32, place: usize, seen: Seen)
-        requires listed { (path : List Key) × IsListed (task_for problem.now.position worker) path self.old
-            × ((child : Child) → slice_get self.old.children place ≡ Some child → MayShow problem.now.position.side child.key path seen) }
+        requires listed { (path : List Key)
+            × IsListed (task_for problem.now.position worker) path self.old
+            × ((child : Child) → slice_get self.old.children place ≡ Some child
+            → MayShow problem.now.position.side child.key path seen) }
         requires there { IsSome (slice_get self.old.children place) }
-        ensures { (sight : Sight) × (sight.place ≡ place) × (sight.seen ≡ seen) × (slice_get self.old.children place ≡ Some sight.child)
-            × Tells problem.now.position.side self.old.place.position sight.child.by seen sight.start × (self.new ≡ looked self.old sight) }
+        ensures { (sight : Sight) × (sight.place ≡ place) × (sight.seen ≡ seen)
+            × (slice_get self.old.children place ≡ Some sight.child)
+            × Tells problem.now.position.side self.old.place.position sight.child.by seen
+            sight.start × (self.new ≡ looked self.old sight) }
     {
         let _ = worker;
         tell(problem, &self.position, &mut self.children, place, seen);
@@ -229,18 +262,24 @@ impl Frame {
     /// The visit of the chosen child ended so: the next round begins. Takes no memory.
     pub fn come_back(&mut self, left: Left)
         requires { IsSome (slice_get self.old.children self.old.chosen) }
-        ensures { (child : Child) × (slice_get self.old.children self.old.chosen ≡ Some child) × (self.new ≡ came_back self.old self.old.chosen child left) }
+        ensures { (child : Child) × (slice_get self.old.children self.old.chosen ≡ Some child)
+            × (self.new ≡ came_back self.old self.old.chosen child left) }
     {
         next_round(&mut self.children, self.chosen, left);
     }
 
-    /// The note of a solved node, made of its children's. Errors: TooHigh, exactly where the note's height would be above 4,096; else want
-    /// of memory alone.
+    /// The note of a solved node, made of its children's. Errors: TooHigh, exactly where the note's
+    /// height would be above 4,096; else want of memory alone.
     pub fn make_note(&self, alloc: Global, problem: &Problem, worker: u32) -> Result<Note, NoteEnd>
-        requires listed { (path : List Key) × IsListed (task_for problem.now.position worker) path self.now }
-        requires solved { is_solved (node_in (task_for problem.now.position worker) self.now) self.now.children ≡ true }
-        ensures made { IfOk result (λ note. IsMade (task_for problem.now.position worker) self.now note) }
-        ensures high { (result ≡ Err TooHigh) ↔ (4096 < highest (notes_under (node_in (task_for problem.now.position worker) self.now) self.now.children) + 1) }
+        requires listed { (path : List Key)
+            × IsListed (task_for problem.now.position worker) path self.now }
+        requires solved { is_solved (node_in (task_for problem.now.position worker) self.now)
+            self.now.children ≡ true }
+        ensures made { IfOk result
+            (λ note. IsMade (task_for problem.now.position worker) self.now note) }
+        ensures high { (result ≡ Err TooHigh)
+            ↔ (4096 < highest (notes_under (node_in (task_for problem.now.position worker) self.now)
+            self.now.children) + 1) }
     {
         let _ = worker;
         let node = node_at(problem, &self.position);

@@ -75,7 +75,9 @@ fn new_children(
     requires legal { (move : Move) → Contains moves.now move → IsLegal position.now move }
     requires key { key.now.0 ≡ key_of position.now }
     ensures moves { IfOk result (λ children. map move_to children.items ≡ moves.now) }
-    ensures new { IfOk result (λ children. All (IsNewChild problem.now.position.side position.now path.now) children.items) }
+    ensures new { IfOk result
+        (λ children. All (IsNewChild problem.now.position.side position.now path.now)
+        children.items) }
 {
     let mut children = Vec::with_capacity(alloc, moves.len())?;
     for by in moves {
@@ -94,7 +96,8 @@ pub(crate) fn children_of(
 ) -> Result<Vec<Child>, AllocError>
     requires quiet { IsQuiet position.now }
     requires key { key.now.0 ≡ key_of position.now }
-    ensures { IfOk result (λ children. AreChildren problem.now.position.side position.now path.now children.items) }
+    ensures { IfOk result
+        (λ children. AreChildren problem.now.position.side position.now path.now children.items) }
 {
     let moves = match node_at(problem, position) {
         Node::Attacker => checks(alloc, problem, position)?,

@@ -66,9 +66,12 @@ fn mate_by_child(
 ) -> Result<Note, NoteEnd>
     requires played { IsPlayed problem.now.position.side position.now }
     requires check { IsCheck problem.now.position.side position.now child.now.by }
-    requires sound { (worker : ℕ) × (path : List Key) × IsSoundChild (task_for problem.now.position worker) position.now path child.now }
+    requires sound { (worker : ℕ) × (path : List Key)
+        × IsSoundChild (task_for problem.now.position worker) position.now path child.now }
     requires decides { decides Attacker child.now ≡ true }
-    ensures made { IfOk result (IsNoteFor (rule_by Attacker child.now) problem.now.position.side position.now (note_list child.now.note)) }
+    ensures made { IfOk result
+        (IsNoteFor (rule_by Attacker child.now) problem.now.position.side position.now
+        (note_list child.now.note)) }
     ensures high { (result ≡ Err TooHigh) ↔ (4096 < highest (note_list child.now.note) + 1) }
 {
     match &child.note {
@@ -90,9 +93,12 @@ fn escape_by_child(
 ) -> Result<Note, NoteEnd>
     requires played { IsPlayed problem.now.position.side position.now }
     requires evasion { IsEvasion problem.now.position.side position.now child.now.by }
-    requires sound { (worker : ℕ) × (path : List Key) × IsSoundChild (task_for problem.now.position worker) position.now path child.now }
+    requires sound { (worker : ℕ) × (path : List Key)
+        × IsSoundChild (task_for problem.now.position worker) position.now path child.now }
     requires decides { decides Defender child.now ≡ true }
-    ensures made { IfOk result (IsNoteFor (rule_by Defender child.now) problem.now.position.side position.now (note_list child.now.note)) }
+    ensures made { IfOk result
+        (IsNoteFor (rule_by Defender child.now) problem.now.position.side position.now
+        (note_list child.now.note)) }
     ensures high { (result ≡ Err TooHigh) ↔ (4096 < highest (note_list child.now.note) + 1) }
 {
     if child.on_path {
@@ -119,7 +125,9 @@ fn escape_from_all(
 ) -> Result<Note, NoteEnd>
     requires played { IsPlayed problem.now.position.side position.now }
     requires all { AllSay Attacker problem.now.position.side position.now children.now }
-    ensures made { IfOk result (IsNoteFor (rule_of_all Attacker children.now) problem.now.position.side position.now (notes_in children.now)) }
+    ensures made { IfOk result
+        (IsNoteFor (rule_of_all Attacker children.now) problem.now.position.side position.now
+        (notes_in children.now)) }
     ensures high { (result ≡ Err TooHigh) ↔ (4096 < highest (notes_in children.now) + 1) }
 {
     if children.is_empty() {
@@ -145,7 +153,9 @@ fn mate_from_all(
 ) -> Result<Note, NoteEnd>
     requires played { IsPlayed problem.now.position.side position.now }
     requires all { AllSay Defender problem.now.position.side position.now children.now }
-    ensures made { IfOk result (IsNoteFor (rule_of_all Defender children.now) problem.now.position.side position.now (notes_in children.now)) }
+    ensures made { IfOk result
+        (IsNoteFor (rule_of_all Defender children.now) problem.now.position.side position.now
+        (notes_in children.now)) }
     ensures high { (result ≡ Err TooHigh) ↔ (4096 < highest (notes_in children.now) + 1) }
 {
     if children.is_empty() {
@@ -170,10 +180,15 @@ pub(crate) fn note_of(
     node: Node,
     children: &[Child],
 ) -> Result<Note, NoteEnd>
-    requires known { (worker : ℕ) × (path : List Key) × IsKnown (task_for problem.now.position worker) path node position.now children.now }
+    requires known { (worker : ℕ) × (path : List Key)
+        × IsKnown (task_for problem.now.position worker) path node position.now children.now }
     requires solved { is_solved node children.now ≡ true }
-    ensures made { IfOk result (IsNoteFor (rule_with node children.now (deciding node children.now)) problem.now.position.side position.now (notes_with children.now (deciding node children.now))) }
-    ensures high { (result ≡ Err TooHigh) ↔ (4096 < highest (notes_with children.now (deciding node children.now)) + 1) }
+    ensures made { IfOk result
+        (IsNoteFor (rule_with node children.now (deciding node children.now))
+        problem.now.position.side position.now
+        (notes_with children.now (deciding node children.now))) }
+    ensures high { (result ≡ Err TooHigh)
+        ↔ (4096 < highest (notes_with children.now (deciding node children.now)) + 1) }
 {
     match (node, deciding(node, children)) {
         (Node::Attacker, Some(child)) => mate_by_child(alloc, problem, position, child),

@@ -110,7 +110,8 @@ fn numbers_by(note: &Option<Note>, numbers: Numbers) -> Numbers
 
 // Whether the move is a drop on a square of the set.
 fn hides(drops: Mask, by: Move) -> bool
-    ensures { (before : List Child) (child : Child) → AreOpenDrops drops before → child.by ≡ by → result ≡ list_any (hides child) before }
+    ensures { (before : List Child) (child : Child) → AreOpenDrops drops before → child.by ≡ by
+        → result ≡ list_any (hides child) before }
 {
     match by {
         Move::Board { .. } => false,
@@ -118,9 +119,11 @@ fn hides(drops: Mask, by: Move) -> bool
     }
 }
 
-// Whether a move is hidden behind others, where the set has the squares on which these are drops without a note.
+// Whether a move is hidden behind others, where the set has the squares on which these are drops
+// without a note.
 fn is_hidden(node: Node, drops: Mask, by: Move) -> bool
-    ensures { (before : List Child) (child : Child) → AreOpenDrops drops before → child.by ≡ by → result ≡ is_hidden node before child }
+    ensures { (before : List Child) (child : Child) → AreOpenDrops drops before → child.by ≡ by
+        → result ≡ is_hidden node before child }
 {
     match node {
         Node::Attacker => false,
@@ -130,7 +133,8 @@ fn is_hidden(node: Node, drops: Mask, by: Move) -> bool
 
 // A child as it is counted behind others.
 fn counted_behind(node: Node, drops: Mask, child: &Child) -> Counted
-    ensures { (before : List Child) → AreOpenDrops drops before → result ≡ counted_behind node before child.now }
+    ensures { (before : List Child) → AreOpenDrops drops before → result
+        ≡ counted_behind node before child.now }
 {
     let numbers = if is_hidden(node, drops, child.by) {
         Numbers::PROVED
@@ -145,7 +149,8 @@ fn counted_behind(node: Node, drops: Mask, child: &Child) -> Counted
 
 // The squares on which the others and this one are drops without a note.
 fn with_drop(drops: Mask, child: &Child) -> Mask
-    ensures { (before : List Child) → AreOpenDrops drops before → AreOpenDrops result (before ++ child.now ∷ []) }
+    ensures { (before : List Child) → AreOpenDrops drops before
+        → AreOpenDrops result (before ++ child.now ∷ []) }
 {
     match child.by {
         Move::Drop { to, .. } => {
@@ -186,7 +191,8 @@ fn numbers_at(node: Node, counts: &[Numbers]) -> Numbers
     }
 }
 
-// What the visit of a child begins with, from the thresholds of its node and the node's own numbers.
+// What the visit of a child begins with, from the thresholds of its node and the node's own
+// numbers.
 pub(crate) fn entry_to(
     node: Node,
     limits: Numbers,
@@ -194,7 +200,13 @@ pub(crate) fn entry_to(
     child: &Child,
     second: u128,
 ) -> Entry
-    ensures { result ≡ record { by = Some child.now.by; key = child.now.key; limits = thresholds_of node limits own child.now.numbers second; numbers = child.now.numbers } }
+    ensures { result ≡ record {
+      by = Some child.now.by;
+      key = child.now.key;
+      limits = thresholds_of node limits own
+          child.now.numbers second;
+      numbers = child.now.numbers;
+    } }
 {
     Entry {
         by: Some(child.by),

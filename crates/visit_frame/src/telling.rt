@@ -23,8 +23,10 @@ pub(crate) fn tell(
 )
     requires quiet { IsQuiet position.now }
     requires known { MayTell problem.now.position.side position.now children.old place seen }
-    ensures { (sight : Sight) × (sight.place ≡ place) × (sight.seen ≡ seen) × (slice_get children.old place ≡ Some sight.child)
-        × Tells problem.now.position.side position.now sight.child.by seen sight.start × (children.new ≡ slice_set children.old place (told sight.child seen sight.start)) }
+    ensures { (sight : Sight) × (sight.place ≡ place) × (sight.seen ≡ seen)
+        × (slice_get children.old place ≡ Some sight.child)
+        × Tells problem.now.position.side position.now sight.child.by seen sight.start
+        × (children.new ≡ slice_set children.old place (told sight.child seen sight.start)) }
 {
     match seen {
         Seen::New => {
@@ -44,7 +46,9 @@ pub(crate) fn tell(
 // The child at the place was looked at, and counts with these numbers.
 fn show(children: &mut [Child], place: usize, numbers: Numbers, below: u64)
     requires { place < length children.old }
-    ensures { (child : Child) → slice_get children.old place ≡ Some child → (children.new ≡ slice_set children.old place (record child { look = Fresh; numbers = numbers; below = below })) }
+    ensures { (child : Child) → slice_get children.old place ≡ Some child
+        → (children.new ≡ slice_set children.old place
+        (record child { look = Fresh; numbers = numbers; below = below })) }
 {
     let child = &mut children[place];
     child.look = Look::Fresh;
@@ -55,7 +59,9 @@ fn show(children: &mut [Child], place: usize, numbers: Numbers, below: u64)
 // The child at the place was looked at, and is solved, as the note says.
 fn prove(children: &mut [Child], place: usize, note: Note)
     requires { place < length children.old }
-    ensures { (child : Child) → slice_get children.old place ≡ Some child → (children.new ≡ slice_set children.old place (record child { look = Fresh; note = Some note })) }
+    ensures { (child : Child) → slice_get children.old place ≡ Some child
+        → (children.new ≡ slice_set children.old place
+        (record child { look = Fresh; note = Some note })) }
 {
     let child = &mut children[place];
     child.look = Look::Fresh;
@@ -84,7 +90,8 @@ fn stale(children: &mut [Child])
 // The visit of the child at the place ended so.
 fn visit(children: &mut [Child], place: usize, left: Left)
     requires { place < length children.old }
-    ensures { (child : Child) → slice_get children.old place ≡ Some (staled child) → children.new ≡ slice_set children.old place (visited child left) }
+    ensures { (child : Child) → slice_get children.old place ≡ Some (staled child) → children.new
+        ≡ slice_set children.old place (visited child left) }
 {
     let child = &mut children[place];
     match left {
@@ -99,7 +106,8 @@ fn visit(children: &mut [Child], place: usize, left: Left)
 // The visit of the child at the place ended so, and the next round begins.
 pub(crate) fn next_round(children: &mut [Child], place: usize, left: Left)
     requires { place < length children.old }
-    ensures { (child : Child) → slice_get children.old place ≡ Some child → children.new ≡ slice_set (map staled children.old) place (visited child left) }
+    ensures { (child : Child) → slice_get children.old place ≡ Some child → children.new
+        ≡ slice_set (map staled children.old) place (visited child left) }
 {
     stale(children);
     visit(children, place, left);

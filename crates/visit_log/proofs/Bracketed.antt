@@ -1,4 +1,5 @@
--- A visit leaves what it enters, innermost first: what was entered before it and not left is still so behind it.
+-- A visit leaves what it enters, innermost first: what was entered before it and not left is still
+-- so behind it.
 use Rattle.std.proofs.Common.{◌≡◌, ℕ, true, false, List, [], ◌∷◌, ◌++◌, inl, inr, refl, sym, ap, ap₂, ◌∙◌, subst}
 use Rattle.std.specs.Prelude.{Option, Some, None}
 use Rattle.board_core.specs.declared.keys.Key.{Key}
@@ -105,7 +106,8 @@ mutual
 
 -- 2. WHOLE LOGS.
 
--- What holds of the log of a visit, and still with a Post behind it, holds of a visit log that is made of it.
+-- What holds of the log of a visit, and still with a Post behind it, holds of a visit log that is
+-- made of it.
 pub by_ends : (P : List Exchange → Type 0) (written log : List Exchange) (end : WorkEnd) (ended : Ending) → P written
     → ((note : Derivation) → P (written ++ (Post note, Some PostedIt) ∷ [])) → EndsLog ended written log end → P log
 by_ends P written log end (Winds reason) h posts ends = subst P (sym ends.0) h
@@ -113,7 +115,8 @@ by_ends P written log end (Ends (Solved note)) h posts (inl ends) = subst P (sym
 by_ends P written log end (Ends (Solved note)) h posts (inr ends) = subst P (sym ends.0) h
 by_ends P written log end (Ends (Open numbers)) h posts ends = absurd ends
 
--- In a visit log each Leave leaves what was entered last and not left yet, and at its end everything is left.
+-- In a visit log each Leave leaves what was entered last and not left yet, and at its end
+-- everything is left.
 pub brackets : LogsAreBrackets
 brackets task log end whole =
     let written : List Exchange = visit_on task [] (root task) whole.visit in

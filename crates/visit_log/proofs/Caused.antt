@@ -70,7 +70,8 @@ mutual
 
 -- 2. CAUSES.
 
--- Why a visit, or what ends it, winds up: the note that would have been too high is one that isn't made in it.
+-- Why a visit, or what ends it, winds up: the note that would have been too high is one that isn't
+-- made in it.
 abbrev CauseIn : Task → (FrameView → ℕ → Type 0) → WorkEnd → List Exchange → Type 0
 CauseIn task unmade Posted log = ((note : Derivation) × Contains log (Post note, Some PostedIt)) ⊎ Contains log (drew Done)
 CauseIn task unmade Spent log = Contains log (drew AllDrawn)

@@ -1,4 +1,5 @@
--- What is known of the children stays sound through a look and a visit, and none that is looked at or visited is on the path.
+-- What is known of the children stays sound through a look and a visit, and none that is looked at
+-- or visited is on the path.
 use Rattle.std.proofs.Common.{◌≡◌, ◌⊎◌, inl, inr, ℕ, zero, suc, Bool, true, false, cond, List, [], ◌∷◌, All, Contains, map, arith, refl, sym, ap, subst, ◌∙◌, find, is_some, Some, None, Option}
 use Rattle.std.specs.Prelude.{slice_get, slice_set}
 use Rattle.board_core.specs.Board.{Board}

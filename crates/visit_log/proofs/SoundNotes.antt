@@ -48,7 +48,8 @@ only_note : (o : Option Derivation) (note : Derivation) → note_list o ≡ note
 only_note None note alone = absurd (cc)
 only_note (Some one) note alone = ap Some (cc)
 
--- What joins the tags of notes that hold on the path with the position's key holds on the path before it.
+-- What joins the tags of notes that hold on the path with the position's key holds on the path
+-- before it.
 joined_within : (tag : List Key) (b : Board) (key : Key) (path : List Key) (notes : List Derivation) → key.0 ≡ key_of b → JoinsTags tag b notes
     → All (λ note. IsWithin (tag_of note) (path ++ key ∷ [])) notes → IsWithin tag path
 joined_within tag b key path notes is joins within = λ k there.
@@ -64,7 +65,8 @@ joined_within tag b key path notes is joins within = λ k there.
         let same : key ≡ k = All-contains (λ q. key ≡ q) (key ∷ []) k (All-cons (λ q. key ≡ q) key [] refl (All-nil (λ q. key ≡ q))) last in
         absurd (other (ap (λ (q : Key). q.0) (sym same) ∙ is))
 
--- The tag of a note that meets the rule of its node, over notes that hold on the path, holds on the path above.
+-- The tag of a note that meets the rule of its node, over notes that hold on the path, holds on the
+-- path above.
 tag_within : (task : Task) (node : Node) (b : Board) (key : Key) (path : List Key) (children : List Child) (s : Step) (one : Option Child)
     → key.0 ≡ key_of b → s.position ≡ b → All (IsSoundChild task b (path_with node key path)) children → deciding node children ≡ one
     → meets (rule_with node children one) s (notes_with children one) → IsWithin s.tag path

@@ -1,4 +1,5 @@
--- Where a worker stands after a log: for each stage, which visits go on, and what was done in each. So its log is the beginning of a visit log.
+-- Where a worker stands after a log: for each stage, which visits go on, and what was done in each.
+-- So its log is the beginning of a visit log.
 use Rattle.std.proofs.Common.{◌≡◌, ◌≤◌, ◌+◌, ◌⊎◌, inl, inr, List, [], ◌∷◌, ◌++◌, arith, refl, sym, ap, ap₂, ◌∙◌, subst, ℕ, true, false, append_assoc, append-nil}
 use Rattle.std.specs.Prelude.{Option, Some, None, slice_get}
 use Rattle.board_core.specs.declared.keys.Key.{Key}
@@ -33,7 +34,8 @@ use Rattle.visit_log.proofs.Waiting.{Below, Here, Over, over_by, over_as, over_r
 
 -- 1. WHERE IT STANDS.
 
--- A worker that winds up: once all is left, it is the log of a visit of the problem's position that winds up.
+-- A worker that winds up: once all is left, it is the log of a visit of the problem's position that
+-- winds up.
 abbrev pub WindsUp : Task → WorkEnd → List FrameView → List Exchange → Type 0
 WindsUp task end fs log = (reason : WorkEnd) × ((end ≡ reason) ⊎ (end ≡ NoMemory)) × Over task [] (root task) [] (Winds reason) (log ++ leaves fs)
 
@@ -427,7 +429,8 @@ stands_after task (happening ∷ happenings) s t log h (u, happens, runs) =
     as_log task t ((log ++ event happening) ++ events happenings) (log ++ (event happening ++ events happenings)) (append_assoc log (event happening) (events happenings))
     (stands_after task happenings u t (log ++ event happening) (stands_on task s happening u log h happens) runs)
 
--- A worker that winds up is at the beginning of a visit log: what is left is to leave all positions.
+-- A worker that winds up is at the beginning of a visit log: what is left is to leave all
+-- positions.
 begun_winding : (task : Task) (end : WorkEnd) (fs : List FrameView) (log : List Exchange) → StandsAt task (Winding end) fs log → IsBegunLog task log
 begun_winding task end [] log h = record { rest = []; end = end; whole = subst (λ (z : List Exchange). IsVisitLog task z end) (sym (append-nil log)) h }
 begun_winding task end (f ∷ fs) log (reason, ends, over) = record {
@@ -455,7 +458,8 @@ winds_starved s (Winding end) = by_frames s.frames
     by_frames [] = (end, refl)
     by_frames (f ∷ fs) = (NoMemory, refl)
 
--- Wherever a worker stands, its log is the beginning of a visit log: the one that it would write if it were starved now.
+-- Wherever a worker stands, its log is the beginning of a visit log: the one that it would write if
+-- it were starved now.
 begun_stands : (task : Task) (s : State) (log : List Exchange) → Stands task s log → IsBegunLog task log
 begun_stands task s log h =
     let winds = winds_starved s s.stage in

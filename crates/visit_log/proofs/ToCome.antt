@@ -187,7 +187,8 @@ darkens : (s t : State) (st : Stage) → IsLooking st → t ≡ starve_at s st �
 darkens s t (Looking place) looks e = let w = winds s t NoMemory e in omega (arith, w)
 darkens s t st looks e = absurd looks
 
--- With each answer less is still to come, where no position has more moves than the order of moves has places.
+-- With each answer less is still to come, where no position has more moves than the order of moves
+-- has places.
 pub less_to_come : OrdersWithin → LessToCome
 less_to_come within task s t (Told request answer) is sound h some = answers within task s t s.stage answer sound h.1 h.2
 less_to_come within task s t (Dark request) is sound h some = darkens s t s.stage h.1 h.2

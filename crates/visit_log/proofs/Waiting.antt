@@ -1,4 +1,5 @@
--- Visits that go on: what is done in each of them, which of them wait for another's end, and how they wind up.
+-- Visits that go on: what is done in each of them, which of them wait for another's end, and how
+-- they wind up.
 use Rattle.std.proofs.Common.{◌≡◌, List, [], ◌∷◌, ◌++◌, refl, sym, ap, ap₂, ◌∙◌, subst, ℕ, true, append_assoc, append-nil}
 use Rattle.std.specs.Prelude.{Option, Some, is_some, map}
 use Rattle.board_core.specs.declared.keys.Key.{Key}
@@ -14,7 +15,8 @@ use Rattle.visit_log.specs.Machine.{path_of, bare, entered_ones}
 
 -- 1. WHAT IS DONE SO FAR.
 
--- A visit in its middle, with its log: it began behind a log for which B holds, and these things were done in it.
+-- A visit in its middle, with its log: it began behind a log for which B holds, and these things
+-- were done in it.
 pub record Amid (B : List Exchange → Type 0) (task : Task) (p : Place) (path : List Key) (f : FrameView) (log : List Exchange) : Type 0 where
   pub before : List Exchange
   pub below : B before

@@ -28,18 +28,21 @@ use Rattle.visit_log.specs.Frame.{node_at, one_and_one}
 
 -- 1. WHICH CHILDREN THERE ARE.
 
--- The moves are those of who is to move at the node: exactly the attacker's checks, or exactly the defender's evasions, in their order.
+-- The moves are those of who is to move at the node: exactly the attacker's checks, or exactly the
+-- defender's evasions, in their order.
 abbrev pub AreMoves : Node → Side → Board → List Move → Type 0
 AreMoves Attacker attacker b moves = Lists (IsCheck attacker b) moves
 AreMoves Defender attacker b moves = Lists (IsEvasion attacker b) moves
 
--- Whether the child of such a node is to be looked at first: not, where it is an attacker's position that stands on the path.
+-- Whether the child of such a node is to be looked at first: not, where it is an attacker's
+-- position that stands on the path.
 abbrev pub first_look : Bool → Look
 first_look true = Stale
 first_look false = Due
 
--- A child of which nothing is known yet: its key is that of the position after the move; it is on the path where the defender moves and its
--- key stands there; it is to be looked at where it isn't on the path.
+-- A child of which nothing is known yet: its key is that of the position after the move; it is on
+-- the path where the defender moves and its key stands there; it is to be looked at where it isn't
+-- on the path.
 pub record IsNewChild (attacker : Side) (b : Board) (path : List Key) (child : Child) : Type 0 where
   pub key : child.key.0 ≡ key_of (after b child.by)
   pub on_path : IsTrue child.on_path ↔ ((node_at attacker b ≡ Defender) × Contains path child.key)
@@ -52,8 +55,8 @@ pub record IsNewChild (attacker : Side) (b : Board) (path : List Key) (child : C
 abbrev pub move_to : Child → Move
 move_to child = child.by
 
--- The children of a position, in the order of moves, when nothing is known of them yet. The path holds the keys of the attacker's positions
--- that are being visited, this one's among them.
+-- The children of a position, in the order of moves, when nothing is known of them yet. The path
+-- holds the keys of the attacker's positions that are being visited, this one's among them.
 pub record AreChildren (attacker : Side) (b : Board) (path : List Key) (children : List Child) : Type 0 where
   pub moves : AreMoves (node_at attacker b) attacker b (map move_to children)
   pub new : All (IsNewChild attacker b path) children
@@ -79,8 +82,8 @@ abbrev pub shows_escape : Option Derivation → Bool
 shows_escape None = false
 shows_escape (Some note) = not (is_mate (conclusion_of note))
 
--- Whether the child decides its node alone: the attacker has a check that mates; the defender has an evasion that escapes, or gets him back
--- to a position on the path.
+-- Whether the child decides its node alone: the attacker has a check that mates; the defender has
+-- an evasion that escapes, or gets him back to a position on the path.
 abbrev pub decides : Node → Child → Bool
 decides Attacker child = shows_mate child.note
 decides Defender child = child.on_path || shows_escape child.note
@@ -89,7 +92,8 @@ decides Defender child = child.on_path || shows_escape child.note
 abbrev pub deciding : Node → List Child → Option Child
 deciding node children = find (decides node) children
 
--- Whether the node is solved on the path: a child decides it, or all have a note (so where there is no child).
+-- Whether the node is solved on the path: a child decides it, or all have a note (so where there is
+-- no child).
 abbrev pub is_solved : Node → List Child → Bool
 is_solved node children = is_some (deciding node children) || list_all has_note children
 
@@ -142,7 +146,8 @@ abbrev pub settled : Conclusion → Numbers
 settled Mate = record { pn = 0; dn = INFINITE }
 settled Escape = record { pn = INFINITE; dn = 0 }
 
--- What a child counts as: proved or disproved where it has a note, else with the numbers that were seen last.
+-- What a child counts as: proved or disproved where it has a note, else with the numbers that were
+-- seen last.
 abbrev pub numbers_by : Option Derivation → Numbers → Numbers
 numbers_by None numbers = numbers
 numbers_by (Some note) numbers = settled (conclusion_of note)
@@ -153,17 +158,19 @@ drop_on_same (moves.Board from to promote) other = false
 drop_on_same (moves.Drop dropped to) (moves.Board from at promote) = false
 drop_on_same (moves.Drop dropped to) (moves.Drop other at) = to.number == at.number
 
--- Whether an earlier child hides a later one: both are drops on one square, and the earlier one has no note yet.
+-- Whether an earlier child hides a later one: both are drops on one square, and the earlier one has
+-- no note yet.
 abbrev pub hides : Child → Child → Bool
 hides later earlier = not (has_note earlier) && drop_on_same later.by earlier.by
 
--- Whether a child is hidden by the children before it. Only the defender's drops are: those on one square are answers of one kind.
+-- Whether a child is hidden by the children before it. Only the defender's drops are: those on one
+-- square are answers of one kind.
 abbrev pub is_hidden : Node → List Child → Child → Bool
 is_hidden Attacker before child = false
 is_hidden Defender before child = list_any (hides child) before
 
--- A child as it is counted behind others. One that is hidden counts as proved: so it adds nothing to the sum of a defender's node, isn't its
--- least, and isn't selected.
+-- A child as it is counted behind others. One that is hidden counts as proved: so it adds nothing
+-- to the sum of a defender's node, isn't its least, and isn't selected.
 abbrev pub counted_behind : Node → List Child → Child → Counted
 counted_behind node before child = record {
   numbers = if is_hidden node before child then settled Mate else numbers_by child.note child.numbers;

@@ -1,4 +1,5 @@
--- What a worker counts: the slots that it has entered and not left, by their words, its units and its room; and what is still to come.
+-- What a worker counts: the slots that it has entered and not left, by their words, its units and
+-- its room; and what is still to come.
 use Rattle.std.specs.Prelude.{◌≡◌, ◌+◌, ◌-◌, ◌*◌, ◌==◌, ℕ, Bool, true, false, List, [], ◌∷◌, Option, Some, None, length, count_by, not, if◌then◌else◌}
 use Rattle.search_limits.specs.declared.expansions.TheConstants.{MOST_EXPANSIONS}
 use Rattle.board_core.specs.declared.keys.Key.{Key}
@@ -21,7 +22,8 @@ use Rattle.visit_log.specs.Machine.{State}
 
 -- 1. SLOTS.
 
--- Which word counts the visits below a slot, by the key whose row it is in: keys of one row have one word for each slot.
+-- Which word counts the visits below a slot, by the key whose row it is in: keys of one row have
+-- one word for each slot.
 abbrev pub Words : Type 0
 Words = Key → ℕ → ℕ
 
@@ -35,7 +37,8 @@ abbrev pub kept_once : Kept → ℕ
 kept_once Unkept = 0
 kept_once (Slot number) = 1
 
--- 1 where what entering was answered is a slot that has this word, else 0; 0 where nothing was answered yet.
+-- 1 where what entering was answered is a slot that has this word, else 0; 0 where nothing was
+-- answered yet.
 abbrev pub slot_of : Words → Option Kept → Key → ℕ → ℕ
 slot_of words None of word = 0
 slot_of words (Some kept) of word = slot_once words kept of word
@@ -128,7 +131,8 @@ abbrev pub unseen_in : List FrameView → ℕ
 unseen_in [] = 0
 unseen_in (f ∷ fs) = unseen f.children
 
--- How many requests are to come, at most, until the stage is another, beside what the units and the visits that go on allow.
+-- How many requests are to come, at most, until the stage is another, beside what the units and the
+-- visits that go on allow.
 abbrev pub cost : Stage → List FrameView → ℕ
 cost (Polling entry) fs = 2
 cost (Drawing entry) fs = 1

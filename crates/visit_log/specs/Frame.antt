@@ -12,7 +12,8 @@ use Rattle.pn_numbers.specs.declared.numbers.TheConstants.{INFINITE}
 use Rattle.notes.specs.declared.words.Kept.{Kept}
 use Rattle.visit_log.specs.declared.parts.Child.{Child}
 
--- The search of a worker: the position of its problem, in which the attacker is to move, and the worker's number, from 1.
+-- The search of a worker: the position of its problem, in which the attacker is to move, and the
+-- worker's number, from 1.
 pub record Task : Type 0 where
   pub problem : Board
   pub worker : ℕ
@@ -36,15 +37,17 @@ node_of White White = Attacker
 abbrev pub node_at : Side → Board → Node
 node_at attacker b = node_of attacker b.side
 
--- What is visited: a position with its key, the thresholds of the visit, and the numbers with which the position is entered.
+-- What is visited: a position with its key, the thresholds of the visit, and the numbers with which
+-- the position is entered.
 pub record Place : Type 0 where
   pub position : Board
   pub key : Key
   pub limits : Numbers
   pub numbers : Numbers
 
--- A visit that is going on: what it is of, what entering it was answered (none before that), the successors, in the order of moves (none
--- before they are listed), and at which place, from 0, the one stands that is being visited, or was last.
+-- A visit that is going on: what it is of, what entering it was answered (none before that), the
+-- successors, in the order of moves (none before they are listed), and at which place, from 0, the
+-- one stands that is being visited, or was last.
 pub record FrameView : Type 0 where
   pub place : Place
   pub kept : Option Kept

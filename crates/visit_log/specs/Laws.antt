@@ -33,11 +33,13 @@ abbrev pub LogsAreWhole : Type 0
 LogsAreWhole = (task : Task) (happenings : List Happening) (s : State) (end : WorkEnd) → Runs task (start task) happenings s
     → end_of s ≡ Some end → IsVisitLog task (events happenings) end
 
--- A law: in a visit log each Leave leaves what was entered last and not left yet, and at its end everything is left.
+-- A law: in a visit log each Leave leaves what was entered last and not left yet, and at its end
+-- everything is left.
 abbrev pub LogsAreBrackets : Type 0
 LogsAreBrackets = (task : Task) (log : List Exchange) (end : WorkEnd) → IsVisitLog task log end → AreBrackets [] log []
 
--- A law: room is asked for at most once a visit; so no more often in a visit log than units are given.
+-- A law: room is asked for at most once a visit; so no more often in a visit log than units are
+-- given.
 abbrev pub OneClaimAVisit : Type 0
 OneClaimAVisit = (task : Task) (log : List Exchange) (end : WorkEnd) → IsVisitLog task log end → count_by asks_room log ≤ count_by gives_unit log
 
@@ -53,7 +55,8 @@ StaysSound = (task : Task) (s t : State) (happening : Happening) → IsTask task
 abbrev pub AsksSound : Type 0
 AsksSound = (task : Task) (s : State) → IsTask task → IsSound task s → IsSoundRequest task (asks s)
 
--- A law: an event changes a sound worker's own slots by what it enters and leaves, whatever words they have.
+-- A law: an event changes a sound worker's own slots by what it enters and leaves, whatever words
+-- they have.
 abbrev pub SlotsMove : Type 0
 SlotsMove = (words : Words) (task : Task) (s t : State) (answer : Reply) (word : ℕ) → IsSound task s
     → Fits task s answer → LeadsTo task s answer t
@@ -88,8 +91,8 @@ abbrev pub UnitsMove : Type 0
 UnitsMove = (task : Task) (s t : State) (answer : Reply) → Fits task s answer → LeadsTo task s answer t
     → (t.visits ≡ s.visits + units_in answer) × (t.claims ≡ s.claims + rooms_in answer)
 
--- What is counted of a worker: it has no more visits going on, and no more slots, than units, and no more room than units, of which there are at
--- most a billion.
+-- What is counted of a worker: it has no more visits going on, and no more slots, than units, and
+-- no more room than units, of which there are at most a billion.
 pub record IsCounted (s : State) : Type 0 where
   pub slots : own_size s.frames ≤ length s.frames
   pub frames : length s.frames ≤ s.visits
@@ -133,8 +136,9 @@ abbrev pub AsksItsEnd : Type 0
 AsksItsEnd = (task : Task) (happenings : List Happening) (s : State) (end : WorkEnd) → IsTask task → Runs task (start task) happenings s
     → (asks s ≡ End end) ↔ (end_of s ≡ Some end)
 
--- Why a worker of the task ends so, by its log. Posted: it posted, or a draw was answered done. Spent, NoRoom: a draw, a claim was answered so. Stopped:
--- a poll was true. TooHigh: a note, for which it was given room, would have been too high. Want of memory needs no cause.
+-- Why a worker of the task ends so, by its log. Posted: it posted, or a draw was answered done.
+-- Spent, NoRoom: a draw, a claim was answered so. Stopped: a poll was true. TooHigh: a note, for
+-- which it was given room, would have been too high. Want of memory needs no cause.
 abbrev pub HasCause : Task → WorkEnd → List Exchange → Type 0
 HasCause task Posted log = ((note : Derivation) × Contains log (Post note, Some PostedIt)) ⊎ Contains log (drew Done)
 HasCause task Spent log = Contains log (drew AllDrawn)
@@ -151,7 +155,8 @@ EndsHaveCauses = (task : Task) (log : List Exchange) (end : WorkEnd) → IsVisit
 abbrev pub NoRepeats : List Key → Type 0
 NoRepeats path = (i j : ℕ) (key : Key) → slice_get path i ≡ Some key → slice_get path j ≡ Some key → i ≡ j
 
--- A law: an attacker's position stands at most once on a worker's path, since a successor that stands there isn't visited.
+-- A law: an attacker's position stands at most once on a worker's path, since a successor that
+-- stands there isn't visited.
 abbrev pub PathsHaveNoRepeats : Type 0
 PathsHaveNoRepeats = (task : Task) (happenings : List Happening) (s : State) → Runs task (start task) happenings s
     → NoRepeats (path_of task s.frames)

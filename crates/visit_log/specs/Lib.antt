@@ -1,4 +1,5 @@
--- A search by proof numbers as a grammar of visits, and as a machine that takes one answer at a time.
+-- A search by proof numbers as a grammar of visits, and as a machine that takes one answer at a
+-- time.
 pub mod Frame
 pub mod Children
 pub mod Round

@@ -1,4 +1,5 @@
--- The search as a machine: where a worker stands between two requests, what it asks next, and where an answer leads.
+-- The search as a machine: where a worker stands between two requests, what it asks next, and where
+-- an answer leads.
 use Rattle.std.specs.Prelude.{◌≡◌, ◌⊎◌, ◌+◌, ◌<◌, ℕ, true, false, List, [], ◌∷◌, Option, Some, None, map, is_some, slice_get, if◌then◌else◌}
 use Rattle.search_limits.specs.declared.expansions.TheConstants.{MOST_EXPANSIONS}
 use Rattle.bit_boards.specs.declared.piece.Side.{Side}
@@ -34,7 +35,8 @@ use Rattle.visit_log.specs.Children.{AreChildren}
 use Rattle.visit_log.specs.Round.{own, Solves, GivesUp, LooksNext, Choice, GoesDown, child_place, Sight, looked, MayShow, Tells, came_back, IsMade, IsRefusal}
 use Rattle.visit_log.specs.Visit.{path_at, kept_by}
 
--- What it does next, the visits that are going on, the innermost first, and how many units and how much room it got.
+-- What it does next, the visits that are going on, the innermost first, and how many units and how
+-- much room it got.
 pub record State : Type 0 where
   pub stage : Stage
   pub frames : List FrameView
@@ -52,7 +54,8 @@ path_of task (f ∷ fs) = path_at task f.place (path_of task fs)
 
 -- 1. ENTRIES.
 
--- What the visit of a place is begun with: the move to it, if there is one, its key, thresholds and numbers.
+-- What the visit of a place is begun with: the move to it, if there is one, its key, thresholds and
+-- numbers.
 abbrev pub entry_to : Option Move → Place → Entry
 entry_to by p = record { by = by; key = p.key; limits = p.limits; numbers = p.numbers }
 
@@ -115,7 +118,8 @@ starve s = starve_at s s.stage
 
 -- 3. WHERE AN ANSWER LEADS.
 
--- What the innermost visit does next, and the visit then: it looks, it claims, it leaves with its numbers, or it goes down to a child.
+-- What the innermost visit does next, and the visit then: it looks, it claims, it leaves with its
+-- numbers, or it goes down to a child.
 abbrev pub Settles : Task → FrameView → Stage → FrameView → Type 0
 Settles task f (Looking place) g = ((child : Child) × LooksNext task f place child) × (g ≡ f)
 Settles task f Claiming g = Solves task f × (g ≡ f)
@@ -147,7 +151,8 @@ pub record IsPlayed (attacker : Side) (b : Board) : Type 0 where
   pub play : IsInPlay attacker b
   pub checked : node_at attacker b ≡ Defender → IsInCheck b.cells (other attacker)
 
--- A unit is drawn: the visit begins, of a position as play leads to it (whoever makes the step shows this); or there is no memory for it.
+-- A unit is drawn: the visit begins, of a position as play leads to it (whoever makes the step
+-- shows this); or there is no memory for it.
 abbrev pub Begins : Task → State → Entry → State → Type 0
 Begins task s entry t =
     (IsPlayed (attacker_in task) (position_by task s.frames entry.by)
@@ -224,7 +229,8 @@ MayShowAt task [] place seen = ⊥
 MayShowAt task (f ∷ fs) place seen =
     (child : Child) → slice_get f.children place ≡ Some child → MayShow (attacker_in task) child.key (path_of task (f ∷ fs)) seen
 
--- The answer is of the kind that was asked for, and may come. A unit comes only where fewer than a billion came before. Nothing answers an End.
+-- The answer is of the kind that was asked for, and may come. A unit comes only where fewer than a
+-- billion came before. Nothing answers an End.
 abbrev pub FitsAt : Task → State → Stage → Reply → Type 0
 FitsAt task s (Polling entry) (Polled stop) = Unit {0}
 FitsAt task s (Drawing entry) (Drew (Go unit)) = s.visits < MOST_EXPANSIONS
@@ -285,7 +291,8 @@ asks_at (Leaving left) fs = ask_leave fs (update_by left) NoMemory
 asks_at (Posting posted) fs = ask_post posted
 asks_at (Winding end) fs = ask_leave fs Nothing end
 
--- The next request. (Where nothing sensible could be asked an End stands here; no worker that a log leads to comes there.)
+-- The next request. (Where nothing sensible could be asked an End stands here; no worker that a log
+-- leads to comes there.)
 abbrev pub asks : State → Request
 asks s = asks_at s.stage s.frames
 

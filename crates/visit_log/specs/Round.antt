@@ -1,7 +1,8 @@
--- What comes next in a visit. A round looks at the children that are due, in their order: in the first round all but those on the path,
--- later the one whose visit has just ended, where that left no note. Then the node is solved, or its numbers have come to a threshold, or a child is
--- selected; one that this round hasn't looked at is looked at once more, and the node is reckoned with anew; else it is visited, and the next round begins.
--- (df-pn: Nagai 2002.)
+-- What comes next in a visit. A round looks at the children that are due, in their order: in the
+-- first round all but those on the path, later the one whose visit has just ended, where that left
+-- no note. Then the node is solved, or its numbers have come to a threshold, or a child is
+-- selected; one that this round hasn't looked at is looked at once more, and the node is reckoned
+-- with anew; else it is visited, and the next round begins. (df-pn: Nagai 2002.)
 use Rattle.std.specs.Prelude.{◌≡◌, ◌≤◌, ◌<◌, ◌+◌, ◌⊎◌, ℕ, true, false, List, Some, None, map, slice_get, slice_set}
 use Rattle.bit_boards.specs.declared.piece.Side.{Side}
 use Rattle.bit_boards.specs.Kind.{other}
@@ -46,22 +47,24 @@ pub record Solves (task : Task) (f : FrameView) : Type 0 where
   pub none_due : first_due f.children ≡ None
   pub solved : is_solved (node_in task f) f.children ≡ true
 
--- No child is due, the node isn't solved, and one of its numbers has come to its threshold. They are both from 1 to the cap.
+-- No child is due, the node isn't solved, and one of its numbers has come to its threshold. They
+-- are both from 1 to the cap.
 pub record GivesUp (task : Task) (f : FrameView) : Type 0 where
   pub none_due : first_due f.children ≡ None
   pub unsolved : is_solved (node_in task f) f.children ≡ false
   pub reached : reaches (own task f) f.place.limits ≡ true
   pub in_range : IsOpen (own task f)
 
--- No child is due, the node isn't solved, its numbers are below their thresholds, and the worker selects the child at this place, beside this
--- second best number.
+-- No child is due, the node isn't solved, its numbers are below their thresholds, and the worker
+-- selects the child at this place, beside this second best number.
 pub record Selects (task : Task) (f : FrameView) (place second : ℕ) : Type 0 where
   pub none_due : first_due f.children ≡ None
   pub unsolved : is_solved (node_in task f) f.children ≡ false
   pub below : reaches (own task f) f.place.limits ≡ false
   pub selected : IsSelected (node_in task f) (counted (node_in task f) f.children) task.worker place second
 
--- The child at the place is looked at next: it is the first that is due; or it is selected, and this round hasn't looked at it.
+-- The child at the place is looked at next: it is the first that is due; or it is selected, and
+-- this round hasn't looked at it.
 pub record LooksNext (task : Task) (f : FrameView) (place : ℕ) (child : Child) : Type 0 where
   pub there : slice_get f.children place ≡ Some child
   pub next : (first_due f.children ≡ Some place) ⊎ ((child.look ≡ Stale) × ((second : ℕ) × Selects task f place second))
@@ -72,14 +75,16 @@ pub record Choice : Type 0 where
   pub child : Child
   pub second : ℕ
 
--- The child is visited next: it is selected, and this round has looked at it. Its numbers are both from 1 to the cap.
+-- The child is visited next: it is selected, and this round has looked at it. Its numbers are both
+-- from 1 to the cap.
 pub record GoesDown (task : Task) (f : FrameView) (choice : Choice) : Type 0 where
   pub there : slice_get f.children choice.place ≡ Some choice.child
   pub selects : Selects task f choice.place choice.second
   pub fresh : choice.child.look ≡ Fresh
   pub in_range : IsOpen choice.child.numbers
 
--- What a child is visited with: its position, its thresholds, and its numbers as they were seen last.
+-- What a child is visited with: its position, its thresholds, and its numbers as they were seen
+-- last.
 abbrev pub child_place : Task → FrameView → Choice → Place
 child_place task f choice = record {
   position = after f.place.position choice.child.by;
@@ -90,13 +95,15 @@ child_place task f choice = record {
 
 -- 2. WHAT A LOOK CHANGES.
 
--- The numbers with which a position begins behind a move, the attacker's or the defender's. They are both from 1 to the cap.
+-- The numbers with which a position begins behind a move, the attacker's or the defender's. They
+-- are both from 1 to the cap.
 pub record IsStart (attacker : Side) (b : Board) (by : Move) (numbers : Numbers) : Type 0 where
   pub in_range : IsOpen numbers
   pub check : b.side ≡ attacker → IsStartOfCheck attacker b by numbers
   pub evasion : b.side ≡ other attacker → IsStartOfEvasion attacker b by numbers
 
--- What may be told of a position of this key on this path: numbers from 1 to the cap; a note about it, for the attacker, that holds on the path.
+-- What may be told of a position of this key on this path: numbers from 1 to the cap; a note about
+-- it, for the attacker, that holds on the path.
 pub record IsFactOn (attacker : Side) (key : Key) (path : List Key) (note : Derivation) : Type 0 where
   pub valid : IsValid note
   pub about : key_of (position_of note) ≡ key.0
@@ -109,14 +116,16 @@ MayShow attacker key path New = Unit {0}
 MayShow attacker key path (Known numbers below) = IsOpen numbers
 MayShow attacker key path (Shown note) = IsFactOn attacker key path note
 
--- A look at a child: where it stands, the child before, what was told, and the numbers with which it begins.
+-- A look at a child: where it stands, the child before, what was told, and the numbers with which
+-- it begins.
 pub record Sight : Type 0 where
   pub place : ℕ
   pub child : Child
   pub seen : Seen
   pub start : Numbers
 
--- The child after a look. New: it counts with the numbers with which it begins, and no worker below it.
+-- The child after a look. New: it counts with the numbers with which it begins, and no worker below
+-- it.
 abbrev pub told : Child → Seen → Numbers → Child
 told child New start = record child { look = Fresh; numbers = start; below = 0 }
 told child (Known numbers below) start = record child { look = Fresh; numbers = numbers; below = below }
@@ -126,7 +135,8 @@ told child (Shown note) start = record child { look = Fresh; note = Some note }
 abbrev pub looked : FrameView → Sight → FrameView
 looked f sight = with_children f (slice_set f.children sight.place (told sight.child sight.seen sight.start))
 
--- What a look tells of the position behind a move: where it is new, the numbers with which it begins; a note is about it.
+-- What a look tells of the position behind a move: where it is new, the numbers with which it
+-- begins; a note is about it.
 abbrev pub Tells : Side → Board → Move → Seen → Numbers → Type 0
 Tells attacker b by New start = IsStart attacker b by start
 Tells attacker b by (Known numbers below) start = Unit {0}
@@ -161,7 +171,8 @@ came_back f place child left = with_children f (slice_set (map staled f.children
 
 -- 4. THE NOTE OF A SOLVED NODE.
 
--- The note is made of the children's notes, by the rule that solves the node, and is about its position.
+-- The note is made of the children's notes, by the rule that solves the node, and is about its
+-- position.
 pub record IsMade (task : Task) (f : FrameView) (note : Derivation) : Type 0 where
   pub valid : IsValid note
   pub rule : rule_of note ≡ rule_at (node_in task f) f.children

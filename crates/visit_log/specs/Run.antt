@@ -48,7 +48,8 @@ pub record Leads (task : Task) (log : List Exchange) (s : State) : Type 0 where
   pub runs : Runs task (start task) happenings s
   pub logged : events happenings ≡ log
 
--- A worker as its callers see it; where a request waits for its answer, the state is that once it was asked.
+-- A worker as its callers see it; where a request waits for its answer, the state is that once it
+-- was asked.
 pub record WorkerView : Type 0 where
   pub task : Task
   pub state : State

@@ -1,5 +1,6 @@
--- What holds of a worker wherever it stands: the positions that it visits are as play leads to them, what it knows of their children is about
--- these, and each note that it has holds on its path.
+-- What holds of a worker wherever it stands: the positions that it visits are as play leads to
+-- them, what it knows of their children is about these, and each note that it has holds on its
+-- path.
 use Rattle.std.specs.Prelude.{◌≡◌, ℕ, true, false, List, [], ◌∷◌, Option, Some, None, All, Contains, map, slice_get}
 use Rattle.bit_boards.specs.declared.piece.Side.{Side}
 use Rattle.board_core.specs.declared.keys.Key.{Key}
@@ -42,15 +43,16 @@ pub record IsNoteOf (task : Task) (b : Board) (path : List Key) (note : Derivati
   pub same_attacker : attacker_of note ≡ attacker_in task
   pub within : IsWithin (tag_of note) path
 
--- A child that is on the path stands there, the defender has moved to it, and it is never looked at.
+-- A child that is on the path stands there, the defender has moved to it, and it is never looked
+-- at.
 pub record IsOnPath (node : Node) (path : List Key) (child : Child) : Type 0 where
   pub defends : node ≡ Defender
   pub there : Contains path child.key
   pub unsolved : child.note ≡ None
   pub stale : child.look ≡ Stale
 
--- What is known of a child of the position: its key; numbers from 1 to the cap; a note about it that holds on the path; whether it is an
--- attacker's position that stands on the path.
+-- What is known of a child of the position: its key; numbers from 1 to the cap; a note about it
+-- that holds on the path; whether it is an attacker's position that stands on the path.
 pub record IsSoundChild (task : Task) (b : Board) (path : List Key) (child : Child) : Type 0 where
   pub key : child.key.0 ≡ key_of (after b child.by)
   pub in_range : IsOpen child.numbers
@@ -58,21 +60,24 @@ pub record IsSoundChild (task : Task) (b : Board) (path : List Key) (child : Chi
   pub on_path : child.on_path ≡ true → IsOnPath (node_at (attacker_in task) b) path child
   pub off_path : child.on_path ≡ false → node_at (attacker_in task) b ≡ Defender → ¬ Contains path child.key
 
--- A place over these visits: the problem's own, where there is none; else that of the child that the innermost one goes down to.
+-- A place over these visits: the problem's own, where there is none; else that of the child that
+-- the innermost one goes down to.
 abbrev pub IsPlaced : Task → List FrameView → Place → Type 0
 IsPlaced task [] p = p ≡ root task
 IsPlaced task (g ∷ gs) p =
     (child : Child) × (slice_get g.children g.chosen ≡ Some child) × (p.position ≡ after g.place.position child.by) × (p.key ≡ child.key)
     × (child.on_path ≡ false)
 
--- The visit of a place is of a position as play leads to it, with that position's key, and is entered with numbers from 1 to the cap.
+-- The visit of a place is of a position as play leads to it, with that position's key, and is
+-- entered with numbers from 1 to the cap.
 pub record IsSoundPlace (task : Task) (fs : List FrameView) (p : Place) : Type 0 where
   pub played : IsPlayed (attacker_in task) p.position
   pub key : p.key.0 ≡ key_of p.position
   pub in_range : IsOpen p.numbers
   pub placed : IsPlaced task fs p
 
--- The successors of the visit's position are listed, and what is known of them is sound on the path.
+-- The successors of the visit's position are listed, and what is known of them is sound on the
+-- path.
 pub record IsListed (task : Task) (path : List Key) (f : FrameView) : Type 0 where
   pub played : IsPlayed (attacker_in task) f.place.position
   pub key : f.place.key.0 ≡ key_of f.place.position
@@ -90,7 +95,8 @@ abbrev pub AreSound : Task → List FrameView → Type 0
 AreSound task [] = Unit {0}
 AreSound task (f ∷ fs) = IsSoundVisit task f fs × AreSound task fs
 
--- The move of an entry is that of the child to which the innermost visit goes down; there is none for the problem's own position.
+-- The move of an entry is that of the child to which the innermost visit goes down; there is none
+-- for the problem's own position.
 abbrev pub IsMoveTo : List FrameView → Option Move → Type 0
 IsMoveTo [] by = by ≡ None
 IsMoveTo (g ∷ gs) by = (child : Child) × (slice_get g.children g.chosen ≡ Some child) × (by ≡ Some child.by)
@@ -101,14 +107,16 @@ pub record IsSoundEntry (task : Task) (fs : List FrameView) (entry : Entry) : Ty
   pub in_range : IsOpen entry.numbers
   pub placed : IsPlaced task fs (place_by task fs entry)
 
--- The note answers the problem: it holds on every path, and is about the problem's position, for its attacker.
+-- The note answers the problem: it holds on every path, and is about the problem's position, for
+-- its attacker.
 pub record IsAnswer (task : Task) (note : Derivation) : Type 0 where
   pub valid : IsValid note
   pub closed : tag_of note ≡ []
   pub about : position_of note ≡ task.problem
   pub same_attacker : attacker_of note ≡ attacker_in task
 
--- The child at the place may be looked at: it isn't on the path, and this round hasn't looked at it yet.
+-- The child at the place may be looked at: it isn't on the path, and this round hasn't looked at it
+-- yet.
 pub record IsLookedAt (f : FrameView) (place : ℕ) : Type 0 where
   pub child : Child
   pub there : slice_get f.children place ≡ Some child
@@ -139,7 +147,8 @@ IsSound task s = IsSoundAt task s.stage s.frames
 
 -- 2. WHAT IS ASKED.
 
--- What is handed in with a Leave: numbers from 1 to the cap, or a note about the key's position, for the attacker.
+-- What is handed in with a Leave: numbers from 1 to the cap, or a note about the key's position,
+-- for the attacker.
 abbrev pub IsSoundUpdate : Side → Key → Update → Type 0
 IsSoundUpdate attacker key (Count numbers) = IsOpen numbers
 IsSoundUpdate attacker key (Noted note) = (key_of (position_of note) ≡ key.0) × (attacker_of note ≡ attacker)

@@ -1,4 +1,5 @@
--- A note that wasn't made, since it would have been too high: of which visit, from which notes, and where this stands in the log.
+-- A note that wasn't made, since it would have been too high: of which visit, from which notes, and
+-- where this stands in the log.
 use Rattle.std.specs.Prelude.{◌≡◌, ◌<◌, ◌+◌, ℕ, List, [], Contains}
 use Rattle.notes.specs.Derivation.{Derivation, highest}
 use Rattle.notes.specs.declared.words.Kept.{Kept}
@@ -9,8 +10,8 @@ use Rattle.visit_log.specs.Children.{rule_at, notes_under}
 use Rattle.visit_log.specs.Round.{node_in, Solves, child_place}
 use Rattle.visit_log.specs.Visit.{Exchange, Visit, Visited, Tail, Unmade, Under, known_after, entered, claimed, visit_on, IsVisit}
 
--- The visit ended since a note wasn't made: its own, or that of a visit under it with which it winds up. So much was known in the one whose note it
--- was, and this room was given for the note.
+-- The visit ended since a note wasn't made: its own, or that of a visit under it with which it
+-- winds up. So much was known in the one whose note it was, and this room was given for the note.
 abbrev mutual
   pub IsUnmadeIn : Task → Place → Visit → FrameView → ℕ → Type 0
   IsUnmadeIn task p (Visited unit kept children doings tail) f room =
@@ -22,9 +23,10 @@ abbrev mutual
   IsUnmadeBy task g (Under choice visit) f room = IsUnmadeIn task (child_place task g choice) visit f room
   IsUnmadeBy task g tail f room = ⊥
 
--- What is known of a note that would have been too high. The visit in which it wasn't made had entered its position, and all was known in it that
--- solves it: by this rule the note would have been made of these notes of its successors; the highest of them is so high that the note's height,
--- one more, would have been above 4,096; and room for it was claimed and given.
+-- What is known of a note that would have been too high. The visit in which it wasn't made had
+-- entered its position, and all was known in it that solves it: by this rule the note would have
+-- been made of these notes of its successors; the highest of them is so high that the note's
+-- height, one more, would have been above 4,096; and room for it was claimed and given.
 pub record IsTooHigh (task : Task) (unmade : FrameView → ℕ → Type 0) (log : List Exchange) : Type 0 where
   pub solved : FrameView
   pub room : ℕ
@@ -39,7 +41,8 @@ pub record IsTooHigh (task : Task) (unmade : FrameView → ℕ → Type 0) (log 
   pub enters : Contains log (entered solved.place kept)
   pub claims : Contains log (claimed (Room room))
 
--- The log is that of a visit of the problem's position that ended since this note would have been too high.
+-- The log is that of a visit of the problem's position that ended since this note would have been
+-- too high.
 pub record EndsTooHigh (task : Task) (log : List Exchange) : Type 0 where
   pub visit : Visit
   pub is_visit : IsVisit task [] (root task) visit

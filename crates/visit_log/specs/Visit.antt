@@ -1,4 +1,5 @@
--- What a visit is, as a tree of what is done in it, and the log that it writes: the requests and answers, in order.
+-- What a visit is, as a tree of what is done in it, and the log that it writes: the requests and
+-- answers, in order.
 use Rattle.std.specs.Prelude.{◌≡◌, ◌⊎◌, ◌++◌, ℕ, Bool, true, false, List, [], ◌∷◌, Option, Some, None}
 use Rattle.board_core.specs.declared.keys.Key.{Key}
 use Rattle.pn_numbers.specs.declared.node.Node.{Node}
@@ -187,7 +188,8 @@ path_with Defender key path = path
 abbrev pub path_at : Task → Place → List Key → List Key
 path_at task p path = path_with (node_at (attacker_in task) p.position) p.key path
 
--- Whether a tree is a visit, on a path; whether these things are done in it; and whether it ends so.
+-- Whether a tree is a visit, on a path; whether these things are done in it; and whether it ends
+-- so.
 abbrev mutual
   pub IsVisit : Task → List Key → Place → Visit → Type 0
   IsVisit task path p Unpolled = Unit {0}
@@ -203,7 +205,8 @@ abbrev mutual
       × AreDone task (path_at task p path) (opened p kept children) doings
       × IsTail task (path_at task p path) (known_after task (opened p kept children) doings) tail
 
-  -- Each look is at the child that is looked at next, each visit is of the child that is visited next, and it leaves that child.
+  -- Each look is at the child that is looked at next, each visit is of the child that is visited
+  -- next, and it leaves that child.
   pub AreDone : Task → List Key → FrameView → Doings → Type 0
   AreDone task path f nothing_yet = Unit {0}
   AreDone task path f (and_look doings sight) = AreDone task path f doings × IsSight task path (known_after task f doings) sight
@@ -224,15 +227,17 @@ abbrev mutual
 
 -- 5. WHOLE LOGS.
 
--- How the log of a search goes on behind the visit of the problem's position, by how that ended: a note is posted. Want of memory may come
--- in between, while a worker winds up or before it posts, and then it is its end, whatever the end was to be.
+-- How the log of a search goes on behind the visit of the problem's position, by how that ended: a
+-- note is posted. Want of memory may come in between, while a worker winds up or before it posts,
+-- and then it is its end, whatever the end was to be.
 abbrev pub EndsLog : Ending → List Exchange → List Exchange → WorkEnd → Type 0
 EndsLog (Winds reason) visit log end = (log ≡ visit) × ((end ≡ reason) ⊎ (end ≡ NoMemory))
 EndsLog (Ends (Solved note)) visit log end =
     ((log ≡ visit ++ (Post note, Some PostedIt) ∷ []) × (end ≡ Posted)) ⊎ ((log ≡ visit) × (end ≡ NoMemory))
 EndsLog (Ends (Open numbers)) visit log end = ⊥
 
--- A visit log: all that a worker asks and is told in its search, to this end. It is the log of a visit of the problem's position.
+-- A visit log: all that a worker asks and is told in its search, to this end. It is the log of a
+-- visit of the problem's position.
 pub record IsVisitLog (task : Task) (log : List Exchange) (end : WorkEnd) : Type 0 where
   pub visit : Visit
   pub is_visit : IsVisit task [] (root task) visit

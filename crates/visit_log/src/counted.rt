@@ -11,11 +11,12 @@ ghost use Rattle.visit_log.specs.Laws.{
   CountsOfLogs,
 };
 
-/// Laws about what a worker counts. Each answer changes its own slots, and their number, by what it enters and leaves; what it asks to
-/// leave is its own; want of memory changes no slots, units or room. Units and room are counted by the answers that give them; it has
-/// no more visits going on, no more slots and no more room than units, of which there are at most a billion. With each answer less is
-/// still to come; and its units and its room are those that its log gives. Does nothing; whoever runs a worker calls it to know
-/// this. Takes no memory.
+/// Laws about what a worker counts. Each answer changes its own slots, and their number, by what it
+/// enters and leaves; what it asks to leave is its own; want of memory changes no slots, units or
+/// room. Units and room are counted by the answers that give them; it has no more visits going on,
+/// no more slots and no more room than units, of which there are at most a billion. With each
+/// answer less is still to come; and its units and its room are those that its log gives. Does
+/// nothing; whoever runs a worker calls it to know this. Takes no memory.
 pub fn count_laws()
     ensures slots { SlotsMove }
     ensures sizes { SizesMove }

@@ -10,11 +10,12 @@ ghost use Rattle.visit_log.specs.Laws.{
   PathsHaveNoRepeats,
 };
 
-/// Laws about what a worker knows: what happens to a sound worker leaves it sound; so every worker is sound wherever it stands, and the
-/// note that it posts holds on every path; what a sound worker asks keeps the promises of its requests; and what a visit knows is
-/// sound when its successors are listed, when one is looked at, and when the visit of one has ended. A worker asks for its end exactly
-/// where it has ended, and no key stands twice on its path.
-/// Does nothing; whoever makes a worker calls it to know this. Takes no memory.
+/// Laws about what a worker knows: what happens to a sound worker leaves it sound; so every worker
+/// is sound wherever it stands, and the note that it posts holds on every path; what a sound worker
+/// asks keeps the promises of its requests; and what a visit knows is sound when its successors are
+/// listed, when one is looked at, and when the visit of one has ended. A worker asks for its end
+/// exactly where it has ended, and no key stands twice on its path. Does nothing; whoever makes a
+/// worker calls it to know this. Takes no memory.
 pub fn sound_laws()
     ensures stays { StaysSound }
     ensures reached { WorkersAreSound }

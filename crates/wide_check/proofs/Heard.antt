@@ -25,7 +25,8 @@ inside size from to place some fore low =
     let b = lt-div-mul-add {a = place - from} {b = size} some in
     omega (arith, b, fore, low)
 
--- where so many stretches of a round found nothing, the entries before their end hold what they have to
+-- where so many stretches of a round found nothing, the entries before their end hold what they
+-- have to
 heard : (case : Case) (from to size count : ℕ) (found : List (Option Objection)) → 1 ≤ size → AreAnswers count (IsFoundInStretch case from to size) found
     → (m : ℕ) → ((number : ℕ) → number < m → slice_get found number ≡ Some None)
     → (place : ℕ) → from ≤ place → place < to → place < from + m * size → EntryHolds case.certificate case.problem.side place

@@ -4,11 +4,13 @@ use Rattle.cert_text.specs.Kinds.{positions_in}
 use Rattle.cert_check.specs.Hearing.{Case, IsFoundIn}
 use Rattle.cert_check.specs.declared.hearing.Objection.{Objection}
 
--- Where a stretch of so many entries ends that begins at one of them: behind so many, or where the entries end.
+-- Where a stretch of so many entries ends that begins at one of them: behind so many, or where the
+-- entries end.
 abbrev pub stretch_end : ℕ → ℕ → ℕ → ℕ
 stretch_end from size count = from + min size (count - from)
 
--- What is found in the stretch of a number: among the entries of a round, from that number of stretches on.
+-- What is found in the stretch of a number: among the entries of a round, from that number of
+-- stretches on.
 abbrev pub IsFoundInStretch : Case → ℕ → ℕ → ℕ → ℕ → Option Objection → Type 0
 IsFoundInStretch case from to size number found =
     IsFoundIn case.certificate case.problem.side (from + number * size) (stretch_end (from + number * size) size to) found

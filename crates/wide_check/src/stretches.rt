@@ -7,7 +7,8 @@ use cert_check::{Hearing, Objection};
 use side_by_side::Jobs;
 use std::alloc::{AllocError, Global};
 
-/// The stretches of a round: of its entries so many each, but for the last, which ends where the round does.
+/// The stretches of a round: of its entries so many each, but for the last, which ends where the
+/// round does.
 #[derive(Clone, Copy)]
 pub(crate) struct Stretches<'h, 'c> {
     pub(crate) hearing: &'h Hearing<'c>,

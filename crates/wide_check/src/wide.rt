@@ -50,8 +50,8 @@ fn next_room(room: usize, most: usize) -> usize
     room.saturating_mul(2).min(most).max(1)
 }
 
-// The first objection among all entries. They are heard in rounds, of more and more stretches, and the first round that has an
-// objection is the last.
+// The first objection among all entries. They are heard in rounds, of more and more stretches, and
+// the first round that has an objection is the last.
 fn first_objection<R: Threads + Sync>(
     rt: &R,
     alloc: Global,
@@ -105,13 +105,15 @@ fn verdict_by<R: Threads + Sync>(
     Ok(hearing.verdict(first))
 }
 
-/// Whether the certificate is valid for the problem; else the first reason against it. That is the verdict of
-/// [`check`](cert_check::check), for each number of pieces: with one it is `check` itself, and starts no thread; with more the entries
-/// are heard side by side by a [`Team`] of so many members, though of no more than there are processors (one where that isn't known),
-/// and at most [`MOST_MEMBERS`](side_by_side::MOST_MEMBERS). A thread that has no entries to hear takes the next stretch, of at most 256;
-/// all look into the one certificate, and nothing of it is copied. The entries are heard in rounds, of one stretch for each piece at first
-/// and twice as many each time, up to 64: an objection doesn't stop the others of its round, and no further round begins. Errors: want of
-/// memory alone.
+/// Whether the certificate is valid for the problem; else the first reason against it. That is the
+/// verdict of [`check`](cert_check::check), for each number of pieces: with one it is `check`
+/// itself, and starts no thread; with more the entries are heard side by side by a [`Team`] of so
+/// many members, though of no more than there are processors (one where that isn't known), and at
+/// most [`MOST_MEMBERS`](side_by_side::MOST_MEMBERS). A thread that has no entries to hear takes
+/// the next stretch, of at most 256; all look into the one certificate, and nothing of it is
+/// copied. The entries are heard in rounds, of one stretch for each piece at first and twice as
+/// many each time, up to 64: an objection doesn't stop the others of its round, and no further
+/// round begins. Errors: want of memory alone.
 pub fn check_wide<R: Threads + Sync>(
     rt: &R,
     alloc: Global,
@@ -119,7 +121,8 @@ pub fn check_wide<R: Threads + Sync>(
     certificate: &Certificate,
     pieces: usize,
 ) -> Result<Verdict, AllocError>
-    // Accepted exactly where the certificate is valid, refused exactly with the first reason against it.
+    // Accepted exactly where the certificate is valid, refused exactly with the first reason
+    // against it.
     ensures verdict { IfOk result (IsVerdict certificate.now problem.now.position) }
     ensures accepted { IfOk result (λ verdict.
         (verdict ≡ Accepted) ↔ IsValid certificate.now problem.now.position) }

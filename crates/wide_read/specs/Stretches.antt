@@ -10,8 +10,8 @@ use Rattle.cert_text.specs.declared.lines.LinesStop.{LinesStop}
 use Rattle.cert_text.specs.declared.lines.LinesStop.TheVariants.{NoLine, End, Behind, BadLine, NotRising}
 use Rattle.cert_text.specs.declared.lines.ReadLines.{ReadLines}
 
--- The text begins with a stretch that stands for this one, and then comes the rest: the stretch isn't empty, and it is whole lines where
--- more comes behind it.
+-- The text begins with a stretch that stands for this one, and then comes the rest: the stretch
+-- isn't empty, and it is whole lines where more comes behind it.
 pub record BeginsSo {A : Type 0} (StandsFor : A → List ℕ → Type 0) (one : A) (more text : List ℕ) : Type 0 where
   pub first : List ℕ
   pub stands : StandsFor one first
@@ -42,7 +42,8 @@ pub record IsUnderway {Entry : Type 0} (form : Form Entry) (whole : ReadLines En
   pub lines : rest ≢ [] → AreLines done
   pub others : IsCutInto (IsReadOf form) left rest
 
--- The SFEN text of the last entry, where these come behind an entry with the one text, and the other is that of their last.
+-- The SFEN text of the last entry, where these come behind an entry with the one text, and the
+-- other is that of their last.
 abbrev pub last_behind : {Entry : Type 0} → List Entry → List ℕ → List ℕ → List ℕ
 last_behind [] last next = last
 last_behind (entry ∷ others) last next = next

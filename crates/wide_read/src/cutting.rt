@@ -6,7 +6,8 @@ ghost use Rattle.wide_read.specs.Stretches.{IsCutInto};
 use cert_text::cut;
 use std::alloc::{AllocError, Global};
 
-// The lines at the front of a text up to the first line feed behind so many bytes, and what comes behind them; none where nothing does.
+// The lines at the front of a text up to the first line feed behind so many bytes, and what comes
+// behind them; none where nothing does.
 fn first_lines(text: &[u8], size: usize) -> Option<(&[u8], &[u8])>
     ensures text { IfSome result (λ parts. text.now ≡ parts.0.now ++ parts.1.now) }
     ensures some { IfSome result (λ parts. parts.0.now ≢ []) }
@@ -23,8 +24,8 @@ fn first_lines(text: &[u8], size: usize) -> Option<(&[u8], &[u8])>
     Some(text.split_at(text.len() - more.len()))
 }
 
-/// A text cut into stretches of about so many bytes: none is empty, and each but the last is whole lines. Nothing is copied. Errors: want
-/// of memory alone.
+/// A text cut into stretches of about so many bytes: none is empty, and each but the last is whole
+/// lines. Nothing is copied. Errors: want of memory alone.
 pub(crate) fn stretches_of(
     alloc: Global,
     text: &[u8],

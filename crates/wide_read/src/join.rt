@@ -10,7 +10,8 @@ use sfen_text::{append_sfen, sfen_laws};
 use std::alloc::{AllocError, Global};
 use std::collections::VecDeque;
 
-// Whether the first of these entries, if there is one, comes behind the SFEN text of the entry before it.
+// Whether the first of these entries, if there is one, comes behind the SFEN text of the entry
+// before it.
 fn rises<E: Entry>(last: &[u8], entries: &[E], spelled: &mut Vec<u8>) -> Result<bool, AllocError>
     ensures { (problem : Board)
         → IfOk result (λ rises. IsTrue rises ↔ IsSeam (E.form problem) last.now entries.now) }
@@ -84,7 +85,8 @@ fn stop_before_more(stop: LinesStop) -> LinesStop
     }
 }
 
-// What was read of lines and of others that come behind them: where the reading stopped in the first, nothing of the others counts.
+// What was read of lines and of others that come behind them: where the reading stopped in the
+// first, nothing of the others counts.
 fn both<'a, E: Entry>(
     whole: ReadLines<'a, E>,
     part: ReadLines<'a, E>,
@@ -114,7 +116,8 @@ fn count_of<E>(parts: &[ReadLines<'_, E>]) -> usize {
     count
 }
 
-/// What was read of a text, from what was read of its stretches, in their order. Each entry is moved once. Errors: want of memory alone.
+/// What was read of a text, from what was read of its stretches, in their order. Each entry is
+/// moved once. Errors: want of memory alone.
 pub(crate) fn joined<'a, E: Entry>(
     alloc: Global,
     parts: Vec<ReadLines<'a, E>>,

@@ -5,7 +5,8 @@ use side_by_side::Jobs;
 use std::alloc::{AllocError, Global};
 use std::marker::PhantomData;
 
-/// The stretches of a text of entries of one kind, for the problem that the text's certificate is about.
+/// The stretches of a text of entries of one kind, for the problem that the text's certificate is
+/// about.
 #[derive(Clone, Copy)]
 pub(crate) struct Stretches<'s, 'a, E> {
     pub(crate) texts: &'s [&'a [u8]],

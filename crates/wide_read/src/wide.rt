@@ -87,12 +87,13 @@ fn certificate_by<R: Threads + Sync>(
     certificate_over(rt, alloc, bytes, pieces)
 }
 
-/// The certificate whose text it is, or else the text's first fault in reading order. That is the outcome of
-/// [`read_cert`](cert_text::read_cert), for each number of pieces: with one it is `read_cert` itself, and starts no thread; with more the
-/// lines are read side by side by a [`Team`] of so many members, though of no more than there are processors (one where that isn't
-/// known), and at most [`MOST_MEMBERS`](side_by_side::MOST_MEMBERS). A thread that has no lines to read takes the next stretch, of about
-/// 32 KiB at most; no line is copied, and each entry is moved once, into the certificate. A fault doesn't stop the others. Errors: those
-/// of `read_cert`.
+/// The certificate whose text it is, or else the text's first fault in reading order. That is the
+/// outcome of [`read_cert`](cert_text::read_cert), for each number of pieces: with one it is
+/// `read_cert` itself, and starts no thread; with more the lines are read side by side by a
+/// [`Team`] of so many members, though of no more than there are processors (one where that isn't
+/// known), and at most [`MOST_MEMBERS`](side_by_side::MOST_MEMBERS). A thread that has no lines to
+/// read takes the next stretch, of about 32 KiB at most; no line is copied, and each entry is moved
+/// once, into the certificate. A fault doesn't stop the others. Errors: those of `read_cert`.
 pub fn read_wide<R: Threads + Sync>(
     rt: &R,
     alloc: Global,
@@ -100,7 +101,8 @@ pub fn read_wide<R: Threads + Sync>(
     pieces: usize,
 ) -> Result<Certificate, CertEnd>
     ensures exact { IsCertificateOutcome bytes.now result }
-    // Each certificate that can be read is, from its text, unless memory is wanted: so it is `read_cert`'s, whatever the number of pieces.
+    // Each certificate that can be read is, from its text, unless memory is wanted: so it is
+    // `read_cert`'s, whatever the number of pieces.
     ensures again { (c : Certificate) → IsReadable c → IsTextOf c bytes.now → IsReadAs c result }
     // No text has two first faults, or one and a certificate.
     ensures only { (fault : CertFault) → HasFirstFault bytes.now fault → IsFaultAs fault result }

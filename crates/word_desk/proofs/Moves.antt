@@ -54,7 +54,8 @@ missed_draw view found posted = ap (λ (b : Bool). cond b (record view { missed 
 pub drawn_draw : (view : View) (found : ℕ) → found < POSTED → after_draw view found ≡ record view { drawn = (found + 1) ∷ view.drawn }
 drawn_draw view found open_ = ap (λ (b : Bool). cond b (record view { missed = (found % POSTED + 1) ∷ view.missed; met = true }) (record view { drawn = (found + 1) ∷ view.drawn })) (lt-leb POSTED found open_)
 
--- a view after a draw: the number after the tickets is one more of its numbers, its parts and wins stay, and it fits
+-- a view after a draw: the number after the tickets is one more of its numbers, its parts and wins
+-- stay, and it fits
 pub record Drew (winners tickets : ℕ) (v w : View) : Type 0 where
   pub weighs : (weight : ℕ → ℕ) → drawn_weight weight w ≡ drawn_weight weight v + weight (tickets + 1)
   pub claimed : w.claimed ≡ v.claimed

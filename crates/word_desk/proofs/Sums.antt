@@ -39,7 +39,8 @@ above-le limit number = bit_le (nat_lt limit number)
 none_within : (limit number : ℕ) → limit < number → within limit number ≡ 0
 none_within limit number h = ap (λ (b : Bool). cond {A = ℕ} b 1 0) (lt-leb number limit h)
 
--- of the numbers from 1 to the last, those above a limit are no fewer than what the last is above it
+-- of the numbers from 1 to the last, those above a limit are no fewer than what the last is above
+-- it
 pub to_above : (limit last : ℕ) → last ≤ limit + sum_to (above limit) last
 to_above limit zero = omega arith
 to_above limit (suc last) = go (dec_le (last + 1) limit) (to_above limit last)

@@ -1,4 +1,5 @@
--- Two words and the views of the seats: what each kind of step does to a view, and what is kept of both words and all views.
+-- Two words and the views of the seats: what each kind of step does to a view, and what is kept of
+-- both words and all views.
 use Rattle.std.specs.Prelude.{◌≡◌, ◌+◌, ◌-◌, ◌*◌, ◌%◌, ◌≤◌, ◌||◌, ℕ, zero, suc, List, [], ◌∷◌, ◌++◌, length, slice_index, nat_le, nat_lt, true, false, IsTrue, All, count_by, sum_by, if◌then◌else◌}
 use Rattle.search_limits.specs.declared.expansions.TheConstants.{MOST_EXPANSIONS}
 use Rattle.search_limits.specs.declared.settings.TheConstants.{MOST_ROOM}
@@ -14,7 +15,8 @@ sum_to weight (suc last) = weight (last + 1) + sum_to weight last
 abbrev pub count_above : ℕ → List ℕ → ℕ
 count_above limit numbers = count_by (λ number. nat_lt limit number) numbers
 
--- Of the numbers up to any limit there are no more than the limit, as where they are different numbers from 1.
+-- Of the numbers up to any limit there are no more than the limit, as where they are different
+-- numbers from 1.
 abbrev pub AreFew : List ℕ → Type 0
 AreFew numbers = (limit : ℕ) → count_by (λ number. nat_le number limit) numbers ≤ limit
 
@@ -32,7 +34,8 @@ newcomer = record { parts = 1; drawn = []; missed = []; claimed = []; met = fals
 abbrev pub spent : View
 spent = record { parts = 0; drawn = []; missed = []; claimed = []; met = false; won = false }
 
--- After a draw that found this: the number after it was drawn, or missed where the word says that a note is posted.
+-- After a draw that found this: the number after it was drawn, or missed where the word says that a
+-- note is posted.
 abbrev pub after_draw : View → ℕ → View
 after_draw view found =
     if nat_le POSTED found
@@ -43,7 +46,8 @@ after_draw view found =
 abbrev pub after_claim : View → ℕ → View
 after_claim view found = record view { claimed = (found + 1) ∷ view.claimed }
 
--- After a post that found this: the seat has met a posted note, and has won where none was posted before.
+-- After a post that found this: the seat has met a posted note, and has won where none was posted
+-- before.
 abbrev pub after_post : View → ℕ → View
 after_post view found = record view { met = true; won = view.won || nat_lt found POSTED }
 
@@ -64,8 +68,9 @@ after_join view other = record {
 
 -- WHAT IS KEPT.
 
--- A view fits a number of seats that won: of its numbers, no more than its parts lie above the most units, or above the most room; it has
--- met a posted note, or missed a number, only where one has won; and where it has no part it has nothing.
+-- A view fits a number of seats that won: of its numbers, no more than its parts lie above the most
+-- units, or above the most room; it has met a posted note, or missed a number, only where one has
+-- won; and where it has no part it has nothing.
 pub record IsFit (winners : ℕ) (view : View) : Type 0 where
   pub draws : count_above MOST_EXPANSIONS view.drawn + count_above MOST_EXPANSIONS view.missed ≤ view.parts
   pub claims : count_above MOST_ROOM view.claimed ≤ view.parts
@@ -73,9 +78,10 @@ pub record IsFit (winners : ℕ) (view : View) : Type 0 where
   pub missed : winners ≡ 0 → view.missed ≡ []
   pub part : view.parts ≡ 0 → view ≡ spent
 
--- The rule. The first word holds the tickets, and above them whether a note is posted, which it is exactly where one seat has won. In all views
--- together the numbers drawn or missed are those from 1 to the tickets, and the numbers claimed those from 1 to the second word, each
--- once: whatever each number weighs, both weigh the same. And the views have all parts together.
+-- The rule. The first word holds the tickets, and above them whether a note is posted, which it is
+-- exactly where one seat has won. In all views together the numbers drawn or missed are those from
+-- 1 to the tickets, and the numbers claimed those from 1 to the second word, each once: whatever
+-- each number weighs, both weigh the same. And the views have all parts together.
 pub record IsKept (words : List ℕ) (views : List View) : Type 0 where
   pub tickets : ℕ
   pub winners : ℕ

@@ -1,4 +1,5 @@
--- A desk whose counts are words, as its callers see it: its seats, what each call does to a seat, and what it comes to in the end.
+-- A desk whose counts are words, as its callers see it: its seats, what each call does to a seat,
+-- and what it comes to in the end.
 use Rattle.std.specs.Prelude.{◌≡◌, ◌+◌, ◌<◌, ◌≤◌, ◌==◌, ◌||◌, ◌&&◌, ◌⊎◌, ℕ, min, List, [], ◌∷◌, ◌++◌, length, filter, count_by, nat_le, Bool, true, false, IsTrue, Option, Some, None, IfSome, IsSome, IsNone, if◌then◌else◌}
 use Rattle.std.specs.Option.{option_or}
 use Rattle.atomic_table.specs.Seated.{TableId}
@@ -22,8 +23,9 @@ pub record WordDeskView : Type 0 where
   pub expansions : ℕ
   pub room : ℕ
 
--- A seat: of which desk it is, how many of all parts it has, the units that it drew, how many of its draws got none, the claims that it made,
--- how many of its claims got none, whether it has met a posted note, and the note that it posted first of all.
+-- A seat: of which desk it is, how many of all parts it has, the units that it drew, how many of
+-- its draws got none, the claims that it made, how many of its claims got none, whether it has met
+-- a posted note, and the note that it posted first of all.
 pub record DeskSeatView : Type 0 where
   pub desk : WordDeskView
   pub parts : ℕ
@@ -38,8 +40,8 @@ pub record DeskSeatView : Type 0 where
 abbrev pub numbers_to : ℕ → List ℕ → List ℕ
 numbers_to limit numbers = filter (λ number. nat_le number limit) numbers
 
--- A seat of a desk, by its view and its note: a number that it drew is a unit where it is within the expansions, and one that it claimed is a
--- claim where it is within the room.
+-- A seat of a desk, by its view and its note: a number that it drew is a unit where it is within
+-- the expansions, and one that it claimed is a claim where it is within the room.
 abbrev pub seat_of : WordDeskView → View → Option Derivation → DeskSeatView
 seat_of its_desk view its_note = record {
   desk = its_desk;
@@ -57,8 +59,9 @@ abbrev pub unused : WordDeskView → ℕ → DeskSeatView
 unused its_desk its_parts =
     record { desk = its_desk; parts = its_parts; units = []; draw_ends = 0; claims = []; claim_ends = 0; met = false; note = None }
 
--- What is kept of a seat: the limits of its desk are those of settings; it has a part, has drawn no more units than there are and claimed no
--- more than there is room; and its note answers the problem.
+-- What is kept of a seat: the limits of its desk are those of settings; it has a part, has drawn no
+-- more units than there are and claimed no more than there is room; and its note answers the
+-- problem.
 pub record IsSeat (seat : DeskSeatView) : Type 0 where
   pub expansions : IsFromTo 1 MOST_EXPANSIONS seat.desk.expansions
   pub room : IsFromTo 1 MOST_ROOM seat.desk.room
@@ -67,21 +70,22 @@ pub record IsSeat (seat : DeskSeatView) : Type 0 where
   pub claims : length seat.claims ≤ seat.desk.room
   pub note : IfSome seat.note (IsAnswerTo seat.desk.position)
 
--- What a draw answers, and the seat after it. Done: it has met a posted note now. Spent: it hasn't met one, and got no unit. Go: it hasn't met
--- one, and this unit is drawn. Nothing else changes. What Done and Spent say of all seats shows at the close (`Ends`).
+-- What a draw answers, and the seat after it. Done: it has met a posted note now. Spent: it hasn't
+-- met one, and got no unit. Go: it hasn't met one, and this unit is drawn. Nothing else changes.
+-- What Done and Spent say of all seats shows at the close (`Ends`).
 abbrev pub Draws : DeskSeatView → Draw → DeskSeatView → Type 0
 Draws seat Done after = after ≡ record seat { draw_ends = seat.draw_ends + 1; met = true }
 Draws seat Spent after = (seat.met ≡ false) × (after ≡ record seat { draw_ends = seat.draw_ends + 1 })
 Draws seat (Go unit) after = (seat.met ≡ false) × IsFromTo 1 seat.desk.expansions unit × (after ≡ record seat { units = unit ∷ seat.units })
 
--- What a claim answers, and the seat after it. NoRoom: it got none. Room: that of this number is claimed. Nothing else changes. What NoRoom says
--- of all seats shows at the close (`Ends`).
+-- What a claim answers, and the seat after it. NoRoom: it got none. Room: that of this number is
+-- claimed. Nothing else changes. What NoRoom says of all seats shows at the close (`Ends`).
 abbrev pub Claims : DeskSeatView → RoomAnswer → DeskSeatView → Type 0
 Claims seat NoRoom after = after ≡ record seat { claim_ends = seat.claim_ends + 1 }
 Claims seat (Room number) after = IsFromTo 1 seat.desk.room number × (after ≡ record seat { claims = number ∷ seat.claims })
 
--- The seat after it posted a note: it has met a posted note, and keeps this one only where it had neither met one nor kept one. Nothing else
--- changes.
+-- The seat after it posted a note: it has met a posted note, and keeps this one only where it had
+-- neither met one nor kept one. Nothing else changes.
 abbrev pub Posts : DeskSeatView → Derivation → DeskSeatView → Type 0
 Posts seat its_note after =
     (after ≡ record seat { met = true })
@@ -112,8 +116,8 @@ once_to last number = if nat_le 1 number && nat_le number last then 1 else 0
 abbrev pub AreEachTo : ℕ → List ℕ → Type 0
 AreEachTo last numbers = (number : ℕ) → times number numbers ≡ once_to last number
 
--- What a desk comes to, by the seat to which all others were joined: how many units were drawn, for how many notes room was claimed, and the
--- note that was posted first.
+-- What a desk comes to, by the seat to which all others were joined: how many units were drawn, for
+-- how many notes room was claimed, and the note that was posted first.
 pub record Ends (seat : DeskSeatView) (its_drawn its_claimed : ℕ) (its_note : Option Derivation) : Type 0 where
   pub drawn : its_drawn ≡ length seat.units
   pub claimed : its_claimed ≡ length seat.claims

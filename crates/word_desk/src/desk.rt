@@ -22,10 +22,12 @@ const UNITS: usize = 0;
 // The word of the claims.
 const CLAIMS: usize = 1;
 
-/// Hands out the units and the room of a search to threads that share it by `&`. Its counts are two words side by side; a draw and a claim
-/// are one instruction on one of them. None of its calls waits, and none fails or takes memory but [`make`](WordDesk::make).
+/// Hands out the units and the room of a search to threads that share it by `&`. Its counts are two
+/// words side by side; a draw and a claim are one instruction on one of them. None of its calls
+/// waits, and none fails or takes memory but [`make`](WordDesk::make).
 ///
-/// Contracts see which words it has, the problem's position, and how many units and notes there may be.
+/// Contracts see which words it has, the problem's position, and how many units and notes there may
+/// be.
 #[derive(Drop)]
 pub struct WordDesk {
     table: Table<u8, View, (), NumbersOnce, Global>,
@@ -64,8 +66,9 @@ pub struct DeskEnd {
 }
 
 impl WordDesk {
-    /// The desk of a problem, with the units and the room of the settings, and its first seat, which has every part. Nothing is drawn,
-    /// claimed or posted. Takes a few bytes; want of memory is its one error.
+    /// The desk of a problem, with the units and the room of the settings, and its first seat,
+    /// which has every part. Nothing is drawn, claimed or posted. Takes a few bytes; want of memory
+    /// is its one error.
     pub fn make(
         alloc: Global,
         problem: &Problem,
@@ -94,9 +97,10 @@ impl WordDesk {
         Ok((desk, first))
     }
 
-    /// The next unit of work: Done where a note is posted; else Spent where all units were drawn; else the number of the unit, from 1,
-    /// which no other draw gets. A seat that got none draws no more. That a note was posted, or all units drawn, [`close`](WordDesk::close)
-    /// tells; a draw tells its own seat alone.
+    /// The next unit of work: Done where a note is posted; else Spent where all units were drawn;
+    /// else the number of the unit, from 1, which no other draw gets. A seat that got none draws no
+    /// more. That a note was posted, or all units drawn, [`close`](WordDesk::close) tells; a draw
+    /// tells its own seat alone.
     pub fn draw(&self, seat: &mut DeskSeat) -> Draw
         requires seat { seat.old.desk ≡ self.now }
         requires goes_on { seat.old.draw_ends ≡ 0 }
@@ -116,8 +120,9 @@ impl WordDesk {
         Draw::Go(found + 1)
     }
 
-    /// Room for another note: NoRoom where all room was claimed; else the number of the note, from 1, which no other claim gets. A seat
-    /// that got none claims no more. That all room was claimed, [`close`](WordDesk::close) tells.
+    /// Room for another note: NoRoom where all room was claimed; else the number of the note, from
+    /// 1, which no other claim gets. A seat that got none claims no more. That all room was
+    /// claimed, [`close`](WordDesk::close) tells.
     pub fn claim(&self, seat: &mut DeskSeat) -> RoomAnswer
         requires seat { seat.old.desk ≡ self.now }
         requires goes_on { seat.old.claim_ends ≡ 0 }
@@ -133,8 +138,9 @@ impl WordDesk {
         RoomAnswer::Room(found as u32 + 1)
     }
 
-    /// Posts a note that answers the problem: it holds on every path, is about the problem's position, and for its attacker. The first
-    /// that is posted at the desk stays, with its seat, and another is let go.
+    /// Posts a note that answers the problem: it holds on every path, is about the problem's
+    /// position, and for its attacker. The first that is posted at the desk stays, with its seat,
+    /// and another is let go.
     pub fn post(&self, seat: &mut DeskSeat, note: Note)
         requires seat { seat.old.desk ≡ self.now }
         requires answer { IsAnswerTo self.now.position note }
@@ -149,7 +155,8 @@ impl WordDesk {
         }
     }
 
-    /// A new seat of the same desk, of one part of a seat that has another, and that got a unit and room whenever it asked.
+    /// A new seat of the same desk, of one part of a seat that has another, and that got a unit and
+    /// room whenever it asked.
     pub fn make_seat(&self, seat: &mut DeskSeat) -> DeskSeat
         requires seat { seat.old.desk ≡ self.now }
         requires parts { 1 < seat.old.parts }

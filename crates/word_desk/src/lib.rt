@@ -1,13 +1,16 @@
-//! The desk of a search by several threads: it hands out the units of work and the room for notes, and keeps the note that answers the
-//! problem.
+//! The desk of a search by several threads: it hands out the units of work and the room for notes,
+//! and keeps the note that answers the problem.
 //!
-//! Two words count the units and the claims, and say whether a note is posted. Each thread steps on them with a seat of its own, which
-//! keeps what it drew, claimed and posted; what is shared is kept by proof alone. The units that all seats drew are different numbers
-//! from 1, and so are the claims: each is handed out once, whatever the threads do.
+//! Two words count the units and the claims, and say whether a note is posted. Each thread steps on
+//! them with a seat of its own, which keeps what it drew, claimed and posted; what is shared is
+//! kept by proof alone. The units that all seats drew are different numbers from 1, and so are the
+//! claims: each is handed out once, whatever the threads do.
 //!
-//! There are six kinds of step: [`draw`](WordDesk::draw), [`claim`](WordDesk::claim), [`post`](WordDesk::post),
-//! [`make_seat`](WordDesk::make_seat), [`join_seat`](WordDesk::join_seat) and [`close`](WordDesk::close), which says what the desk came to.
-//! What each does to a seat stands in `specs/WordDesk.antt`, and what is kept of both words and all seats in `specs/Rule.antt`.
+//! There are six kinds of step: [`draw`](WordDesk::draw), [`claim`](WordDesk::claim),
+//! [`post`](WordDesk::post), [`make_seat`](WordDesk::make_seat), [`join_seat`](WordDesk::join_seat)
+//! and [`close`](WordDesk::close), which says what the desk came to. What each does to a seat
+//! stands in `specs/WordDesk.antt`, and what is kept of both words and all seats in
+//! `specs/Rule.antt`.
 #![tactic(auto)]
 
 mod desk;

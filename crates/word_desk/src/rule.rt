@@ -15,8 +15,8 @@ impl TableRule<u8, View, ()> for NumbersOnce {
     ghost first = { λ _. whole };
 }
 
-/// A draw: the seat gets the number after the tickets, and has no more numbers up to a limit than the limit. Where it has met a posted
-/// note, the word says so.
+/// A draw: the seat gets the number after the tickets, and has no more numbers up to a limit than
+/// the limit. Where it has met a posted note, the word says so.
 pub(crate) struct DrawStep;
 
 impl Play<u8, View> for DrawStep {
@@ -26,14 +26,16 @@ impl Play<u8, View> for DrawStep {
         × (IsTrue me.0.met → POSTED ≤ found) };
 }
 
-/// A claim: the seat gets the number after the claims, and has no more numbers up to a limit than the limit.
+/// A claim: the seat gets the number after the claims, and has no more numbers up to a limit than
+/// the limit.
 pub(crate) struct ClaimStep;
 
 impl Play<u8, View> for ClaimStep {
     ghost then = { λ step me found later. (later ≡ (after_claim me.0 found, me.1)) × AreFew later.0.claimed };
 }
 
-/// A post: the seat has met a posted note, and has won where none was posted before. Where it had met one, the word said so.
+/// A post: the seat has met a posted note, and has won where none was posted before. Where it had
+/// met one, the word said so.
 pub(crate) struct PostStep;
 
 impl Play<u8, View> for PostStep {

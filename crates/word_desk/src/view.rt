@@ -1,8 +1,8 @@
 // What a seat knows of units and claims.
 use std::collections::LinkedList;
 
-/// The parts into which a desk can be dealt out. A seat has at least one, so it is also the most seats that there are at one time: one
-/// for each of 64 workers, and one for who makes them.
+/// The parts into which a desk can be dealt out. A seat has at least one, so it is also the most
+/// seats that there are at one time: one for each of 64 workers, and one for who makes them.
 pub const MOST_SEATS: u64 = 65;
 
 /// What the first word has above the tickets once a note is posted: its bit 40.

@@ -145,7 +145,8 @@ no_snoc : (xs : List Key) (a : Key) → xs ++ a ∷ [] ≡ [] → ⊥
 no_snoc [] a e = cc
 no_snoc (x ∷ xs) a e = cc
 
--- Without its latest key the path is that of the visits without the innermost, where that is of an attacker's position.
+-- Without its latest key the path is that of the visits without the innermost, where that is of an
+-- attacker's position.
 pub popped : (task : Task) (rest : List FrameView) (f : FrameView) (old new : List Key) (r : Option Key) → old ≡ path_of task (f ∷ rest)
     → node_at (attacker_in task) f.place.position ≡ Attacker → IfSome r (λ key. old ≡ new ++ key ∷ []) → IfNone r (old ≡ []) → new ≡ path_of task rest
 popped task rest f old new (Some key) is at some none =

@@ -1,4 +1,5 @@
--- What an answer to a worker's request leads to: whether it enters next, whether more may be handed out, and which answers may come.
+-- What an answer to a worker's request leads to: whether it enters next, whether more may be handed
+-- out, and which answers may come.
 use Rattle.std.proofs.Common.{◌≡◌, ◌⊎◌, inl, inr, ℕ, ◌≤◌, ◌<◌, List, [], ◌∷◌, arith, refl, ap, ◌∙◌, subst, Bool, true, false}
 use Rattle.std.specs.Prelude.{Option, Some, None, if◌then◌else◌, slice_get}
 use Rattle.search_limits.specs.declared.expansions.TheConstants.{MOST_EXPANSIONS}

@@ -18,8 +18,9 @@ use Rattle.visit_log.specs.Machine.{State, path_of}
 use Rattle.visit_log.specs.Run.{WorkerView, Leads, Happens, Told, Dark}
 use Rattle.visit_log.specs.Counts.{Words, own_slots, own_size, enters, leaves, enters_some, leaves_some, units_in, rooms_in}
 
--- What a port tells: the problem; how many units it gave; whether it goes on (it said neither that all is done or spent nor that there is no room);
--- which word each slot of a key's row has; how often the slot of a word is entered and not left; how many slots that is in all; and for how many
+-- What a port tells: the problem; how many units it gave; whether it goes on (it said neither that
+-- all is done or spent nor that there is no room); which word each slot of a key's row has; how
+-- often the slot of a word is entered and not left; how many slots that is in all; and for how many
 -- notes it gave room.
 pub record Book : Type 0 where
   pub problem : Board
@@ -47,7 +48,8 @@ ends_by (Some (Drew AllDrawn)) = true
 ends_by (Some (Claimed Full)) = true
 ends_by answer = false
 
--- What an event changes in a port's book: what it enters, leaves and gives, and nothing else. At most a billion units are given.
+-- What an event changes in a port's book: what it enters, leaves and gives, and nothing else. At
+-- most a billion units are given.
 pub record IsBooked (event : Exchange) (before after : Book) : Type 0 where
   pub problem : after.problem ≡ before.problem
   pub units : after.units ≡ before.units + units_by event
@@ -63,13 +65,14 @@ abbrev pub shown : {E : Type 0} → Result Seen E → Option Reply
 shown (Ok seen) = Some (Looked seen)
 shown (Err error) = None
 
--- A worker that stands in the one state makes this request, and the answer leads it to the other; a look may be refused memory.
+-- A worker that stands in the one state makes this request, and the answer leads it to the other; a
+-- look may be refused memory.
 abbrev pub Goes : Task → State → Exchange → State → Type 0
 Goes task s (request, Some answer) t = Happens task s (Told request answer) t
 Goes task s (request, None) t = Happens task s (Dark request) t
 
--- A worker and the port went by these requests and answers, one after the other: the port's step is that of a worker on this path, and the
--- answer leads the worker on.
+-- A worker and the port went by these requests and answers, one after the other: the port's step is
+-- that of a worker on this path, and the answer leads the worker on.
 abbrev pub Went : {P : Type 0} → (P → List Key → Request → Option Reply → P → Type 0) → Task → P → State → List Exchange → P → State → Type 0
 Went turn task before s [] after t = (before ≡ after) × (s ≡ t)
 Went {P} turn task before s (event ∷ events) after t =
@@ -81,8 +84,9 @@ abbrev pub entering : Stage → ℕ
 entering Entering = 1
 entering stage = 0
 
--- What a worker needs of a port to run over it: both are of one problem; the port goes on, or the worker winds up; its own slots are held; and
--- the port gave at least its units, at most a billion, and holds no more slots than it gave units, with the one that is about to be entered.
+-- What a worker needs of a port to run over it: both are of one problem; the port goes on, or the
+-- worker winds up; its own slots are held; and the port gave at least its units, at most a billion,
+-- and holds no more slots than it gave units, with the one that is about to be entered.
 pub record Suits (worker : WorkerView) (book : Book) : Type 0 where
   pub problem : worker.task.problem ≡ book.problem
   pub going : (book.going ≡ true) ⊎ ((end : WorkEnd) × (worker.state.stage ≡ Winding end))
@@ -92,7 +96,8 @@ pub record Suits (worker : WorkerView) (book : Book) : Type 0 where
   pub size : book.size + entering worker.state.stage ≤ book.units
   pub most : book.units ≤ MOST_EXPANSIONS
 
--- What the port holds beside the worker's own slots, by their words, and gave beside the worker's own units and room, stays as it was.
+-- What the port holds beside the worker's own slots, by their words, and gave beside the worker's
+-- own units and room, stays as it was.
 pub record KeepsOthers (worker later : WorkerView) (before after : Book) : Type 0 where
   pub words : after.words ≡ before.words
   pub held : (word : ℕ) → after.held word + own_slots before.words worker.state.frames word
@@ -101,8 +106,8 @@ pub record KeepsOthers (worker later : WorkerView) (before after : Book) : Type 
   pub units : after.units + worker.state.visits ≡ before.units + later.state.visits
   pub rooms : after.rooms + worker.state.claims ≡ before.rooms + later.state.claims
 
--- The worker and the port went by one list of requests and answers: by whatever log the worker stood where it did, it stands where that log
--- leaves it with these behind.
+-- The worker and the port went by one list of requests and answers: by whatever log the worker
+-- stood where it did, it stands where that log leaves it with these behind.
 pub record WentBy {P : Type 0} (turn : P → List Key → Request → Option Reply → P → Type 0) (before after : P) (worker later : WorkerView) (events : List Exchange) : Type 0 where
   pub port : Went turn worker.task before worker.state events after later.state
   pub task : later.task ≡ worker.task

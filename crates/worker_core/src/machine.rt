@@ -99,16 +99,19 @@ impl Core {
 
     // The innermost visit does next what it does.
     fn go_on(&mut self)
-        requires { HasTop (λ f. (path : List Key) × IsListed self.old.task path f) self.old.state.frames }
+        requires { HasTop (λ f. (path : List Key)
+            × IsListed self.old.task path f) self.old.state.frames }
         ensures task { self.new.task ≡ self.old.task }
-        ensures on { HasOver (λ f fs. GoesOn self.old.task self.old.state f fs self.new.state) self.old.state.frames }
+        ensures on { HasOver (λ f fs. GoesOn self.old.task self.old.state f fs self.new.state)
+            self.old.state.frames }
     {
         self.stage = self.stack.settle();
     }
 
     fn polled(&mut self, entry: Entry, stop: bool)
         ensures task { self.new.task ≡ self.old.task }
-        ensures leads { LeadsAt self.old.task self.old.state (Polling entry) (Polled stop) self.new.state }
+        ensures leads { LeadsAt self.old.task self.old.state (Polling entry) (Polled stop)
+            self.new.state }
     {
         if stop {
             self.wind(WorkEnd::Stopped);
@@ -118,10 +121,12 @@ impl Core {
     }
 
     fn drew(&mut self, alloc: Global, entry: Entry, draw: Draw)
-        requires sound { AreSound self.old.task self.old.state.frames × IsSoundEntry self.old.task self.old.state.frames entry }
+        requires sound { AreSound self.old.task self.old.state.frames
+            × IsSoundEntry self.old.task self.old.state.frames entry }
         requires fits { FitsAt self.old.task self.old.state (Drawing entry) (Drew draw) }
         ensures task { self.new.task ≡ self.old.task }
-        ensures leads { LeadsAt self.old.task self.old.state (Drawing entry) (Drew draw) self.new.state }
+        ensures leads { LeadsAt self.old.task self.old.state (Drawing entry) (Drew draw)
+            self.new.state }
     {
         match draw {
             Draw::Done => self.wind(WorkEnd::Posted),
@@ -137,7 +142,8 @@ impl Core {
     }
 
     fn entered(&mut self, alloc: Global, kept: Kept)
-        requires { HasOver (λ f fs. IsSoundPlace self.old.task fs f.place × (f ≡ begun f.place)) self.old.state.frames }
+        requires { HasOver (λ f fs. IsSoundPlace self.old.task fs f.place
+            × (f ≡ begun f.place)) self.old.state.frames }
         ensures task { self.new.task ≡ self.old.task }
         ensures leads { LeadsAt self.old.task self.old.state Entering (Entered kept) self.new.state }
     {
@@ -151,10 +157,12 @@ impl Core {
     }
 
     fn looked(&mut self, place: usize, seen: Seen)
-        requires sound { HasOver (λ f fs. IsSoundVisit self.old.task f fs × IsLookedAt f place) self.old.state.frames }
+        requires sound { HasOver (λ f fs. IsSoundVisit self.old.task f fs
+            × IsLookedAt f place) self.old.state.frames }
         requires fits { FitsAt self.old.task self.old.state (Looking place) (Looked seen) }
         ensures task { self.new.task ≡ self.old.task }
-        ensures leads { LeadsAt self.old.task self.old.state (Looking place) (Looked seen) self.new.state }
+        ensures leads { LeadsAt self.old.task self.old.state (Looking place) (Looked seen)
+            self.new.state }
     {
         // What was looked at is sound.
         sound_laws();
@@ -164,7 +172,8 @@ impl Core {
 
     // The copy of the note that goes out with the Leave, where one was made.
     fn claimed(&mut self, alloc: Global, claim: RoomAnswer) -> Option<Note>
-        requires sound { HasOver (λ f fs. IsSoundVisit self.old.task f fs × Solves self.old.task f) self.old.state.frames }
+        requires sound { HasOver (λ f fs. IsSoundVisit self.old.task f fs
+            × Solves self.old.task f) self.old.state.frames }
         requires few { self.old.state.claims ≤ MOST_EXPANSIONS }
         ensures task { self.new.task ≡ self.old.task }
         ensures leads { LeadsAt self.old.task self.old.state Claiming (Claimed claim) self.new.state }
@@ -197,11 +206,15 @@ impl Core {
 
     // The note of the innermost position, and a copy.
     fn made(&self, alloc: Global) -> Result<(Note, Note), NoteEnd>
-        requires { HasOver (λ f fs. IsSoundVisit self.now.task f fs × Solves self.now.task f) self.now.state.frames }
-        ensures made { IfOk result (λ both. HasTop (λ f. IsMade self.now.task f both.0) self.now.state.frames) }
+        requires { HasOver (λ f fs. IsSoundVisit self.now.task f fs
+            × Solves self.now.task f) self.now.state.frames }
+        ensures made { IfOk result
+            (λ both. HasTop (λ f. IsMade self.now.task f both.0) self.now.state.frames) }
         ensures copy { IfOk result (λ both. both.1 ≡ both.0) }
-        ensures high { result ≡ Err NoteHigh → HasTop (λ f. IsRefusal self.now.task f TooHigh) self.now.state.frames }
-        ensures low { result ≡ Err NoNoteMemory → HasTop (λ f. IsRefusal self.now.task f NoMemory) self.now.state.frames }
+        ensures high { result ≡ Err NoteHigh
+            → HasTop (λ f. IsRefusal self.now.task f TooHigh) self.now.state.frames }
+        ensures low { result ≡ Err NoNoteMemory
+            → HasTop (λ f. IsRefusal self.now.task f NoMemory) self.now.state.frames }
     {
         let note = self.stack.make_note(alloc)?;
         let copy = note.share()?;
@@ -229,7 +242,8 @@ impl Core {
     fn post(&mut self, left: Left)
         requires { (note : Derivation) × (left ≡ Solved note) }
         ensures task { self.new.task ≡ self.old.task }
-        ensures state { (note : Derivation) → left ≡ Solved note → self.new.state ≡ at_stage self.old.state (Posting (Some note)) self.old.state.frames }
+        ensures state { (note : Derivation) → left ≡ Solved note → self.new.state
+            ≡ at_stage self.old.state (Posting (Some note)) self.old.state.frames }
     {
         match left {
             Left::Solved(note) => self.stage = Stage::Posting(Some(note)),

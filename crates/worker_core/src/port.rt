@@ -8,11 +8,13 @@ use path_tags::Path;
 use pn_numbers::Numbers;
 use std::alloc::AllocError;
 
-/// The table of positions and the desk of a search, as one worker has them: alone, beside others under some schedule, or on a thread.
+/// The table of positions and the desk of a search, as one worker has them: alone, beside others
+/// under some schedule, or on a thread.
 ///
-/// What it tells of itself is its book: the problem; how many units it gave, at most a billion, and for how many notes it gave room; whether it
-/// goes on; which word each slot of a key's row has, and how often the slot of a word is entered and not left. Each call changes the book as its request and answer say (`IsBooked`), and is one step of the port
-/// (`turn`).
+/// What it tells of itself is its book: the problem; how many units it gave, at most a billion, and
+/// for how many notes it gave room; whether it goes on; which word each slot of a key's row has,
+/// and how often the slot of a word is entered and not left. Each call changes the book as its
+/// request and answer say (`IsBooked`), and is one step of the port (`turn`).
 pub trait Port {
     ghost use Rattle.std.specs.Prelude.{◌≡◌, ◌<◌, ◌≤◌, ℕ, true, IfOk, Some, Option, List};
     ghost use Rattle.board_core.specs.declared.keys.Key.{Key};
@@ -30,8 +32,9 @@ pub trait Port {
     /// What it tells of itself.
     ghost book: { Self → Book };
 
-    /// From one state to the next, by a request of a worker on this path (the keys of the attacker's positions that it is visiting) and its
-    /// answer (none where a look was refused memory).
+    /// From one state to the next, by a request of a worker on this path (the keys of the
+    /// attacker's positions that it is visiting) and its answer (none where a look was refused
+    /// memory).
     ghost turn: { Self → List Key → Request → Option Reply → Self → Type 0 };
 
     /// Whether the worker is to stop.
@@ -48,30 +51,38 @@ pub trait Port {
     /// Room for a note. It isn't asked once nothing more is handed out.
     fn claim(&mut self) -> RoomAnswer
         requires { (book self.old).going ≡ true }
-        ensures turn { (path : List Key) → turn self.old path Claims (Some (Claimed result)) self.new }
+        ensures turn { (path : List Key)
+            → turn self.old path Claims (Some (Claimed result)) self.new }
         ensures book { IsBooked (Claims, Some (Claimed result)) (book self.old) (book self.new) };
 
-    /// What is known of the position of this key, by a worker on this path: a note only about it, for the problem's attacker, that holds on the path;
-    /// else numbers from 1 to the cap. Errors: want of memory alone.
+    /// What is known of the position of this key, by a worker on this path: a note only about it,
+    /// for the problem's attacker, that holds on the path; else numbers from 1 to the cap. Errors:
+    /// want of memory alone.
     fn look(&mut self, key: &Key, path: &Path) -> Result<Seen, AllocError>
         ensures turn { turn self.old path.now (Look key.now) (shown result) self.new }
         ensures book { IsBooked (Look key.now, shown result) (book self.old) (book self.new) }
         ensures may { IfOk result (MayShow (book self.old).problem.side key.now path.now) };
 
-    /// Enters the position of this key, with these numbers, from 1 to the cap, where it is new. Fewer than a billion slots are held.
+    /// Enters the position of this key, with these numbers, from 1 to the cap, where it is new.
+    /// Fewer than a billion slots are held.
     fn enter(&mut self, key: &Key, numbers: Numbers) -> Kept
         requires in_range { IsOpen numbers }
         requires few { (book self.old).size < MOST_EXPANSIONS }
-        ensures turn { (path : List Key) → turn self.old path (Enter key.now numbers) (Some (Entered result)) self.new }
-        ensures book { IsBooked (Enter key.now numbers, Some (Entered result)) (book self.old) (book self.new) };
+        ensures turn { (path : List Key)
+            → turn self.old path (Enter key.now numbers) (Some (Entered result)) self.new }
+        ensures book { IsBooked (Enter key.now numbers, Some (Entered result)) (book self.old)
+            (book self.new) };
 
-    /// Leaves the position of this key, which was entered so, with an update: numbers from 1 to the cap, or a note about it for the problem's
-    /// attacker. A slot that is left is held.
+    /// Leaves the position of this key, which was entered so, with an update: numbers from 1 to the
+    /// cap, or a note about it for the problem's attacker. A slot that is left is held.
     fn leave(&mut self, kept: Kept, key: &Key, update: Update)
         requires sound { IsSoundUpdate (book self.old).problem.side key.now update }
-        requires held { (word : ℕ) → slot_once (book self.old).words kept key.now word ≤ (book self.old).held word }
-        ensures turn { (path : List Key) → turn self.old path (Leave kept key.now update) (Some LeftIt) self.new }
-        ensures book { IsBooked (Leave kept key.now update, Some LeftIt) (book self.old) (book self.new) };
+        requires held { (word : ℕ)
+            → slot_once (book self.old).words kept key.now word ≤ (book self.old).held word }
+        ensures turn { (path : List Key)
+            → turn self.old path (Leave kept key.now update) (Some LeftIt) self.new }
+        ensures book { IsBooked (Leave kept key.now update, Some LeftIt) (book self.old)
+            (book self.new) };
 
     /// Posts a note that answers the problem.
     fn post(&mut self, note: Note)

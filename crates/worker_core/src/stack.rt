@@ -23,7 +23,8 @@ use std::marker::Model;
 use visit_frame::Frame;
 use visit_log::{Entry, Left, Stage};
 
-// The visits, the innermost last, with the keys of the attacker's positions among them. Contracts see the visits, the innermost first.
+// The visits, the innermost last, with the keys of the attacker's positions among them. Contracts
+// see the visits, the innermost first.
 #[derive(Drop)]
 pub(crate) struct Stack {
     problem: Problem,
@@ -58,8 +59,10 @@ fn is_attackers(problem: &Problem, position: &Position) -> bool
 
 // The position of the child to which a visit goes down.
 fn played_after(problem: &Problem, worker: u32, frame: &Frame, by: Move) -> Position
-    requires listed { (path : List Key) × IsListed (task_for problem.now.position worker) path frame.now }
-    requires child { (child : Child) × (slice_get frame.now.children frame.now.chosen ≡ Some child) × (Some by ≡ Some child.by) }
+    requires listed { (path : List Key)
+        × IsListed (task_for problem.now.position worker) path frame.now }
+    requires child { (child : Child)
+        × (slice_get frame.now.children frame.now.chosen ≡ Some child) × (Some by ≡ Some child.by) }
     ensures position { result ≡ after frame.now.place.position by }
     ensures played { IsPlayed problem.now.position.side result }
 {
@@ -144,8 +147,11 @@ impl Stack {
         requires sound { AreSound self.old.task self.old.frames }
         requires entry { IsSoundEntry self.old.task self.old.frames entry }
         ensures task { self.new.task ≡ self.old.task }
-        ensures played { OnOk result (IsPlayed (attacker_in self.old.task) (position_by self.old.task self.old.frames entry.by)) }
-        ensures begun { OnOk result (self.new.frames ≡ begun (place_by self.old.task self.old.frames entry) ∷ self.old.frames) }
+        ensures played { OnOk result
+            (IsPlayed (attacker_in self.old.task)
+            (position_by self.old.task self.old.frames entry.by)) }
+        ensures begun { OnOk result (self.new.frames
+            ≡ begun (place_by self.old.task self.old.frames entry) ∷ self.old.frames) }
         ensures unchanged { OnErr result (self.new.frames ≡ self.old.frames) }
     {
         let position = self.position_by(entry.by);
@@ -191,7 +197,8 @@ impl Stack {
         bare_all(self.frames.as_mut_slice());
     }
 
-    /// Winds up: a visit that hasn't entered its position is no more, and of the others only what is left of them is known.
+    /// Winds up: a visit that hasn't entered its position is no more, and of the others only what
+    /// is left of them is known.
     #[tactic(auto, using(crate::proofs::Last::entered_bare))]
     pub(crate) fn wind(&mut self)
         ensures task { self.new.task ≡ self.old.task }
@@ -210,11 +217,17 @@ impl Stack {
         keep_top(self.frames.as_mut_slice(), kept);
     }
 
-    /// The innermost position's successors are listed. Errors: want of memory alone, and then nothing changes.
+    /// The innermost position's successors are listed. Errors: want of memory alone, and then
+    /// nothing changes.
     pub(crate) fn list(&mut self, alloc: Global) -> Result<(), AllocError>
-        requires { HasTop (λ f. (fs : List FrameView) × IsSoundPlace self.old.task fs f.place) self.old.frames }
+        requires { HasTop (λ f. (fs : List FrameView)
+            × IsSoundPlace self.old.task fs f.place) self.old.frames }
         ensures task { self.new.task ≡ self.old.task }
-        ensures listed { OnOk result (ChangesTop (λ f g. AreChildren (attacker_in self.old.task) f.place.position (path_of self.old.task self.old.frames) g.children × (g ≡ record { place = f.place; kept = f.kept; children = g.children; chosen = 0 })) self.old.frames self.new.frames) }
+        ensures listed { OnOk result
+            (ChangesTop (λ f g. AreChildren (attacker_in self.old.task) f.place.position
+            (path_of self.old.task self.old.frames) g.children
+            × (g ≡ record { place = f.place; kept = f.kept; children = g.children; chosen = 0 }))
+            self.old.frames self.new.frames) }
         ensures unchanged { OnErr result (self.new ≡ self.old) }
     {
         list_top(self.frames.as_mut_slice(), alloc, &self.problem, &self.path)
@@ -224,17 +237,23 @@ impl Stack {
     pub(crate) fn settle(&mut self) -> Stage
         requires { HasTop (λ f. (path : List Key) × IsListed self.old.task path f) self.old.frames }
         ensures task { self.new.task ≡ self.old.task }
-        ensures settles { ChangesTop (λ f g. Settles self.old.task f result g) self.old.frames self.new.frames }
+        ensures settles { ChangesTop (λ f g. Settles self.old.task f result g) self.old.frames
+            self.new.frames }
     {
         settle_top(self.frames.as_mut_slice(), &self.problem, self.worker)
     }
 
     /// The innermost visit's child at the place was looked at.
     pub(crate) fn look(&mut self, place: usize, seen: Seen)
-        requires listed { HasTop (λ f. (path : List Key) × IsListed self.old.task path f × ((child : Child) → slice_get f.children place ≡ Some child → MayShow (attacker_in self.old.task) child.key path seen)) self.old.frames }
+        requires listed { HasTop (λ f. (path : List Key) × IsListed self.old.task path f
+            × ((child : Child) → slice_get f.children place ≡ Some child
+            → MayShow (attacker_in self.old.task) child.key path seen)) self.old.frames }
         requires there { HasTop (λ f. IsSome (slice_get f.children place)) self.old.frames }
         ensures task { self.new.task ≡ self.old.task }
-        ensures looked { ChangesTop (λ f g. (sight : Sight) × (sight.place ≡ place) × (sight.seen ≡ seen) × (slice_get f.children place ≡ Some sight.child) × Tells (attacker_in self.old.task) f.place.position sight.child.by seen sight.start × (g ≡ looked f sight)) self.old.frames self.new.frames }
+        ensures looked { ChangesTop (λ f g. (sight : Sight) × (sight.place ≡ place)
+            × (sight.seen ≡ seen) × (slice_get f.children place ≡ Some sight.child)
+            × Tells (attacker_in self.old.task) f.place.position sight.child.by seen sight.start
+            × (g ≡ looked f sight)) self.old.frames self.new.frames }
     {
         look_top(
             self.frames.as_mut_slice(),
@@ -249,18 +268,28 @@ impl Stack {
     pub(crate) fn come_back(&mut self, left: Left)
         requires { HasTop (λ f. IsSome (slice_get f.children f.chosen)) self.old.frames }
         ensures task { self.new.task ≡ self.old.task }
-        ensures back { ChangesTop (λ f g. (child : Child) × (slice_get f.children f.chosen ≡ Some child) × (g ≡ came_back f f.chosen child left)) self.old.frames self.new.frames }
+        ensures back { ChangesTop (λ f g. (child : Child)
+            × (slice_get f.children f.chosen ≡ Some child)
+            × (g ≡ came_back f f.chosen child left)) self.old.frames self.new.frames }
     {
         come_back_top(self.frames.as_mut_slice(), left);
     }
 
-    /// The note of the innermost position, which is solved. Errors: TooHigh exactly where its height would be above 4,096; else want of memory.
+    /// The note of the innermost position, which is solved. Errors: TooHigh exactly where its
+    /// height would be above 4,096; else want of memory.
     pub(crate) fn make_note(&self, alloc: Global) -> Result<Note, NoteEnd>
-        requires listed { HasTop (λ f. (path : List Key) × IsListed self.now.task path f) self.now.frames }
-        requires solved { HasTop (λ f. is_solved (node_in self.now.task f) f.children ≡ true) self.now.frames }
-        ensures made { IfOk result (λ note. HasTop (λ f. IsMade self.now.task f note) self.now.frames) }
-        ensures high { result ≡ Err TooHigh → HasTop (λ f. 4096 < highest (notes_under (node_in self.now.task f) f.children) + 1) self.now.frames }
-        ensures low { result ≡ Err NoMemory → HasTop (λ f. highest (notes_under (node_in self.now.task f) f.children) + 1 ≤ 4096) self.now.frames }
+        requires listed { HasTop (λ f. (path : List Key)
+            × IsListed self.now.task path f) self.now.frames }
+        requires solved { HasTop (λ f. is_solved (node_in self.now.task f) f.children
+            ≡ true) self.now.frames }
+        ensures made { IfOk result
+            (λ note. HasTop (λ f. IsMade self.now.task f note) self.now.frames) }
+        ensures high { result ≡ Err TooHigh
+            → HasTop (λ f. 4096 < highest (notes_under (node_in self.now.task f) f.children) + 1)
+            self.now.frames }
+        ensures low { result ≡ Err NoMemory
+            → HasTop (λ f. highest (notes_under (node_in self.now.task f) f.children) + 1 ≤ 4096)
+            self.now.frames }
     {
         match top(&self.frames) {
             Some(frame) => frame.make_note(alloc, &self.problem, self.worker),

@@ -37,7 +37,8 @@ pub(crate) fn bare_all(frames: &mut [Frame])
 pub(crate) fn keep_top(frames: &mut [Frame], kept: Kept)
     requires { 0 < length frames.old }
     ensures kept { ChangesTop (λ f g. g ≡ keep f kept) (reverse frames.old) (reverse frames.new) }
-    ensures path { (task : Task) → path_of task (reverse frames.new) ≡ path_of task (reverse frames.old) }
+    ensures path { (task : Task) → path_of task (reverse frames.new)
+        ≡ path_of task (reverse frames.old) }
 {
     let last = frames.len() - 1;
     let frame = &mut frames[last];
@@ -52,10 +53,16 @@ pub(crate) fn list_top(
     path: &Path,
 ) -> Result<(), AllocError>
     requires some { 0 < length frames.old }
-    requires placed { HasTop (λ f. (task : Task) × (fs : List FrameView) × IsSoundPlace task fs f.place) (reverse frames.old) }
-    ensures listed { OnOk result (ChangesTop (λ f g. AreChildren problem.now.position.side f.place.position path.now g.children × (g ≡ record { place = f.place; kept = f.kept; children = g.children; chosen = 0 })) (reverse frames.old) (reverse frames.new)) }
+    requires placed { HasTop (λ f. (task : Task) × (fs : List FrameView)
+        × IsSoundPlace task fs f.place) (reverse frames.old) }
+    ensures listed { OnOk result
+        (ChangesTop (λ f g. AreChildren problem.now.position.side f.place.position path.now
+        g.children × (g ≡ record
+        { place = f.place; kept = f.kept; children = g.children; chosen = 0 })) (reverse frames.old)
+        (reverse frames.new)) }
     ensures unchanged { OnErr result (frames.new ≡ frames.old) }
-    ensures path { (task : Task) → path_of task (reverse frames.new) ≡ path_of task (reverse frames.old) }
+    ensures path { (task : Task) → path_of task (reverse frames.new)
+        ≡ path_of task (reverse frames.old) }
 {
     let last = frames.len() - 1;
     let frame = &mut frames[last];
@@ -65,9 +72,12 @@ pub(crate) fn list_top(
 // What it does next.
 pub(crate) fn settle_top(frames: &mut [Frame], problem: &Problem, worker: u32) -> Stage
     requires some { 0 < length frames.old }
-    requires listed { HasTop (λ f. (path : List Key) × IsListed (task_for problem.now.position worker) path f) (reverse frames.old) }
-    ensures settles { ChangesTop (λ f g. Settles (task_for problem.now.position worker) f result g) (reverse frames.old) (reverse frames.new) }
-    ensures path { (task : Task) → path_of task (reverse frames.new) ≡ path_of task (reverse frames.old) }
+    requires listed { HasTop (λ f. (path : List Key)
+        × IsListed (task_for problem.now.position worker) path f) (reverse frames.old) }
+    ensures settles { ChangesTop (λ f g. Settles (task_for problem.now.position worker) f result g)
+        (reverse frames.old) (reverse frames.new) }
+    ensures path { (task : Task) → path_of task (reverse frames.new)
+        ≡ path_of task (reverse frames.old) }
 {
     let last = frames.len() - 1;
     let frame = &mut frames[last];
@@ -83,10 +93,17 @@ pub(crate) fn look_top(
     seen: Seen,
 )
     requires some { 0 < length frames.old }
-    requires listed { HasTop (λ f. (path : List Key) × IsListed (task_for problem.now.position worker) path f × ((child : Child) → slice_get f.children place ≡ Some child → MayShow problem.now.position.side child.key path seen)) (reverse frames.old) }
+    requires listed { HasTop (λ f. (path : List Key)
+        × IsListed (task_for problem.now.position worker) path f
+        × ((child : Child) → slice_get f.children place ≡ Some child
+        → MayShow problem.now.position.side child.key path seen)) (reverse frames.old) }
     requires there { HasTop (λ f. IsSome (slice_get f.children place)) (reverse frames.old) }
-    ensures looked { ChangesTop (λ f g. (sight : Sight) × (sight.place ≡ place) × (sight.seen ≡ seen) × (slice_get f.children place ≡ Some sight.child) × Tells problem.now.position.side f.place.position sight.child.by seen sight.start × (g ≡ looked f sight)) (reverse frames.old) (reverse frames.new) }
-    ensures path { (task : Task) → path_of task (reverse frames.new) ≡ path_of task (reverse frames.old) }
+    ensures looked { ChangesTop (λ f g. (sight : Sight) × (sight.place ≡ place)
+        × (sight.seen ≡ seen) × (slice_get f.children place ≡ Some sight.child)
+        × Tells problem.now.position.side f.place.position sight.child.by seen sight.start
+        × (g ≡ looked f sight)) (reverse frames.old) (reverse frames.new) }
+    ensures path { (task : Task) → path_of task (reverse frames.new)
+        ≡ path_of task (reverse frames.old) }
 {
     let last = frames.len() - 1;
     let frame = &mut frames[last];
@@ -97,8 +114,11 @@ pub(crate) fn look_top(
 pub(crate) fn come_back_top(frames: &mut [Frame], left: Left)
     requires some { 0 < length frames.old }
     requires there { HasTop (λ f. IsSome (slice_get f.children f.chosen)) (reverse frames.old) }
-    ensures back { ChangesTop (λ f g. (child : Child) × (slice_get f.children f.chosen ≡ Some child) × (g ≡ came_back f f.chosen child left)) (reverse frames.old) (reverse frames.new) }
-    ensures path { (task : Task) → path_of task (reverse frames.new) ≡ path_of task (reverse frames.old) }
+    ensures back { ChangesTop (λ f g. (child : Child)
+        × (slice_get f.children f.chosen ≡ Some child)
+        × (g ≡ came_back f f.chosen child left)) (reverse frames.old) (reverse frames.new) }
+    ensures path { (task : Task) → path_of task (reverse frames.new)
+        ≡ path_of task (reverse frames.old) }
 {
     let last = frames.len() - 1;
     let frame = &mut frames[last];

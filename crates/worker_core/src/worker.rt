@@ -9,10 +9,12 @@ use std::alloc::Global;
 use std::marker::Model;
 use visit_log::{Reply, Request, WorkEnd, count_laws, sound_laws, visit_laws};
 
-/// A worker in the search of a problem. It is asked for its [`request`](Worker::request), and told the answer
-/// ([`advance`](Worker::advance)); or it is starved ([`starve`](Worker::starve)). So until its request is an End.
+/// A worker in the search of a problem. It is asked for its [`request`](Worker::request), and told
+/// the answer ([`advance`](Worker::advance)); or it is starved ([`starve`](Worker::starve)). So
+/// until its request is an End.
 ///
-/// It keeps that some log leaves it where it stands: the log of what it asked and was told, the beginning of a visit log.
+/// It keeps that some log leaves it where it stands: the log of what it asked and was told, the
+/// beginning of a visit log.
 #[derive(Drop)]
 pub struct Worker {
     core: Core,
@@ -59,7 +61,12 @@ impl Worker {
 
     /// The worker of this number, from 1, before it asks anything. Takes no memory.
     pub fn make(alloc: Global, problem: &Problem, number: u32) -> Worker
-        ensures { result ≡ record { task = task_for problem.now.position number; state = start (task_for problem.now.position number); waiting = false } }
+        ensures { result ≡ record {
+          task = task_for problem.now.position number;
+          state = start
+              (task_for problem.now.position number);
+          waiting = false;
+        } }
     {
         problem.position.laws();
         Worker {
@@ -69,12 +76,15 @@ impl Worker {
         }
     }
 
-    /// What it asks next; the last request must be answered. A note that is posted is given away. Takes no memory.
+    /// What it asks next; the last request must be answered. A note that is posted is given away.
+    /// Takes no memory.
     pub fn request(&mut self) -> Request
         requires { self.old.waiting ≡ false }
         ensures request { result ≡ asks self.old.state }
-        ensures asked { self.new ≡ record { task = self.old.task; state = asked self.old.state; waiting = true } }
-        // Enter and Leave have numbers from 1 to the cap; a note is about its position, for the attacker; a posted one answers the problem.
+        ensures asked { self.new
+            ≡ record { task = self.old.task; state = asked self.old.state; waiting = true } }
+        // Enter and Leave have numbers from 1 to the cap; a note is about its position, for the
+        // attacker; a posted one answers the problem.
         ensures sound { IsSoundRequest self.old.task result }
         // It is an End exactly where the worker has ended.
         ensures ends { (end : WorkEnd) → (result ≡ End end) ↔ (end_of self.old.state ≡ Some end) }
@@ -85,22 +95,32 @@ impl Worker {
         self.core.ask(self.copy.take())
     }
 
-    /// Takes the answer in, which must be of the request's kind: a unit comes where fewer than a billion came before; numbers are from 1 to the cap; a
-    /// note is about the child that was looked at, for the attacker, and holds on the path. Where memory is wanting it winds up.
+    /// Takes the answer in, which must be of the request's kind: a unit comes where fewer than a
+    /// billion came before; numbers are from 1 to the cap; a note is about the child that was
+    /// looked at, for the attacker, and holds on the path. Where memory is wanting it winds up.
     pub fn advance(&mut self, alloc: Global, answer: Reply)
         requires waiting { self.old.waiting ≡ true }
         requires fits { Fits self.old.task self.old.state answer }
         ensures answered { self.new.waiting ≡ false }
         ensures task { self.new.task ≡ self.old.task }
         // Whatever log it stood by, it stands by that log with the request and this answer behind.
-        ensures log { (log : List Exchange) (s : State) → Leads self.old.task log s → self.old.state ≡ asked s → Leads self.old.task (log ++ (asks s, Some answer) ∷ []) self.new.state }
-        ensures slots { (words : Words) (word : ℕ) → own_slots words self.new.state.frames word + leaves words (asks self.old.state, Some answer) word ≡ own_slots words self.old.state.frames word + enters words (asks self.old.state, Some answer) word }
-        ensures sizes { own_size self.new.state.frames + leaves_some (asks self.old.state, Some answer) ≡ own_size self.old.state.frames + enters_some (asks self.old.state, Some answer) }
+        ensures log { (log : List Exchange) (s : State) → Leads self.old.task log s
+            → self.old.state ≡ asked s
+            → Leads self.old.task (log ++ (asks s, Some answer) ∷ []) self.new.state }
+        ensures slots { (words : Words) (word : ℕ)
+            → own_slots words self.new.state.frames word + leaves words
+            (asks self.old.state, Some answer) word
+            ≡ own_slots words self.old.state.frames word + enters words
+            (asks self.old.state, Some answer) word }
+        ensures sizes { own_size self.new.state.frames + leaves_some
+            (asks self.old.state, Some answer)
+            ≡ own_size self.old.state.frames + enters_some (asks self.old.state, Some answer) }
         ensures visits { self.new.state.visits ≡ self.old.state.visits + units_in answer }
         ensures claims { self.new.state.claims ≡ self.old.state.claims + rooms_in answer }
         ensures less { to_come self.new.state < to_come self.old.state }
         // Where it stood before it was asked, this request and this answer happen to it.
-        ensures happens { (s : State) → self.old.state ≡ asked s → Happens self.old.task s (Told (asks s) answer) self.new.state }
+        ensures happens { (s : State) → self.old.state ≡ asked s
+            → Happens self.old.task s (Told (asks s) answer) self.new.state }
         ensures leads { LeadsTo self.old.task self.old.state answer self.new.state }
     {
         // It is sound, and what it counts moves as the answer says.
@@ -110,13 +130,18 @@ impl Worker {
         self.copy = self.core.advance(alloc, answer);
     }
 
-    /// Winds up for want of memory, unless it has ended: from here on it asks to leave each position that it has entered, innermost first, with
-    /// nothing, and then it has ended. A request that waits for its answer is taken back. Takes no memory.
+    /// Winds up for want of memory, unless it has ended: from here on it asks to leave each
+    /// position that it has entered, innermost first, with nothing, and then it has ended. A
+    /// request that waits for its answer is taken back. Takes no memory.
     pub fn starve(&mut self)
-        ensures starved { self.new ≡ record { task = self.old.task; state = starve self.old.state; waiting = false } }
-        ensures log { (log : List Exchange) (s : State) → Leads self.old.task log s → self.old.state ≡ now_at self.old.waiting s → Leads self.old.task log self.new.state }
+        ensures starved { self.new
+            ≡ record { task = self.old.task; state = starve self.old.state; waiting = false } }
+        ensures log { (log : List Exchange) (s : State) → Leads self.old.task log s
+            → self.old.state ≡ now_at self.old.waiting s → Leads self.old.task log self.new.state }
         // Where a look was refused memory, the log has it too.
-        ensures dark { (log : List Exchange) (s : State) → Leads self.old.task log s → self.old.state ≡ asked s → IsLooking s.stage → Leads self.old.task (log ++ (asks s, None) ∷ []) self.new.state }
+        ensures dark { (log : List Exchange) (s : State) → Leads self.old.task log s
+            → self.old.state ≡ asked s → IsLooking s.stage
+            → Leads self.old.task (log ++ (asks s, None) ∷ []) self.new.state }
         ensures alone { IsLeftAlone self.old.state self.new.state }
     {
         // Starving moves nothing.
@@ -125,7 +150,8 @@ impl Worker {
         self.core.starve();
     }
 
-    /// The keys of the attacker's positions that it is visiting, the problem's first: the path by which a look is answered. Takes no memory.
+    /// The keys of the attacker's positions that it is visiting, the problem's first: the path by
+    /// which a look is answered. Takes no memory.
     pub fn path(&self) -> &Path
         ensures { result.now ≡ path_of self.now.task self.now.state.frames }
     {
@@ -181,14 +207,17 @@ impl Worker {
         self.core.end()
     }
 
-    /// Laws: what every worker keeps. Some log leaves it where it stands; each log that does is the beginning of a visit log, and a whole one where it
-    /// has ended; what it knows is sound, unless a request waits for its answer; and it has no more visits, slots and room than units.
-    /// Does nothing; whoever reads a worker calls it to know this. Takes no memory.
+    /// Laws: what every worker keeps. Some log leaves it where it stands; each log that does is the
+    /// beginning of a visit log, and a whole one where it has ended; what it knows is sound, unless
+    /// a request waits for its answer; and it has no more visits, slots and room than units. Does
+    /// nothing; whoever reads a worker calls it to know this. Takes no memory.
     pub fn laws(&self)
         ensures reached { (log : List Exchange) × IsReached self.now log }
         ensures task { IsTask self.now.task }
-        ensures begun { (log : List Exchange) → IsReached self.now log → IsBegunLog self.now.task log }
-        ensures whole { (log : List Exchange) (end : WorkEnd) → IsReached self.now log → end_of self.now.state ≡ Some end → IsVisitLog self.now.task log end }
+        ensures begun { (log : List Exchange) → IsReached self.now log
+            → IsBegunLog self.now.task log }
+        ensures whole { (log : List Exchange) (end : WorkEnd) → IsReached self.now log
+            → end_of self.now.state ≡ Some end → IsVisitLog self.now.task log end }
         ensures counted { IsCounted self.now.state }
     {
         visit_laws();

@@ -10,14 +10,17 @@ use crate::{Port, Worker};
 use std::alloc::Global;
 use visit_log::{Reply, Request, WorkEnd, count_laws};
 
-/// Has one request of a worker answered by the port, and says how the worker had ended where it has none. The last request must be answered; the
-/// port must suit the worker: both are of one problem, the port goes on (or the worker winds up), and holds the worker's own slots.
+/// Has one request of a worker answered by the port, and says how the worker had ended where it has
+/// none. The last request must be answered; the port must suit the worker: both are of one problem,
+/// the port goes on (or the worker winds up), and holds the worker's own slots.
 pub fn turn<P: Port>(alloc: Global, worker: &mut Worker, port: &mut P) -> Option<WorkEnd>
     requires idle { worker.old.waiting ≡ false }
     requires suits { Suits worker.old (P.book port.old) }
     ensures idle { worker.new.waiting ≡ false }
     ensures suits { Suits worker.new (P.book port.new) }
-    ensures went { (events : List Exchange) × WentBy P.turn port.old port.new worker.old worker.new events × MatchOption result (length events ≡ 1) (λ end. length events ≡ 0) }
+    ensures went { (events : List Exchange)
+        × WentBy P.turn port.old port.new worker.old worker.new events
+        × MatchOption result (length events ≡ 1) (λ end. length events ≡ 0) }
     ensures others { KeepsOthers worker.old worker.new (P.book port.old) (P.book port.new) }
     ensures less { IfNone result (to_come worker.new.state < to_come worker.old.state) }
     ensures ended { IfSome result (λ end. end_of worker.new.state ≡ Some end) }
@@ -60,14 +63,18 @@ pub fn turn<P: Port>(alloc: Global, worker: &mut Worker, port: &mut P) -> Option
     None
 }
 
-/// Has a worker work over a port until it has ended, and says how. What it asks and is told is one list, by which the port went; with the log
-/// before, it is a visit log. What the port holds beside the worker's own slots stays as it was, and of these nothing is held any more.
+/// Has a worker work over a port until it has ended, and says how. What it asks and is told is one
+/// list, by which the port went; with the log before, it is a visit log. What the port holds beside
+/// the worker's own slots stays as it was, and of these nothing is held any more.
 pub fn work<P: Port>(alloc: Global, worker: &mut Worker, port: &mut P) -> WorkEnd
     requires idle { worker.old.waiting ≡ false }
     requires suits { Suits worker.old (P.book port.old) }
     ensures idle { worker.new.waiting ≡ false }
     ensures suits { Suits worker.new (P.book port.new) }
-    ensures went { (events : List Exchange) × WentBy P.turn port.old port.new worker.old worker.new events × ((log : List Exchange) → Leads worker.old.task log worker.old.state → IsVisitLog worker.old.task (log ++ events) result) }
+    ensures went { (events : List Exchange)
+        × WentBy P.turn port.old port.new worker.old worker.new events
+        × ((log : List Exchange) → Leads worker.old.task log worker.old.state
+        → IsVisitLog worker.old.task (log ++ events) result) }
     ensures others { KeepsOthers worker.old worker.new (P.book port.old) (P.book port.new) }
     ensures ended { end_of worker.new.state ≡ Some result }
 {
@@ -79,8 +86,9 @@ pub fn work<P: Port>(alloc: Global, worker: &mut Worker, port: &mut P) -> WorkEn
     }
 }
 
-/// Has a worker work over a port for at most so many requests; none exactly where so many were answered and the worker hasn't ended. All else is as
-/// [`work`] has it; where it hasn't ended, it may go on so.
+/// Has a worker work over a port for at most so many requests; none exactly where so many were
+/// answered and the worker hasn't ended. All else is as [`work`] has it; where it hasn't ended, it
+/// may go on so.
 pub fn work_until<P: Port>(
     alloc: Global,
     worker: &mut Worker,
@@ -91,7 +99,9 @@ pub fn work_until<P: Port>(
     requires suits { Suits worker.old (P.book port.old) }
     ensures idle { worker.new.waiting ≡ false }
     ensures suits { Suits worker.new (P.book port.new) }
-    ensures went { (events : List Exchange) × WentBy P.turn port.old port.new worker.old worker.new events × (length events ≤ turns) × (result ≡ None → length events ≡ turns) }
+    ensures went { (events : List Exchange)
+        × WentBy P.turn port.old port.new worker.old worker.new events × (length events ≤ turns)
+        × (result ≡ None → length events ≡ turns) }
     ensures others { KeepsOthers worker.old worker.new (P.book port.old) (P.book port.new) }
     ensures ended { end_of worker.new.state ≡ result }
 {

@@ -139,7 +139,8 @@ joins size id other v u some_part room s k at two at' =
       fit = All-set IsFit vs other spent spent_fits (All-set IsFit s.views id w fits k.fit);
     }
 
--- where the last view has every part, each word is how often it stands among what that one has added
+-- where the last view has every part, each word is how often it stands among what that one has
+-- added
 pub closes : (size id : ℕ) (v : View) (words slots : List ℕ) → v.parts ≡ MOST_SEATS
     → Final (Seen (λ (s : State ℕ View). IsKept size s.words s.views) id v) words slots
     → (word : ℕ) → word < size → slice_index words word ≡ times word v.added

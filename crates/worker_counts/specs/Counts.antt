@@ -1,4 +1,5 @@
--- Counts of workers: what a seat knows, what each kind of step does to that, and what is kept of all words and all seats.
+-- Counts of workers: what a seat knows, what each kind of step does to that, and what is kept of
+-- all words and all seats.
 use Rattle.std.specs.Prelude.{◌≡◌, ◌+◌, ◌-◌, ◌<◌, ◌≤◌, ◌==◌, ℕ, List, [], ◌∷◌, ◌++◌, length, slice_index, take, All, count_by, sum_by, if◌then◌else◌}
 use Rattle.atomic_table.specs.Seated.{TableId}
 use Rattle.worker_counts.specs.declared.view.TheConstants.{MOST_SEATS, MOST_ADDED, KEPT_LOADS}
@@ -32,7 +33,8 @@ whole = record { parts = MOST_SEATS; added = []; loads = []; loaded = 0; found =
 abbrev pub newcomer : View
 newcomer = record { parts = 1; added = []; loads = []; loaded = 0; found = 0 }
 
--- After a load: the word and its count stand before the earlier loads, of which the last ones are kept.
+-- After a load: the word and its count stand before the earlier loads, of which the last ones are
+-- kept.
 abbrev pub after_load : View → ℕ → ℕ → View
 after_load view word count = record view { loads = take KEPT_LOADS ((word, count) ∷ view.loads); loaded = view.loaded + 1 }
 
@@ -63,8 +65,9 @@ pub record IsFit (view : View) : Type 0 where
   pub few : length view.added ≤ MOST_ADDED
   pub part : view.parts ≡ 0 → view.added ≡ []
 
--- The rule: each word is how often it stands among what the views have added, all together, and the views have all parts together. So no more
--- seats have a part than there are parts, and no word overflows.
+-- The rule: each word is how often it stands among what the views have added, all together, and the
+-- views have all parts together. So no more seats have a part than there are parts, and no word
+-- overflows.
 pub record IsKept (size : ℕ) (words : List ℕ) (views : List View) : Type 0 where
   pub sized : length words ≡ size
   pub counts : (word : ℕ) → word < size → slice_index words word ≡ sum_by (λ view. times word view.added) views

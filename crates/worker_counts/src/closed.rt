@@ -5,7 +5,8 @@ use atomic_table::Closed;
 use std::alloc::Global;
 use std::marker::Model;
 
-/// Counts that no thread shares any more, and that stay as they are. Contracts see the list of them.
+/// Counts that no thread shares any more, and that stay as they are. Contracts see the list of
+/// them.
 pub struct ClosedCounts {
     pub(crate) closed: Closed<u8, Global>,
 }

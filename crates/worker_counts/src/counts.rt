@@ -13,8 +13,9 @@ use std::marker::Model;
 
 /// Words that count workers, numbered from 0, which threads share by `&`.
 ///
-/// Each word is how often it stands among what all seats have added, at any time and whatever the threads do. Words whose numbers follow
-/// one another lie side by side. No call but [`make`](WorkerCounts::make) takes memory, and none waits or fails.
+/// Each word is how often it stands among what all seats have added, at any time and whatever the
+/// threads do. Words whose numbers follow one another lie side by side. No call but
+/// [`make`](WorkerCounts::make) takes memory, and none waits or fails.
 ///
 /// Contracts see which counts they are, with `words`, how many there are.
 #[derive(Drop)]
@@ -37,8 +38,9 @@ impl Model for WorkerCounts {
 }
 
 impl WorkerCounts {
-    /// So many words, at least one, each zero, and their first seat, which has every part. Takes eight bytes for each word, and as many
-    /// again until it returns; want of memory is its one error.
+    /// So many words, at least one, each zero, and their first seat, which has every part. Takes
+    /// eight bytes for each word, and as many again until it returns; want of memory is its one
+    /// error.
     pub fn make(alloc: Global, words: usize) -> Result<(WorkerCounts, CountSeat), AllocError>
         requires { 0 < words }
         ensures words { IfOk result (λ made. made.0.words ≡ words) }
@@ -50,8 +52,8 @@ impl WorkerCounts {
         Ok((WorkerCounts { table }, CountSeat { seat }))
     }
 
-    /// The count of a word below the number of words: at least as often as the seat has added to it. The seat keeps its last
-    /// [`KEPT_LOADS`](crate::KEPT_LOADS) loads.
+    /// The count of a word below the number of words: at least as often as the seat has added to
+    /// it. The seat keeps its last [`KEPT_LOADS`](crate::KEPT_LOADS) loads.
     pub fn load(&self, seat: &mut CountSeat, word: usize) -> u64
         requires seat { seat.old.counts ≡ self.now }
         requires word { word < self.now.words }
@@ -61,7 +63,8 @@ impl WorkerCounts {
         self.table.shared.load::<LoadStep>(&mut seat.seat, word)
     }
 
-    /// Adds one to the word, and returns its count before. The seat must have added fewer than [`MOST_ADDED`](crate::MOST_ADDED) so far.
+    /// Adds one to the word, and returns its count before. The seat must have added fewer than
+    /// [`MOST_ADDED`](crate::MOST_ADDED) so far.
     pub fn add(&self, seat: &mut CountSeat, word: usize) -> u64
         requires seat { seat.old.counts ≡ self.now }
         requires word { word < self.now.words }
@@ -79,7 +82,8 @@ impl WorkerCounts {
         requires seat { seat.old.counts ≡ self.now }
         requires word { word < self.now.words }
         requires added { 0 < times word seat.old.view.added }
-        ensures view { seat.new ≡ record seat.old { view = after_subtract seat.old.view word result } }
+        ensures view { seat.new
+            ≡ record seat.old { view = after_subtract seat.old.view word result } }
         ensures own { times word seat.old.view.added ≤ result }
     {
         self.table
@@ -87,7 +91,8 @@ impl WorkerCounts {
             .fetch_sub::<SubtractStep>(&mut seat.seat, word, 1)
     }
 
-    /// A new seat of the same counts, of one part of a seat that has another. What that seat has added stays with it.
+    /// A new seat of the same counts, of one part of a seat that has another. What that seat has
+    /// added stays with it.
     pub fn make_seat(&self, seat: &mut CountSeat) -> CountSeat
         requires seat { seat.old.counts ≡ self.now }
         requires parts { 1 < seat.old.view.parts }
@@ -99,7 +104,8 @@ impl WorkerCounts {
         }
     }
 
-    /// Joins another seat to a seat: its parts and what it has added come over. What it has loaded doesn't.
+    /// Joins another seat to a seat: its parts and what it has added come over. What it has loaded
+    /// doesn't.
     pub fn join_seat(&self, seat: &mut CountSeat, other: CountSeat)
         requires seats { (seat.old.counts ≡ self.now) × (other.counts ≡ self.now) }
         requires room { length seat.old.view.added + length other.view.added ≤ MOST_ADDED }
@@ -109,13 +115,15 @@ impl WorkerCounts {
         self.table.shared.join_seat::<Parts>(&mut seat.seat, joined);
     }
 
-    /// The counts as they stand once all seats are joined to one: each word is how often that seat has added to it and not subtracted
-    /// from it since. Where it has subtracted all that was added, each is zero.
+    /// The counts as they stand once all seats are joined to one: each word is how often that seat
+    /// has added to it and not subtracted from it since. Where it has subtracted all that was
+    /// added, each is zero.
     pub fn close(self, seat: CountSeat) -> ClosedCounts
         requires seat { seat.counts ≡ self }
         requires every_part { seat.view.parts ≡ MOST_SEATS }
         ensures words { length result ≡ self.words }
-        ensures counts { (word : ℕ) → word < self.words → slice_index result word ≡ times word seat.view.added }
+        ensures counts { (word : ℕ) → word < self.words → slice_index result word
+            ≡ times word seat.view.added }
         ensures zero { seat.view.added ≡ [] → result ≡ replicate self.words 0 }
     {
         let CountSeat { seat: last } = seat;

@@ -7,9 +7,11 @@ use crate::view::View;
 use atomic_table::Seat;
 use std::marker::Model;
 
-/// A token with which one thread at a time steps on the counts. It has no bytes. Contracts see of which counts it is, and its [`View`].
+/// A token with which one thread at a time steps on the counts. It has no bytes. Contracts see of
+/// which counts it is, and its [`View`].
 ///
-/// A seat that is let go takes its parts with it, so that the counts can't be closed any more, only dropped.
+/// A seat that is let go takes its parts with it, so that the counts can't be closed any more, only
+/// dropped.
 #[derive(Drop)]
 pub struct CountSeat {
     pub(crate) seat: Seat<u8, View>,
@@ -32,8 +34,8 @@ impl Model for CountSeat {
 }
 
 impl CountSeat {
-    /// What the type keeps: a seat has a part, and has added no more than it may, to words that there are. Does nothing; whoever wants to know
-    /// this of a seat calls it.
+    /// What the type keeps: a seat has a part, and has added no more than it may, to words that
+    /// there are. Does nothing; whoever wants to know this of a seat calls it.
     pub fn laws(&self)
         ensures part { 0 < self.now.view.parts }
         ensures few { length self.now.view.added ≤ MOST_ADDED }

@@ -1,8 +1,8 @@
 // What a seat knows.
 use std::collections::LinkedList;
 
-/// The parts into which the counts can be dealt out. A seat has at least one, so it is also the most seats that there are at one time:
-/// one for each of 64 workers, and one for who makes them.
+/// The parts into which the counts can be dealt out. A seat has at least one, so it is also the
+/// most seats that there are at one time: one for each of 64 workers, and one for who makes them.
 pub const MOST_SEATS: u64 = 65;
 
 /// The most words that a seat may have added and not subtracted.

@@ -78,14 +78,16 @@ same_word rows n key of slot number long is low there here same =
 
 -- 1. ONE WORKER.
 
--- What visits have entered is held: of each that has entered a slot the slot holds an entry of its key.
+-- What visits have entered is held: of each that has entered a slot the slot holds an entry of its
+-- key.
 abbrev AreHeld : List (List EntryView) → List FrameView → Type 0
 AreHeld rows fs = (key : Key) (slot : ℕ) → 0 < own_slots (only key slot) fs 1 → HoldsAt (row_of rows key) slot key
 
 abbrev once : Bool → ℕ
 once b = if b then 1 else 0
 
--- The slot that a visit of the key has entered is the one with the key's entry; a visit of another key has entered no slot of its word.
+-- The slot that a visit of the key has entered is the one with the key's entry; a visit of another
+-- key has entered no slot of its word.
 own_one : (rows : List (List EntryView)) (n : ℕ) (key : Key) (slot : ℕ) → n ≡ length rows → IsRow (row_of rows key) → slot < 8 → HoldsAt (row_of rows key) slot key
     → (kept : Option Kept) (of : Key) → ((k : Key) (s : ℕ) → 0 < slot_of (only k s) kept of 1 → HoldsAt (row_of rows k) s k)
     → key_once kept of key ≡ slot_of (word_of n) kept of (word_of n key slot)

@@ -102,7 +102,8 @@ now_held port path (Enter of numbers) (Some (Entered (Slot number))) after key s
     subst (λ (k : Key). HoldsAt (row_of after.rows k) slot k) (sym is.0) (subst (λ (n : ℕ). HoldsAt (row_of after.rows of) n of) (sym is.1) there)
 now_held port path q a after key slot lone turns some = absurd (omega (arith, some))
 
--- Where a worker's slots move by what its event enters and leaves, what all have entered then is held.
+-- Where a worker's slots move by what its event enters and leaves, what all have entered then is
+-- held.
 pub entered_on : (world : World) (place : ℕ) (worker later : WorkerView) (stops : Bool) (path : List Key) (x : Exchange) (after : LonePortView) → IsFair world → IsLone world.port
     → slice_get world.workers place ≡ Some worker → Turns (opened world.port stops) path x.0 x.1 after
     → ((words : Words) (word : ℕ) → own_slots words later.state.frames word + leaves words x word ≡ own_slots words worker.state.frames word + enters words x word)

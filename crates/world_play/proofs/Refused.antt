@@ -82,7 +82,8 @@ refused_one number x b is =
 read_set : (ws : List WorkerView) (place : ℕ) (worker later read : WorkerView) → slice_get ws place ≡ Some worker → read ≡ get_or (set ws place later) place read → read ≡ later
 read_set ws place worker later read there is = is ∙ get_or-set_same ws place later read (slice_get_within ws place worker there)
 
--- What the code counts in a step: from the worker that it read before it, and from the one that it read behind it.
+-- What the code counts in a step: from the worker that it read before it, and from the one that it
+-- read behind it.
 pub step_refused : (world after : World) (number place : ℕ) (worker later : WorkerView) (x : Exchange) (first last : WorkerView) (looks winds : Bool) (refused : ℕ)
     → IsRequest world after number place worker later x → first ≡ get_or world.workers place first → last ≡ get_or (set world.workers place later) place last
     → looks ≡ looks_at first.state.stage → winds ≡ winds_at last.state.stage → refused ≡ (if looks && winds then 1 else 0)

@@ -1,4 +1,5 @@
--- Workers over any port: what it holds, and the units that it gave, are what they have, all together; and what a turn of one of them does.
+-- Workers over any port: what it holds, and the units that it gave, are what they have, all
+-- together; and what a turn of one of them does.
 use Rattle.std.specs.Prelude.{◌≡◌, ◌≤◌, ◌<◌, ◌++◌, ℕ, false, List, [], ◌∷◌, Option, Some, None, IfSome, IfNone, MatchOption, length, slice_get, slice_set}
 use Rattle.search_limits.specs.declared.expansions.TheConstants.{MOST_EXPANSIONS}
 use Rattle.board_core.specs.Board.{Board}
@@ -23,8 +24,8 @@ pub record IsInCrew (position : Board) (worker : WorkerView) : Type 0 where
   pub log : List Exchange
   pub leads : Leads worker.task log worker.state
 
--- The port holds what the workers have entered, all together, and gave the units that they were given, at most a billion (of room nothing is said); and all
--- are in the search of its problem.
+-- The port holds what the workers have entered, all together, and gave the units that they were
+-- given, at most a billion (of room nothing is said); and all are in the search of its problem.
 pub record IsCrew (book : Book) (workers : List WorkerView) : Type 0 where
   pub held : (word : ℕ) → book.held word ≡ all_slots book.words workers word
   pub size : book.size ≡ all_sizes workers
@@ -37,9 +38,10 @@ pub record ChangesAt (workers : List WorkerView) (place : ℕ) (worker next : Wo
   pub there : slice_get workers place ≡ Some worker
   pub others : later ≡ slice_set workers place next
 
--- One request of the worker was answered by the port, and by whatever log it stood, it stands by that log with the request and the answer behind;
--- where it had none, it had ended so, and nothing changes. What the port holds and gave beside the worker's own stays as it was.
--- The port suits the worker as it stands then, and with a request less is still to come.
+-- One request of the worker was answered by the port, and by whatever log it stood, it stands by
+-- that log with the request and the answer behind; where it had none, it had ended so, and nothing
+-- changes. What the port holds and gave beside the worker's own stays as it was. The port suits the
+-- worker as it stands then, and with a request less is still to come.
 pub record IsTurned {P : Type 0} (turn : P → List Key → Request → Option Reply → P → Type 0) (book : P → Book) (port after : P) (worker next : WorkerView) (result : Option WorkEnd) : Type 0 where
   pub events : List Exchange
   pub went : WentBy turn port after worker next events
@@ -49,8 +51,9 @@ pub record IsTurned {P : Type 0} (turn : P → List Key → Request → Option R
   pub less : IfNone result (to_come next.state < to_come worker.state)
   pub ended : IfSome result (λ end. end_of next.state ≡ Some end)
 
--- The worker was starved: by whatever log it stood, it stands by that log still, and by that with a look behind that was refused memory, where it
--- looks. What it has entered and was given stays as it was.
+-- The worker was starved: by whatever log it stood, it stands by that log still, and by that with a
+-- look behind that was refused memory, where it looks. What it has entered and was given stays as
+-- it was.
 pub record IsStarved (worker next : WorkerView) : Type 0 where
   pub starved : next ≡ record { task = worker.task; state = starve worker.state; waiting = false }
   pub log : (log : List Exchange) → Leads worker.task log worker.state → Leads worker.task log next.state

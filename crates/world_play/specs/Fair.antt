@@ -1,4 +1,5 @@
--- What a world keeps whatever happens in it: what the table and the desk count is what its workers have, all together.
+-- What a world keeps whatever happens in it: what the table and the desk count is what its workers
+-- have, all together.
 use Rattle.std.specs.Prelude.{◌≡◌, ◌<◌, ◌+◌, ℕ, zero, suc, false, List, [], ◌∷◌, Option, Some, None, length, slice_get, sum, sum_by, if◌then◌else◌, ◌&&◌, ◌==◌}
 use Rattle.std.specs.Ordering.{is_eq}
 use Rattle.board_core.specs.declared.keys.Key.{Key}
@@ -62,7 +63,8 @@ all_claims workers = sum_by (λ worker. worker.state.claims) workers
 
 -- 2. WHAT A WORLD KEEPS.
 
--- What a worker's end says of the desk: a note is posted, all units were drawn, all room was claimed; the other ends say nothing of it.
+-- What a worker's end says of the desk: a note is posted, all units were drawn, all room was
+-- claimed; the other ends say nothing of it.
 abbrev pub IsToldOf : DeskView → WorkEnd → Type 0
 IsToldOf desk Posted = HasPosted desk
 IsToldOf desk Spent = desk.drawn ≡ desk.expansions
@@ -71,8 +73,8 @@ IsToldOf desk TooHigh = Unit {0}
 IsToldOf desk NoMemory = Unit {0}
 IsToldOf desk Stopped = Unit {0}
 
--- The worker at the place searches the desk's problem under the number of its place, no request of its waits, it stands by some log, and what that
--- log was told of the desk still holds.
+-- The worker at the place searches the desk's problem under the number of its place, no request of
+-- its waits, it stands by some log, and what that log was told of the desk still holds.
 pub record IsMember (desk : DeskView) (place : ℕ) (worker : WorkerView) : Type 0 where
   pub task : worker.task ≡ task_for desk.position (place + 1)
   pub problem : IsTask worker.task
@@ -81,8 +83,10 @@ pub record IsMember (desk : DeskView) (place : ℕ) (worker : WorkerView) : Type
   pub leads : Leads worker.task log worker.state
   pub told : (end : WorkEnd) → HasCause worker.task end log → IsToldOf desk end
 
--- There is a worker, and of each it is known whether a stop was signalled; the count of each word is that of the visits that have entered
--- a slot of it, over all workers, and so is the number of all; each slot that a visit has entered for a key holds an entry of that key; what is drawn and claimed is what the workers were given; and each is a worker of this search.
+-- There is a worker, and of each it is known whether a stop was signalled; the count of each word
+-- is that of the visits that have entered a slot of it, over all workers, and so is the number of
+-- all; each slot that a visit has entered for a key holds an entry of that key; what is drawn and
+-- claimed is what the workers were given; and each is a worker of this search.
 pub record IsFair (world : World) : Type 0 where
   pub some : 0 < length world.workers
   pub raised : length world.raised ≡ length world.workers

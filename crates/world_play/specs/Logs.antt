@@ -9,7 +9,8 @@ abbrev pub told_to : ℕ → List (ℕ × Exchange) → List Exchange
 told_to number [] = []
 told_to number (told ∷ log) = if told.0 == number then told.1 ∷ told_to number log else told_to number log
 
--- The worker is in the search that it was in; and whatever log it was reached by before, it is reached now by that log with what follows behind.
+-- The worker is in the search that it was in; and whatever log it was reached by before, it is
+-- reached now by that log with what follows behind.
 pub record GoesOnBy (worker later : WorkerView) (follows : List Exchange) : Type 0 where
   pub task : later.task ≡ worker.task
   pub reached : (log : List Exchange) → IsReached worker log → IsReached later (log ++ follows)

@@ -25,7 +25,8 @@ use worker_core::Worker;
 
 /// Workers that share one table and one desk, and the stops that were signalled to them.
 ///
-/// It keeps that what the table and the desk count is what its workers have, all together, and what each worker was told of the desk.
+/// It keeps that what the table and the desk count is what its workers have, all together, and what
+/// each worker was told of the desk.
 #[derive(Drop)]
 pub struct World {
     port: LonePort,
@@ -52,10 +53,12 @@ impl Model for World {
 }
 
 impl World {
-    /// The world of a problem and settings before anything happens: its table is empty, and its workers, numbered from 1, haven't asked anything. Takes
-    /// all the table's memory but for that of the notes. Errors: want of memory alone.
+    /// The world of a problem and settings before anything happens: its table is empty, and its
+    /// workers, numbered from 1, haven't asked anything. Takes all the table's memory but for that
+    /// of the notes. Errors: want of memory alone.
     pub fn make(alloc: Global, problem: &Problem, settings: &Settings) -> Result<World, AllocError>
-        ensures { IfOk result (λ world. world ≡ world_at_first problem.now.position (settings_in settings.now)) }
+        ensures { IfOk result (λ world. world
+            ≡ world_at_first problem.now.position (settings_in settings.now)) }
     {
         problem.position.laws();
         let port = LonePort::make(alloc, problem, settings)?;
@@ -73,11 +76,14 @@ impl World {
         })
     }
 
-    /// Has the events of a schedule happen, one after the other, and says how many looks were refused memory in this call. An event of a worker that
-    /// isn't there, or that has ended, changes nothing; a look that is refused memory starves its worker.
+    /// Has the events of a schedule happen, one after the other, and says how many looks were
+    /// refused memory in this call. An event of a worker that isn't there, or that has ended,
+    /// changes nothing; a look that is refused memory starves its worker.
     pub fn play(&mut self, alloc: Global, events: &[Event]) -> usize
-        // Whatever log a worker was reached by, it is reached now by that log with its own requests and answers of this call behind.
-        ensures { (log : List (ℕ × Exchange)) × Plays self.old events.now log self.new × GoOnBy self.old.workers log self.new.workers
+        // Whatever log a worker was reached by, it is reached now by that log with its own requests
+        // and answers of this call behind.
+        ensures { (log : List (ℕ × Exchange)) × Plays self.old events.now log self.new
+            × GoOnBy self.old.workers log self.new.workers
             × (refused_looks log ≡ result) }
     {
         let mut refused = 0;
@@ -89,7 +95,8 @@ impl World {
 
     // Has one event happen, and says how many looks were refused memory in it.
     fn happen(&mut self, alloc: Global, event: Event) -> usize
-        ensures played { (log : List (ℕ × Exchange)) × Happens self.old event log self.new × GoOnBy self.old.workers log self.new.workers
+        ensures played { (log : List (ℕ × Exchange)) × Happens self.old event log self.new
+            × GoOnBy self.old.workers log self.new.workers
             × (refused_looks log ≡ result) }
         ensures one { result ≤ 1 }
     {
@@ -108,7 +115,8 @@ impl World {
 
     // The place of the worker of this number, if it is there and hasn't ended.
     fn at_work(&self, number: u32) -> Option<usize>
-        ensures some { IfSome result (λ place. (worker : WorkerView) × IsAtWork self.now number place worker) }
+        ensures some { IfSome result (λ place. (worker : WorkerView)
+            × IsAtWork self.now number place worker) }
         ensures none { IfNone result (IsIdle self.now number) }
     {
         let number = number as usize;
@@ -125,9 +133,11 @@ impl World {
         }
     }
 
-    // Has the request of the worker of this number answered, and says how many looks were refused memory: 1 where this one was.
+    // Has the request of the worker of this number answered, and says how many looks were refused
+    // memory: 1 where this one was.
     fn step(&mut self, alloc: Global, number: u32) -> usize
-        ensures played { (log : List (ℕ × Exchange)) × Happens self.old (Step number) log self.new × GoOnBy self.old.workers log self.new.workers
+        ensures played { (log : List (ℕ × Exchange)) × Happens self.old (Step number) log self.new
+            × GoOnBy self.old.workers log self.new.workers
             × (refused_looks log ≡ result) }
         ensures one { result ≤ 1 }
     {
@@ -147,7 +157,8 @@ impl World {
 
     // Signals a stop to the worker of this number.
     fn raise(&mut self, number: u32)
-        ensures { (log : List (ℕ × Exchange)) × Happens self.old (Raise number) log self.new × GoOnBy self.old.workers log self.new.workers
+        ensures { (log : List (ℕ × Exchange)) × Happens self.old (Raise number) log self.new
+            × GoOnBy self.old.workers log self.new.workers
             × (refused_looks log ≡ 0) }
     {
         let Some(place) = self.at_work(number) else {
@@ -158,7 +169,8 @@ impl World {
 
     // Starves the worker of this number.
     fn starve(&mut self, number: u32)
-        ensures { (log : List (ℕ × Exchange)) × Happens self.old (Starve number) log self.new × GoOnBy self.old.workers log self.new.workers
+        ensures { (log : List (ℕ × Exchange)) × Happens self.old (Starve number) log self.new
+            × GoOnBy self.old.workers log self.new.workers
             × (refused_looks log ≡ 0) }
     {
         let Some(place) = self.at_work(number) else {
@@ -168,8 +180,8 @@ impl World {
         worker.starve();
     }
 
-    /// Its table with its desk, and its workers, for whoever has them go on over a port that wraps these. The signalled stops are let go. Takes no
-    /// memory.
+    /// Its table with its desk, and its workers, for whoever has them go on over a port that wraps
+    /// these. The signalled stops are let go. Takes no memory.
     pub fn into_crew(self) -> (LonePort, Vec<Worker>)
         ensures port { result.0 ≡ self.port }
         ensures workers { result.1.items ≡ self.workers }
@@ -202,10 +214,13 @@ impl World {
         self.workers.get(number as usize - 1)
     }
 
-    /// Laws: what every world keeps, and what follows. What the table and the desk count is what the workers have, all together; no more is drawn or
-    /// claimed than there is, and what is posted answers the problem; all notes are for its attacker, and each entry is true. Each slot that a visit has entered still holds its key's
-    /// entry. What each worker knows is sound, and how it ended is so of the desk. Once all have ended nothing is entered any more, and there is a
-    /// reason. Does nothing; whoever reads a world calls it to know this. Takes no memory.
+    /// Laws: what every world keeps, and what follows. What the table and the desk count is what
+    /// the workers have, all together; no more is drawn or claimed than there is, and what is
+    /// posted answers the problem; all notes are for its attacker, and each entry is true. Each
+    /// slot that a visit has entered still holds its key's entry. What each worker knows is sound,
+    /// and how it ended is so of the desk. Once all have ended nothing is entered any more, and
+    /// there is a reason. Does nothing; whoever reads a world calls it to know this. Takes no
+    /// memory.
     pub fn laws(&self)
         ensures fair { IsFair self.now }
         ensures desk { IsDesk self.now.port.desk }
@@ -224,8 +239,8 @@ impl World {
         self.port.laws();
     }
 
-    /// How many visits of the key's position are going on that have entered it in the table, over all workers: the count of its entry's slot. Takes
-    /// no memory.
+    /// How many visits of the key's position are going on that have entered it in the table, over
+    /// all workers: the count of its entry's slot. Takes no memory.
     pub fn below(&self, key: &Key) -> u64
         ensures { result ≡ all_below self.now.workers key.now }
     {
@@ -259,7 +274,8 @@ impl World {
 fn take_stop(raised: &mut Vec<bool>, place: usize, polls: bool) -> bool
     requires { place < length raised.old.items }
     ensures stops { result ≡ slice_index_or raised.old.items place false }
-    ensures told { raised.new.items ≡ (if polls then slice_set raised.old.items place false else raised.old.items) }
+    ensures told { raised.new.items
+        ≡ (if polls then slice_set raised.old.items place false else raised.old.items) }
 {
     let stops = raised[place];
     if polls {
@@ -268,7 +284,8 @@ fn take_stop(raised: &mut Vec<bool>, place: usize, polls: bool) -> bool
     stops
 }
 
-// How many looks were refused memory in a step, by whether the worker looked before it and winds up behind it: what a look shows never has it wind up.
+// How many looks were refused memory in a step, by whether the worker looked before it and winds up
+// behind it: what a look shows never has it wind up.
 fn refusals(looked: bool, winds: bool) -> usize
     ensures { result ≡ (if looked && winds then 1 else 0) }
 {

@@ -34,8 +34,8 @@ fn a_printed_verdict_is_accepted(rt: HostRuntime) -> Result<(), Fail> {
 
 #[test]
 fn no_certificate_has_more_entries_than_the_room(rt: HostRuntime) -> Result<(), Fail> {
-    // A problem, and a room that is too small for it: none for a mate of one move; a mate of three moves lists four
-    // positions.
+    // A problem, and a room that is too small for it: none for a mate of one move; a mate of three
+    // moves lists four positions.
     let table = [(GOLD, 0), (TWO_ROOKS, 3)];
     for (problem, least) in table {
         let mut too_small = 0;

@@ -26,8 +26,8 @@ const DIAGRAM: &str = "# KIF
 手数----指手---------消費時間--
 ";
 
-// A run on these words and the diagram with one text in place of another keeps this, or has this fault. A
-// byte-order mark stands in front of the diagram, and each line ends with CR LF.
+// A run on these words and the diagram with one text in place of another keeps this, or has this
+// fault. A byte-order mark stands in front of the diagram, and each line ends with CR LF.
 fn diagram_gives<R: Abort + Threads + Wait + AllocGlobal + Sync>(
     rt: &R,
     words: &str,

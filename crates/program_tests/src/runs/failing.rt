@@ -12,8 +12,9 @@ const ONE: (&str, &str, &str) = ("solve", GOLD, GOLD_TEXT);
 
 const ALL: (&str, &str, &str) = ("collection", MANY, MANY_TEXT);
 
-// A run whose source and sink, of such pieces, fail at the calls of these numbers, 0 for none, ends with this
-// status, and the sink has kept the answer to this place. Only where the source failed there is no answer.
+// A run whose source and sink, of such pieces, fail at the calls of these numbers, 0 for none, ends
+// with this status, and the sink has kept the answer to this place. Only where the source failed
+// there is no answer.
 fn cut<R: Abort + Threads + Wait + AllocGlobal + Sync>(
     rt: &R,
     run: (&str, &str, &str),
@@ -66,8 +67,8 @@ fn an_outside_that_fails_at_any_call_is_told(rt: HostRuntime) -> Result<(), Fail
 
 #[test]
 fn a_collection_that_is_cut_short_has_kept_a_prefix(rt: HostRuntime) -> Result<(), Fail> {
-    // How much the sink has kept when it fails at its first call, its second, and so on: pieces of 11 bytes, and the
-    // ends of lines.
+    // How much the sink has kept when it fails at its first call, its second, and so on: pieces of
+    // 11 bytes, and the ends of lines.
     let kept = [0, 11, 12, 23, 34, 45, 56, 57, 68, 79, 90, 101];
     for (calls, kept) in kept.into_iter().enumerate() {
         let call = calls as u64 + 1;

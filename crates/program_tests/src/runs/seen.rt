@@ -13,8 +13,8 @@ use std::thread::Threads;
 use tsume_app::{Ended, WordsRead, run};
 use tsume_io::{MemSink, MemSource};
 
-// What a run did: its status, whether it has an answer, what the user is told beside it, how many bytes of its
-// input it kept where it failed, and what the sink kept.
+// What a run did: its status, whether it has an answer, what the user is told beside it, how many
+// bytes of its input it kept where it failed, and what the sink kept.
 #[derive(Drop)]
 pub(crate) struct Seen {
     pub(crate) status: u8,
@@ -51,7 +51,8 @@ fn answer_and_input(ended: &Ended) -> (bool, usize) {
     }
 }
 
-// What the user is told in words: of refused words all, else the first line, without what explains it.
+// What the user is told in words: of refused words all, else the first line, without what explains
+// it.
 fn words_told(alloc: Global, ended: &Ended) -> Result<String, Fail> {
     let text = String::from_utf8(ended.told(alloc)?)?;
     let words = text.as_str().strip_prefix("tsume: ").unwrap_or("");
@@ -62,7 +63,8 @@ fn words_told(alloc: Global, ended: &Ended) -> Result<String, Fail> {
     Ok(String::from_str(alloc, words)?)
 }
 
-// A stop for each worker that there may be; the first signals at its poll of this number, 0 for none.
+// A stop for each worker that there may be; the first signals at its poll of this number, 0 for
+// none.
 pub(crate) fn stops_at(alloc: Global, poll: u64) -> Result<Vec<MemStop>, AllocError>
     ensures { IfOk result (λ stops. vec_len stops ≡ MOST_WORKERS) }
 {
@@ -74,8 +76,8 @@ pub(crate) fn stops_at(alloc: Global, poll: u64) -> Result<Vec<MemStop>, AllocEr
     Ok(stops)
 }
 
-// A run on the words of a line, with a source and a sink of these pieces that fail at the calls of these
-// numbers, 0 for none.
+// A run on the words of a line, with a source and a sink of these pieces that fail at the calls of
+// these numbers, 0 for none.
 pub(crate) fn seen_of<R: Threads + Wait + AllocGlobal + Sync>(
     rt: &R,
     line: &str,

@@ -11,7 +11,8 @@ use std::alloc::{AllocError, Global};
 use std::sync::atomic::{AtomicU64, Ordering};
 use std::test::Fail;
 
-// A gate that counts how often it is passed, and how often not as the first worker with the next number.
+// A gate that counts how often it is passed, and how often not as the first worker with the next
+// number.
 #[derive(Drop)]
 struct Counting {
     passed: AtomicU64,
@@ -73,8 +74,8 @@ fn deadlines(alloc: Global) -> Result<Vec<DeadlineStop<TickingClock>>, AllocErro
     Ok(stops)
 }
 
-// Words, and the status and what is kept: the clock is read when the stop is armed and at each poll, once before
-// each unit.
+// Words, and the status and what is kept: the clock is read when the stop is armed and at each
+// poll, once before each unit.
 static UNTIL: [(&str, u8, &str); 5] = [
     (
         "solve --deadline 1",

@@ -10,7 +10,8 @@ use std::thread::Threads;
 use tsume_app::{WordsRead, run_and_tell};
 use tsume_io::{MemSink, MemSource};
 
-// Words, an input, the failing call of the sink and of the user's sink; the status, and what the user is told.
+// Words, an input, the failing call of the sink and of the user's sink; the status, and what the
+// user is told.
 static TOLD: [(&str, &str, u64, u64, u8, &str); 9] = [
     ("solve", GOLD, 0, 0, 0, ""),
     ("solve --expansions 1", TWO_ROOKS, 0, 0, 1, ""),
@@ -58,8 +59,8 @@ static TOLD: [(&str, &str, u64, u64, u8, &str); 9] = [
     ("check", GOLD, 0, 2, 3, "tsume: bad "),
 ];
 
-// The status of a run on the words of a line, with sinks that fail at the calls of these numbers, and what the
-// user's has kept.
+// The status of a run on the words of a line, with sinks that fail at the calls of these numbers,
+// and what the user's has kept.
 fn told<R: Threads + Wait + AllocGlobal + Sync>(
     rt: &R,
     line: &str,

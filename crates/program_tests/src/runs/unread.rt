@@ -6,8 +6,9 @@ use crate::same::same;
 use std::test::Fail;
 use tsume_app::{WordsRead, named_file};
 
-// Words, the sink's failing call, the status, and a text and a part of one: where the words are refused the
-// whole answer and a part of what the user is told, otherwise what the user is told and a part of the answer.
+// Words, the sink's failing call, the status, and a text and a part of one: where the words are
+// refused the whole answer and a part of what the user is told, otherwise what the user is told and
+// a part of the answer.
 static UNREAD: [(&str, u64, u8, &str, &str); 16] = [
     ("", 0, 2, "", "Usage"),
     ("mate", 0, 2, "", "mate"),

@@ -18,10 +18,12 @@ use worker_core::{Port, Worker, work};
 // Tells the table a note, as a worker does that leaves its position.
 fn learn(port: &mut LonePort, problem: &Problem, note: Note)
     requires some { (worker : WorkerView) × Suits worker (book_of port.old) }
-    requires suits { (number : ℕ) → Suits (worker_at_first problem.now.position number) (book_of port.old) }
+    requires suits { (number : ℕ)
+        → Suits (worker_at_first problem.now.position number) (book_of port.old) }
     requires first { (book_of port.old).units ≡ 0 }
     requires attacker { attacker_of note ≡ (book_of port.old).problem.side }
-    ensures { (number : ℕ) → Suits (worker_at_first problem.now.position number) (book_of port.new) }
+    ensures { (number : ℕ)
+        → Suits (worker_at_first problem.now.position number) (book_of port.new) }
 {
     let key = key(note.position());
     let kept = port.enter(&key, Numbers::ONE);
@@ -35,7 +37,8 @@ fn told(
     settings: &Settings,
     known: Option<Note>,
 ) -> Result<LonePort, AllocError>
-    ensures suits { IfOk result (λ port. (number : ℕ) → Suits (worker_at_first problem.now.position number) (book_of port)) }
+    ensures suits { IfOk result (λ port. (number : ℕ)
+        → Suits (worker_at_first problem.now.position number) (book_of port)) }
 {
     let mut port = LonePort::make(alloc, problem, settings)?;
     let Some(note) = known else {

@@ -35,7 +35,8 @@ impl Scripted {
         stop_at: u64,
         dark_at: u64,
     ) -> Result<Scripted, AllocError>
-        ensures suits { IfOk result (λ scripted. (number : ℕ) → Suits (worker_at_first problem.now.position number) (book_of scripted.port)) }
+        ensures suits { IfOk result (λ scripted. (number : ℕ)
+            → Suits (worker_at_first problem.now.position number) (book_of scripted.port)) }
     {
         let port = LonePort::make(alloc, problem, settings)?;
         Ok(Scripted {

@@ -76,7 +76,8 @@ fn repeated(alloc: Global, problem: &Problem, position: &Position, evasion: Move
 // Whether the attacker is to move and has no check.
 fn ends_in_escape(alloc: Global, problem: &Problem, position: &Position) -> Result<bool, AllocError>
     requires { IsQuiet position.now }
-    ensures { IfOk result (λ ends. IsTrue ends → EndsInEscape problem.now.position.side position.now) }
+    ensures { IfOk result (λ ends. IsTrue ends
+        → EndsInEscape problem.now.position.side position.now) }
 {
     if position.side() != problem.attacker() {
         return Ok(false);

@@ -1,4 +1,5 @@
--- What is written is read, numbers rise, none that is listed is skipped, and there are no more than bytes.
+-- What is written is read, numbers rise, none that is listed is skipped, and there are no more than
+-- bytes.
 use Rattle.std.proofs.Common.{sym, ap, ◌∙◌, arith}
 use Rattle.std.specs.Str.Lines.{lines}
 use Rattle.problem_lines.specs.Lines.{problems_among}

@@ -1,4 +1,5 @@
--- A line that is skipped only counts; the first other one is given; and a text that is read whole has none.
+-- A line that is skipped only counts; the first other one is given; and a text that is read whole
+-- has none.
 use Rattle.std.proofs.Common.{◌≡◌, ◌∷◌, [], ◌+◌, ℕ, true, false, nat_lt, List, length, sym, ap, ◌∙◌, arith}
 use Rattle.std.specs.Str.Lines.{lines}
 use Rattle.std.proofs.lemmas.Bool.{eqb-true}

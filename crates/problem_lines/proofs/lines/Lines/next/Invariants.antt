@@ -1,4 +1,5 @@
--- What is left to come stays the same from line to line, till one is given; each line takes a byte at least.
+-- What is left to come stays the same from line to line, till one is given; each line takes a byte
+-- at least.
 use Rattle.std.proofs.Common.{◌≡◌, ◌+◌, ◌≤◌, ◌^◌, length}
 use Rattle.std.specs.Str.Lines.{lines}
 use Rattle.problem_lines.specs.Lines.{problems_among}

@@ -1,8 +1,8 @@
 #!/usr/bin/env python3
 """Writes crates/bit_boards/src/tables.rt: the sets of squares that bit_boards looks up.
 
-usage: docs/make_masks.py            writes the file
-       docs/make_masks.py --check    ends with 1 where the file isn't what would be written
+usage: tools/make_masks.py            writes the file
+       tools/make_masks.py --check    ends with 1 where the file isn't what would be written
 
 Nothing rests on this script: each table is proved equal to its plain definition.
 """
@@ -135,7 +135,7 @@ def going():
 
 def written():
     squares = range(81)
-    lines = ["// Written by docs/make_masks.py. Do not edit.", ""]
+    lines = ["// Written by tools/make_masks.py. Do not edit.", ""]
     lines += ["use crate::Direction::{self, Down, DownLeft, DownRight, Left, Right, Up, UpLeft, UpRight};", ""]
     lines += nested("All squares that lie in a direction from each square.", "RAYS", [(name, [ray(s, d) for s in squares]) for name, d in zip(NAMES, DIRECTIONS)])
     lines += toward()
@@ -150,7 +150,7 @@ def main():
     text = written()
     if sys.argv[1:] == ["--check"]:
         if open(TABLES, encoding="utf-8").read() != text:
-            sys.exit("crates/bit_boards/src/tables.rt isn't what docs/make_masks.py writes")
+            sys.exit("crates/bit_boards/src/tables.rt isn't what tools/make_masks.py writes")
     else:
         open(TABLES, "w", encoding="utf-8").write(text)
 
