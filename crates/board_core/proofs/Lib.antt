@@ -16,3 +16,4 @@ pub mod Squares
 pub mod Packed
 pub mod Changed
 pub mod Built
+pub mod Tallied

@@ -1,7 +1,7 @@
 // Positions from their parts.
-ghost use Rattle.std.specs.Prelude.{◌≡◌, ◌≢◌, ◌<◌, ◌≤◌, ◌↔◌, ℕ, None, IsTrue, IfSome, IfOk};
+ghost use Rattle.std.specs.Prelude.{◌≡◌, ◌≢◌, ◌<◌, ◌≤◌, ◌+◌, ◌↔◌, ℕ, None, IsTrue, IfSome, IfOk};
 ghost use Rattle.bit_boards.specs.Kind.{place_of, total_of};
-ghost use Rattle.board_core.specs.Board.{Board, count_of, HasDefender};
+ghost use Rattle.board_core.specs.Board.{Board, hand_count, HasDefender};
 ghost use Rattle.board_core.specs.Kept.{TwoPawnsOn};
 ghost use Rattle.board_core.specs.Build.{IsBuilt};
 ghost use Rattle.bit_boards.specs.declared.piece.Kind.{Kind};
@@ -9,7 +9,8 @@ ghost use Rattle.bit_boards.specs.declared.piece.Kind.TheVariants.{King};
 ghost use Rattle.bit_boards.specs.declared.piece.Side.{Side};
 ghost use Rattle.bit_boards.specs.declared.piece.Side.TheVariants.{Black};
 
-use crate::scan::{count_kind, count_kings, first_dead, first_pawn};
+use crate::scan::{first_dead, first_pawn};
+use crate::tally::{Tally, by_side};
 use crate::{Hand, Kind, Piece, Position, Side, Square};
 
 /// Why cells, hands and a side make no position: the first fault that is there, in the order of the
@@ -47,16 +48,21 @@ impl Position {
         // The defender has a king.
         ensures defender { IfOk result HasDefender }
     {
-        if let Some(kind) = first_too_many(cells, black, white) {
+        let Tally {
+            kinds: standing,
+            black_kings,
+            white_kings,
+        } = Tally::of(cells);
+        if let Some(kind) = first_too_many(standing, black, white) {
             return Err(BadPosition::TooMany(kind));
         }
-        if count_kings(cells, side.other()) == 0 {
+        if by_side(side.other(), black_kings, white_kings) == 0 {
             return Err(BadPosition::NoDefenderKing);
         }
-        if count_kings(cells, Side::Black) > 1 {
+        if black_kings > 1 {
             return Err(BadPosition::TwoKings);
         }
-        if count_kings(cells, Side::White) > 1 {
+        if white_kings > 1 {
             return Err(BadPosition::TwoKings);
         }
         if let Some(square) = first_dead(cells) {
@@ -72,32 +78,29 @@ impl Position {
     }
 }
 
-// Whether there are more pieces of the kind than a set has.
-fn is_too_many(cells: &[Option<Piece>; 81], black: Hand, white: Hand, kind: Kind) -> bool
+// Whether there are more pieces of the kind than a set has: of so many on the board and in the hands.
+fn is_too_many(standing: Hand, black: Hand, white: Hand, kind: Kind) -> bool
     requires { kind ≢ King }
-    ensures { IsTrue result
-        ↔ (total_of kind < count_of
-        (record { cells = cells.now; black = black; white = white; side = Black }) kind) }
+    ensures { IsTrue result ↔ (total_of kind
+        < hand_count standing kind + hand_count black kind + hand_count white kind) }
 {
     let in_hand = usize::from(black.count(kind)) + usize::from(white.count(kind));
-    count_kind(cells, kind) + in_hand > usize::from(kind.total())
+    usize::from(standing.count(kind)) + in_hand > usize::from(kind.total())
 }
 
-// The first kind, in their order, of which there are more pieces than a set has.
-fn first_too_many(cells: &[Option<Piece>; 81], black: Hand, white: Hand) -> Option<Kind>
+// The first kind, in their order, of which there are more pieces than a set has: of so many on the
+// board and in the hands.
+fn first_too_many(standing: Hand, black: Hand, white: Hand) -> Option<Kind>
     ensures none { result ≡ None → (k : Kind) → k ≢ King
-        → count_of (record { cells = cells.now; black = black; white = white; side = Black }) k ≤
-        total_of k }
+        → hand_count standing k + hand_count black k + hand_count white k ≤ total_of k }
     ensures not_king { IfSome result (λ k. k ≢ King) }
     ensures some { IfSome result
-        (λ k. total_of k < count_of
-        (record { cells = cells.now; black = black; white = white; side = Black }) k) }
+        (λ k. total_of k < hand_count standing k + hand_count black k + hand_count white k) }
     ensures first { IfSome result (λ k. (j : Kind) → place_of j < place_of k
-        → count_of (record { cells = cells.now; black = black; white = white; side = Black }) j ≤
-        total_of j) }
+        → hand_count standing j + hand_count black j + hand_count white j ≤ total_of j) }
 {
     for kind in Kind::IN_HAND {
-        if is_too_many(cells, black, white, kind) {
+        if is_too_many(standing, black, white, kind) {
             return Some(kind);
         }
     }

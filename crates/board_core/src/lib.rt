@@ -20,6 +20,7 @@ mod pack;
 mod position;
 mod scan;
 mod sets;
+mod tally;
 
 pub use bit_boards::{Kind, Piece, Side, Square};
 pub use build::BadPosition;

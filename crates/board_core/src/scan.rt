@@ -1,9 +1,9 @@
 // Looks through the 81 cells of a board.
-ghost use Rattle.std.specs.Prelude.{◌≡◌, ◌<◌, ◌≤◌, ℕ, None, IfSome, count_by, true, false};
+ghost use Rattle.std.specs.Prelude.{◌≡◌, ◌<◌, ◌≤◌, ℕ, None, IfSome, true, false};
 ghost use Rattle.bit_boards.specs.Kind.{same_kind, same_side};
 ghost use Rattle.bit_boards.specs.Piece.{is_dead};
 ghost use Rattle.board_core.specs.Sets.{is_of_side, is_king, is_pawn, is_slider};
-ghost use Rattle.board_core.specs.Board.{piece_at, is_of_kind, is_king_of, is_pawn_of};
+ghost use Rattle.board_core.specs.Board.{piece_at, is_of_kind, is_pawn_of};
 
 use crate::{Kind, Piece, Side, Square};
 
@@ -28,15 +28,6 @@ pub(crate) fn is_of_kind(kind: Kind, cell: Option<Piece>) -> bool
 {
     match cell {
         Some(piece) => same_kind(piece.kind, kind),
-        None => false,
-    }
-}
-
-fn is_king_of(side: Side, cell: Option<Piece>) -> bool
-    ensures { result ≡ is_king_of side cell }
-{
-    match cell {
-        Some(piece) => same_kind(piece.kind, Kind::King) && same_side(piece.side, side),
         None => false,
     }
 }
@@ -110,21 +101,6 @@ pub(crate) fn at(cells: &[Option<Piece>; 81], square: u8) -> Option<Piece>
     ensures { result ≡ piece_at cells.now square }
 {
     cells[square as usize]
-}
-
-/// How many pieces of a kind, promoted or not, of both sides, stand in the cells.
-pub(crate) fn count_kind(cells: &[Option<Piece>; 81], kind: Kind) -> usize
-    ensures count { result ≡ count_by (is_of_kind kind) cells.now }
-    ensures small { result ≤ 81 }
-{
-    cells.iter().filter(|cell| is_of_kind(kind, **cell)).count()
-}
-
-/// How many kings of a side stand in the cells.
-pub(crate) fn count_kings(cells: &[Option<Piece>; 81], side: Side) -> usize
-    ensures { result ≡ count_by (is_king_of side) cells.now }
-{
-    cells.iter().filter(|cell| is_king_of(side, **cell)).count()
 }
 
 /// The first square with a piece that could never move again.

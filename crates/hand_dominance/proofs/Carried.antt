@@ -11,7 +11,7 @@ use Rattle.list_laws.proofs.Standing.{in_first, none_in_none}
 use Rattle.shogi_rules.specs.Rules.{after, IsInCheck}
 use Rattle.shogi_rules.specs.Tsume.{IsCheck, IsEvasion}
 use Rattle.mate_def.specs.Mate.{RankAtMost, IsMatedWithin, IsClosed, HasEvasionTo, Escapes, CanEvadeTo}
-use Rattle.mate_def.proofs.Joining.{in_front, later, first}
+use Rattle.mate_def.proofs.Offered.{in_front, later, first}
 use Rattle.hand_dominance.specs.Dominance.{Dominates}
 use Rattle.hand_dominance.proofs.Hands.{less_by, more_by, Fits, back_down, back_up, left_fits, fits_by, kind_at, less_count, more_count}
 use Rattle.hand_dominance.proofs.Moves.{handed, same_board, legal_as, own_after, its_after, kept_after, after_handed, Could, could, hand_by, hand_less, hand_fits, hand_more}

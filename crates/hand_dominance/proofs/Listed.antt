@@ -7,7 +7,7 @@ use Rattle.board_core.specs.Board.{Board, hand_count, hand_of}
 use Rattle.board_core.specs.Kept.{IsKept}
 use Rattle.shogi_rules.specs.Rules.{after}
 use Rattle.shogi_rules.specs.Tsume.{IsCheck, IsEvasion}
-use Rattle.shogi_rules.proofs.KeptAfter as keeping
+use Rattle.shogi_rules.proofs.Offered.{kept_after}
 use Rattle.mate_def.specs.Mate.{after_both, RankAtMost}
 use Rattle.mate_facts.specs.declared.entry.MateEntry.{MateEntry}
 use Rattle.hand_dominance.specs.Dominance.{Dominates}
@@ -43,7 +43,7 @@ above_shifted attacker less more b black white s = record {
 both_kept : (attacker : Side) (b : Board) (check evasion : Move) → IsKept b → IsCheck attacker b check → IsEvasion attacker (after b check) evasion
     → IsKept (after_both b check evasion)
 both_kept attacker b check evasion k is answers =
-    keeping.kept_after (after b check) evasion (keeping.kept_after b check k is.legal) answers.legal
+    kept_after (after b check) evasion (kept_after b check k is.legal) answers.legal
 
 -- 2. MATES.
 
