@@ -17,7 +17,7 @@ pub fn places_of<E: Entry>(
         (map (E.form certificate.now.problem).at certificate.now.entries)) }
     ensures kept { IsListing (E.form certificate.now.problem) certificate.now }
 {
-    let mut places = Places::new(alloc);
+    let mut places = Places::with_room(alloc, certificate.entries().len())?;
     for entry in certificate.entries() {
         places.add(entry.position())?;
     }

@@ -47,6 +47,16 @@ fn positions_are_found_by_themselves(rt: HostRuntime) -> Result<(), Fail> {
 }
 
 #[test]
+fn room_lists_nothing_by_itself(rt: HostRuntime) -> Result<(), Fail> {
+    let mut places = Places::with_room(rt.alloc(), 1)?;
+    for (place, text) in LISTED.iter().enumerate() {
+        same(&rt, *text, places.find(&problem(&rt, text).position), None);
+        same(&rt, *text, places.add(&problem(&rt, text).position)?, place);
+    }
+    Ok(())
+}
+
+#[test]
 fn positions_are_found_by_their_boards(rt: HostRuntime) -> Result<(), Fail> {
     let mut places = BoardPlaces::new(rt.alloc());
     for _ in 0..2 {

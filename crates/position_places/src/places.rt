@@ -26,6 +26,16 @@ impl Places {
         }
     }
 
+    /// The places of no position, with room for so many: they take no more memory till more are
+    /// listed. Errors: want of memory alone.
+    pub fn with_room(alloc: Global, count: usize) -> Result<Places, AllocError>
+        ensures { IfOk result (λ places. ArePlacesOf places []) }
+    {
+        Ok(Places {
+            by_key: HashMap::with_capacity(alloc, count)?,
+        })
+    }
+
     /// The place of the position: where it isn't listed yet, it is listed behind the others, and
     /// its place is how many they were. Errors: want of memory alone, and then the places stay as
     /// they were.
