@@ -24,8 +24,8 @@ use Rattle.one_run.specs.Run.{IsEnded, IsWellPosed}
 use Rattle.one_run.specs.Stops.{Signals}
 use Rattle.one_run.proofs.Offered.{took_it, unbegun_run}
 use Rattle.cmd_check.specs.Answer.{IsJudged, IsTrueOfCertificate}
-use Rattle.cmd_check.specs.Asked.{IsGivenFault, IsGivenProblem, IsJudgedFor, IsProblemAsked, given_form}
-use Rattle.cmd_check.specs.Headline.{IsBrokenOff, IsCertificateGiven, IsCheckRun, IsValidText}
+use Rattle.cmd_check.specs.Asked.{IsFaultInWords, IsProblemInWords, IsJudgedFor, AnyProblemIsSound, given_form}
+use Rattle.cmd_check.specs.Headline.{IsBrokenOff, HasCertificateLeft, IsCheckRun, IsValidText}
 use Rattle.cmd_check.specs.Meaning.{check_meaning}
 
 -- a certificate has one verdict for a problem
@@ -33,12 +33,12 @@ abbrev VerdictOnce : Type 0
 VerdictOnce = (c : Certificate) (p : Board) (one other : Verdict) → IsVerdict c p one → IsVerdict c p other → one ≡ other
 
 -- where the words give a problem with a fault, that is what is found
-pub stopped_is : OneReading → (text : Option (List ℕ)) (r : Result (Option GivenProblem) ProblemFault) → MatchResult r (IsGivenProblem text) (IsGivenFault text)
-    → (fault : ProblemFault) → IsGivenFault text fault → r ≡ Err fault
-stopped_is one None r found fault s = absurd s
-stopped_is one (Some text) (Ok None) found fault s = absurd found
-stopped_is one (Some text) (Ok (Some p)) found fault s = let same = one given_form text (Ok p.position) (Err fault) found s in absurd (cc)
-stopped_is one (Some text) (Err f) found fault s = let same = one given_form text (Err f) (Err fault) found s in let is : f ≡ fault = cc in ap Err is
+pub failed_is : OneReading → (text : Option (List ℕ)) (r : Result (Option GivenProblem) ProblemFault) → MatchResult r (IsProblemInWords text) (IsFaultInWords text)
+    → (fault : ProblemFault) → IsFaultInWords text fault → r ≡ Err fault
+failed_is one None r found fault s = absurd s
+failed_is one (Some text) (Ok None) found fault s = absurd found
+failed_is one (Some text) (Ok (Some p)) found fault s = let same = one given_form text (Ok p.position) (Err fault) found s in absurd (cc)
+failed_is one (Some text) (Err f) found fault s = let same = one given_form text (Err f) (Err fault) found s in let is : f ≡ fault = cc in ap Err is
 
 -- a certificate is judged for one problem
 one_judged_for : OneReading → (text : Option (List ℕ)) (c d : Certificate) (p q : Board) → c ≡ d → IsJudgedFor text c p → IsJudgedFor text d q → p ≡ q
@@ -133,7 +133,7 @@ told_of reading once problem stops source sink input judgement (Failed Read i) e
 told_of reading once problem stops source sink input judgement (Failed NoMemory i) ended told whole is = absurd (whole tt)
 
 -- what is a certificate's text has no fault
-pub posed_of : (problem : Option (List ℕ)) (left : Option (List ℕ)) → IsCertificateGiven left → IsWellPosed (check_meaning problem) left
+pub posed_of : (problem : Option (List ℕ)) (left : Option (List ℕ)) → HasCertificateLeft left → IsWellPosed (check_meaning problem) left
 posed_of problem left given = record {
   input = given.input;
   told = given.told;
@@ -151,10 +151,10 @@ unbegun_check problem source sink unread unwritten = record {
 }
 
 -- a problem that the words give, and that is one, has no fault
-pub asked_has_no_fault : OneReading → (problem : Option (List ℕ)) (c : Certificate) (p : Board) (f : ProblemFault) → IsJudgedFor problem c p → IsGivenFault problem f → ⊥
+pub asked_has_no_fault : OneReading → (problem : Option (List ℕ)) (c : Certificate) (p : Board) (f : ProblemFault) → IsJudgedFor problem c p → IsFaultInWords problem f → ⊥
 asked_has_no_fault one None c p f s t = t
 asked_has_no_fault one (Some text) c p f s t = let same = one given_form text (Ok p) (Err f) s t in absurd (cc)
 
-pub posed_has_no_fault : OneReading → (problem : Option (List ℕ)) (f : ProblemFault) → IsProblemAsked problem → IsGivenFault problem f → ⊥
+pub posed_has_no_fault : OneReading → (problem : Option (List ℕ)) (f : ProblemFault) → AnyProblemIsSound problem → IsFaultInWords problem f → ⊥
 posed_has_no_fault one None f posed s = s
 posed_has_no_fault one (Some text) f posed s = let same = one given_form text (Ok posed.0) (Err f) posed.1 s in absurd (cc)

@@ -20,16 +20,16 @@ given_form = record { format = Sfen; rest = false }
 
 -- The words give a problem that the certificate has to be for, and its text is none: this is its
 -- first fault.
-abbrev pub IsGivenFault : Option (List ℕ) → ProblemFault → Type 0
-IsGivenFault None fault = ⊥
-IsGivenFault (Some text) fault = StandsFor given_form text (Err fault)
+abbrev pub IsFaultInWords : Option (List ℕ) → ProblemFault → Type 0
+IsFaultInWords None fault = ⊥
+IsFaultInWords (Some text) fault = StandsFor given_form text (Err fault)
 
 -- The problem that the words give for a certificate, where they give one.
-abbrev pub IsGivenProblem : Option (List ℕ) → Option GivenProblem → Type 0
-IsGivenProblem None None = Unit {0}
-IsGivenProblem None (Some problem) = ⊥
-IsGivenProblem (Some text) None = ⊥
-IsGivenProblem (Some text) (Some problem) = StandsFor given_form text (Ok problem.position)
+abbrev pub IsProblemInWords : Option (List ℕ) → Option GivenProblem → Type 0
+IsProblemInWords None None = Unit {0}
+IsProblemInWords None (Some problem) = ⊥
+IsProblemInWords (Some text) None = ⊥
+IsProblemInWords (Some text) (Some problem) = StandsFor given_form text (Ok problem.position)
 
 -- The problem for which a certificate is judged: the one whose text the words give, or its own
 -- where they give none.
@@ -38,6 +38,6 @@ IsJudgedFor None c p = p ≡ problem_of c
 IsJudgedFor (Some text) c p = StandsFor given_form text (Ok p)
 
 -- The text that the words give for a certificate's problem is one's, where they give one.
-abbrev pub IsProblemAsked : Option (List ℕ) → Type 0
-IsProblemAsked None = Unit {0}
-IsProblemAsked (Some text) = (problem : Board) × StandsFor given_form text (Ok problem)
+abbrev pub AnyProblemIsSound : Option (List ℕ) → Type 0
+AnyProblemIsSound None = Unit {0}
+AnyProblemIsSound (Some text) = (problem : Board) × StandsFor given_form text (Ok problem)

@@ -45,7 +45,7 @@ IsBrokenOff (Failed Read input) = ⊤
 IsBrokenOff (Failed NoMemory input) = ⊤
 
 -- The bytes that the source has left are the text of a certificate, and short enough.
-pub record IsCertificateGiven (left : Option (List ℕ)) : Type 0 where
+pub record HasCertificateLeft (left : Option (List ℕ)) : Type 0 where
   pub input : List ℕ
   pub certificate : Certificate
   pub told : left ≡ Some input
@@ -61,5 +61,5 @@ pub record IsCheckRun (problem : Option (List ℕ)) (source sink : Shown) (ended
   pub same : (input : List ℕ) (judgement : Judgement) → source.told ≡ Some input → ¬ IsBrokenOff ended → IsJudged problem input judgement
       → ended ≡ Answered judgement
   pub run : (stops : Signals) → AreUnused stops → IsRun (check_meaning problem) stops source sink ended
-  pub complete : IsCertificateGiven source.told → ¬ Rose source.faults source.faults_after
+  pub complete : HasCertificateLeft source.told → ¬ Rose source.faults source.faults_after
       → ¬ Rose sink.faults sink.faults_after → IsAnswered ended ⊎ WantsMemory ended

@@ -1,6 +1,6 @@
 // What `check` is as a command, and the problem that it is asked to check for.
 ghost use Rattle.std.specs.Prelude.{◌≡◌, Err, MatchResult};
-ghost use Rattle.cmd_check.specs.Asked.{IsGivenFault, IsGivenProblem, check_in};
+ghost use Rattle.cmd_check.specs.Asked.{IsFaultInWords, IsProblemInWords, check_in};
 
 use crate::Check;
 use app_texts::{Judgement, ProblemFault, judgement_text};
@@ -34,8 +34,8 @@ impl Command for Check {
 }
 
 fn problem_in(asked: &Check) -> Result<Option<Problem>, ProblemFault>
-    ensures { MatchResult result (IsGivenProblem (check_in asked.now))
-        (IsGivenFault (check_in asked.now)) }
+    ensures { MatchResult result (IsProblemInWords (check_in asked.now))
+        (IsFaultInWords (check_in asked.now)) }
 {
     let Some(text) = &asked.problem else {
         return Ok(None);
@@ -50,10 +50,10 @@ fn problem_in(asked: &Check) -> Result<Option<Problem>, ProblemFault>
 /// The problem that the words give for a certificate, where they give one. Takes no memory. Errors:
 /// the first fault of its text.
 pub fn asked_problem(asked: &Check) -> Result<Option<Problem>, ProblemFault>
-    ensures found { MatchResult result (IsGivenProblem (check_in asked.now))
-        (IsGivenFault (check_in asked.now)) }
+    ensures found { MatchResult result (IsProblemInWords (check_in asked.now))
+        (IsFaultInWords (check_in asked.now)) }
     // No fault is passed over.
-    ensures stopped { (fault : ProblemFault) → IsGivenFault (check_in asked.now) fault
+    ensures failed { (fault : ProblemFault) → IsFaultInWords (check_in asked.now) fault
         → result ≡ Err fault }
 {
     // No text stands for two problems, or has two first faults.

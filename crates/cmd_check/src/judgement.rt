@@ -3,7 +3,7 @@ ghost use Rattle.std.specs.Prelude.{ℕ, List, Option, IfOk};
 ghost use Rattle.one_run.specs.Command.{IsAnswer};
 ghost use Rattle.one_run.specs.Stops.{Signals, AreUnused};
 ghost use Rattle.cmd_check.specs.Answer.{IsTrueOfCertificate};
-ghost use Rattle.cmd_check.specs.Asked.{IsGivenProblem, IsJudgedFor};
+ghost use Rattle.cmd_check.specs.Asked.{IsProblemInWords, IsJudgedFor};
 ghost use Rattle.cmd_check.specs.Meaning.{check_meaning};
 
 use app_texts::Judgement;
@@ -19,7 +19,7 @@ use wide_read::read_wide;
 
 // The problem for which a certificate is judged: the one that is asked about, else its own.
 fn problem_for<'a>(asked: &'a Option<Problem>, certificate: &'a Certificate) -> &'a Problem
-    ensures { (text : Option (List ℕ)) → IsGivenProblem text asked.entry.now
+    ensures { (text : Option (List ℕ)) → IsProblemInWords text asked.entry.now
         → IsJudgedFor text certificate.entry.now result.now.position }
 {
     match asked {
@@ -64,7 +64,7 @@ pub(crate) fn answer<R: Threads + Sync>(
     workers: Option<u32>,
     input: &[u8],
 ) -> Result<Judgement, Unanswered<CertFault>>
-    ensures { (text : Option (List ℕ)) (stops : Signals) → IsGivenProblem text asked.now
+    ensures { (text : Option (List ℕ)) (stops : Signals) → IsProblemInWords text asked.now
         → AreUnused stops → IsAnswer (check_meaning text) stops input.now result }
 {
     // No text has two first faults.

@@ -6,8 +6,8 @@ ghost use Rattle.one_run.specs.Outside.{shown};
 ghost use Rattle.one_run.specs.Run.{IsAnswered, IsRun, WantsMemory};
 ghost use Rattle.one_run.specs.Stops.{Signals, AreUnused};
 ghost use Rattle.cmd_check.specs.Answer.{IsJudged};
-ghost use Rattle.cmd_check.specs.Asked.{IsGivenProblem, check_in};
-ghost use Rattle.cmd_check.specs.Headline.{IsBrokenOff, IsCertificateGiven, IsValidText};
+ghost use Rattle.cmd_check.specs.Asked.{IsProblemInWords, check_in};
+ghost use Rattle.cmd_check.specs.Headline.{IsBrokenOff, HasCertificateLeft, IsValidText};
 ghost use Rattle.cmd_check.specs.Meaning.{check_meaning};
 
 use crate::Check;
@@ -31,7 +31,7 @@ fn check_through<R: Threads + Sync, S: Source, K: Sink>(
     source: &mut S,
     sink: &mut K,
 ) -> Ended<Judgement, CertFault>
-    requires { IsGivenProblem (check_in asked.now) problem.now }
+    requires { IsProblemInWords (check_in asked.now) problem.now }
     ensures { (stops : Signals) → AreUnused stops → IsRun (check_meaning (check_in asked.now)) stops
         (shown S.left S.faults source.old source.new)
         (shown K.kept K.faults sink.old sink.new) result }
@@ -61,7 +61,7 @@ pub fn check<R: Threads + Sync, S: Source, K: Sink>(
     source: &mut S,
     sink: &mut K,
 ) -> Ended<Judgement, CertFault>
-    requires { IsGivenProblem (check_in asked.now) problem.now }
+    requires { IsProblemInWords (check_in asked.now) problem.now }
     // In plain words. Where it wasn't broken off, it accepts exactly where the bytes are the text
     // of a certificate that is valid for the problem whose text the words give, or for its own
     // where they give none, with its claim and the number of its entries.
@@ -85,7 +85,7 @@ pub fn check<R: Threads + Sync, S: Source, K: Sink>(
 
     // The text of a certificate, told by the source and not too long, is answered, unless the
     // outside fails or memory is wanted.
-    ensures complete { IsCertificateGiven (S.left source.old)
+    ensures complete { HasCertificateLeft (S.left source.old)
         → ¬ Rose (S.faults source.old) (S.faults source.new)
         → ¬ Rose (K.faults sink.old) (K.faults sink.new) → IsAnswered result ⊎ WantsMemory result }
 {

@@ -85,7 +85,9 @@ impl CommandWords for Check {
         Command::new(alloc, "check")
             .about("Checks a certificate, alone or behind the line `solve` prints")
             .after_help(
-                "The moves of that first line aren't compared with the certificate.\n\n\
+                "The moves of that first line aren't compared with the certificate. In `accepted\n\
+                 mate N` and `accepted escape N` the number counts the certificate's entries,\n\
+                 and not moves.\n\n\
                  Status: 0 accepted, 7 refused, 2 words refused, 3 no certificate, 4 reading\n\
                  failed, 5 writing failed, 6 out of memory.\n\n\
                  Example:\n  tsume solve problem.sfen | tsume check",

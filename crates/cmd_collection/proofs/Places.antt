@@ -5,7 +5,7 @@ use Rattle.cmd_collection.specs.Words.{CollectionView}
 use Rattle.search_limits.specs.Sizes.{SettingsView}
 use Rattle.problem_lines.specs.declared.line.Line.{Line}
 use Rattle.problem_lines.specs.Lines.{NumberedLine, seen}
-use Rattle.cmd_collection.specs.Coming.{Coming, IsNext}
+use Rattle.cmd_collection.specs.ReportsView.{ReportsView, IsNext}
 use Rattle.cmd_collection.specs.declared.reports.Reported.{Reported}
 use Rattle.cmd_collection.specs.Reports.{IsTrueReport}
 use Rattle.cmd_collection.specs.Inside.{IsReportOn, IsReportedAt}
@@ -44,20 +44,20 @@ all_last_of : (s : SettingsView) (f : CollectionView) (ahead rest : List Reporte
 all_last_of s f ahead rest one e all = subst (All (λ one. IsReportOn s f one.line one.report)) e all 0 one (omega arith)
 
 -- Where lines are told ahead, or none are left, the first that is told ahead is the next.
-pub next_of : (before : Coming) (s : SettingsView) (f : CollectionView) (ahead rest : List Reported) (lines : List NumberedLine) (next : Option Reported)
+pub next_of : (before : ReportsView) (s : SettingsView) (f : CollectionView) (ahead rest : List Reported) (lines : List NumberedLine) (next : Option Reported)
     → before ≡ record { settings = s; form = f; lines = map (λ one. seen one.line) ahead ++ lines } → (ahead ≡ [] → lines ≡ [])
     → All (λ one. IsReportOn s f one.line one.report) ahead → ahead ≡ option_to_list next ++ rest → MatchOption next (ahead ≡ []) (λ one. Unit {0})
     → MatchOption next ((before.lines ≡ []) × (record { settings = s; form = f; lines = map (λ one. seen one.line) rest ++ lines } ≡ before))
     (λ one. IsNext before (seen one.line) one.report (record { settings = s; form = f; lines = map (λ one. seen one.line) rest ++ lines }))
 next_of before s f ahead rest lines None is none all e empty = (
-  ap (λ (c : Coming). c.lines) is ∙ (ap (λ (l : List Reported). map (λ one. seen one.line) l ++ lines) empty ∙ none empty),
+  ap (λ (c : ReportsView). c.lines) is ∙ (ap (λ (l : List Reported). map (λ one. seen one.line) l ++ lines) empty ∙ none empty),
   ap (λ (l : List Reported). record { settings = s; form = f; lines = map (λ one. seen one.line) l ++ lines }) (sym e) ∙ sym is,
 )
 next_of before s f ahead rest lines (Some one) is none all e empty =
     let told = all_last_of s f ahead rest one e all in record {
-      first = ap (λ (c : Coming). c.lines) is ∙ ap (λ (l : List Reported). map (λ one. seen one.line) l ++ lines) e;
-      true_of = subst (λ (c : Coming). IsTrueReport c.settings c.form (seen one.line) one.report) (sym is) told.true_of;
+      first = ap (λ (c : ReportsView). c.lines) is ∙ ap (λ (l : List Reported). map (λ one. seen one.line) l ++ lines) e;
+      true_of = subst (λ (c : ReportsView). IsTrueReport c.settings c.form (seen one.line) one.report) (sym is) told.true_of;
       has_line = told.has_line;
-      settings = ap (λ (c : Coming). c.settings) (sym is);
-      form = ap (λ (c : Coming). c.form) (sym is);
+      settings = ap (λ (c : ReportsView). c.settings) (sym is);
+      form = ap (λ (c : ReportsView). c.form) (sym is);
     }

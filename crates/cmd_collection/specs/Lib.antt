@@ -1,6 +1,6 @@
 -- This project's.
 pub mod Asked
-pub mod Coming
+pub mod ReportsView
 pub mod Counts
 pub mod FaultText
 pub mod Headline

@@ -2,7 +2,7 @@
 ghost use Rattle.std.specs.Prelude.{◌≡◌};
 
 use crate::{CollectionForm, Counts, counts_text};
-use fault_notes::Trouble;
+use explanations::Trouble;
 use one_run::Command;
 use run_telling::Explained;
 use search_limits::Settings;
@@ -31,7 +31,7 @@ impl Explained for NoFault {
 
     ghost text_of = { λ fault. [] };
 
-    ghost MayFollow = { λ fault note. note ≡ [] };
+    ghost MayFollow = { λ fault explanation. explanation ≡ [] };
 
     fn line(&self, alloc: Global) -> Result<String, AllocError> {
         Ok(String::new(alloc))

@@ -3,7 +3,7 @@ ghost use Rattle.std.specs.Prelude.{◌≡◌, ◌<◌, ◌++◌, [], IsTrue, Al
 ghost use Rattle.cmd_collection.specs.Words.{collection_in};
 ghost use Rattle.search_limits.specs.Settings.{settings_in};
 ghost use Rattle.problem_lines.specs.Lines.{problem_lines, seen};
-ghost use Rattle.cmd_collection.specs.Coming.{Coming, IsNext};
+ghost use Rattle.cmd_collection.specs.ReportsView.{ReportsView, IsNext};
 ghost use Rattle.cmd_collection.specs.Inside.{IsReportOn};
 
 use crate::line_jobs::LineJobs;
@@ -48,10 +48,10 @@ impl<'a> Model for Reports<'a> {
     ghost use Rattle.cmd_collection.specs.Words.{collection_in};
     ghost use Rattle.search_limits.specs.Settings.{settings_in};
     ghost use Rattle.problem_lines.specs.Lines.{seen};
-    ghost use Rattle.cmd_collection.specs.Coming.{Coming};
+    ghost use Rattle.cmd_collection.specs.ReportsView.{ReportsView};
     ghost use Rattle.cmd_collection.specs.Inside.{IsReportOn};
 
-    ghost Value = { Coming };
+    ghost Value = { ReportsView };
 
     ghost view = { λ r. record { settings = settings_in r.settings; form = collection_in r.form; lines = map (λ one. seen one.line) r.ahead.items ++ r.lines } };
 

@@ -87,7 +87,7 @@ impl CommandWords for Collection {
         Command::new(alloc, "collection")
             .about("Tells of every problem of a text, an SFEN a line, what is found")
             .after_help(
-                "What follows a tab in a line is a note. A line that is empty then, or of spaces\n\
+                "What follows a tab in a line is a remark. A line that is empty then, or of spaces\n\
                  alone, or that begins with #, is skipped. A line of the output begins with the\n\
                  number of the input's line; the last line has the counts. The expansions, the\n\
                  room and the rows count for each problem by itself. As with `solve`, every\n\
@@ -100,7 +100,7 @@ impl CommandWords for Collection {
             .arg(expansions_option(alloc, "100000"))?
             .arg(room_option(alloc))?
             .arg(rows_option(alloc))?
-            .arg(shards_option(alloc, true))?
+            .arg(shards_option(alloc, false))?
             .arg(threads_option(alloc))?
             .arg(rest_flag(alloc))?
             .arg(certificates_flag(alloc))?

@@ -21,7 +21,7 @@ use Rattle.one_run.proofs.Offered.{took_it, unbegun_run}
 use Rattle.one_run.specs.Outside.{Shown, IsUntouched}
 use Rattle.one_run.specs.Run.{IsEnded, IsRun, IsWellPosed}
 use Rattle.one_run.specs.Stops.{Signals, AreUnused, once_armed}
-use Rattle.cmd_solve.specs.Headline.{StandsForMate, StandsForNoMate, StandsForUnknown, NamesMate, NamesNoMate, IsProblemGiven, IsSolveRun}
+use Rattle.cmd_solve.specs.Headline.{StandsForMate, StandsForNoMate, StandsForUnknown, NamesMate, NamesNoMate, HasProblemLeft, IsSolveRun}
 use Rattle.cmd_solve.specs.Meaning.{SolveView, solve_meaning}
 
 pub mate_of : (asked : SolveView) (stops : Signals) (source sink : Shown) (input : List ℕ) (c : Mating) (moves : List Move)
@@ -92,7 +92,7 @@ own_no_mate_of asked stops source sink c ended =
     }
 
 -- what stands for a problem has no fault
-pub posed_of : OneReading → (asked : SolveView) (left : Option (List ℕ)) → IsProblemGiven asked.form left → IsWellPosed (solve_meaning asked) left
+pub posed_of : OneReading → (asked : SolveView) (left : Option (List ℕ)) → HasProblemLeft asked.form left → IsWellPosed (solve_meaning asked) left
 posed_of one asked left given = record {
   input = given.input;
   told = given.told;

@@ -80,7 +80,7 @@ pub record NamesNoMate (c : Escaping) : Type 0 where
   pub text : IsTextOf (certificates.Escape c) (solution_text (NoMate c))
 
 -- The bytes that the source has left are a problem, and short enough.
-pub record IsProblemGiven (form : ProblemForm) (left : Option (List ℕ)) : Type 0 where
+pub record HasProblemLeft (form : ProblemForm) (left : Option (List ℕ)) : Type 0 where
   pub input : List ℕ
   pub problem : Board
   pub told : left ≡ Some input
@@ -102,6 +102,6 @@ pub record IsSolveRun (asked : SolveView) (stops : Signals) (source sink : Shown
   pub does : IsEnded (solve_meaning asked) stops source sink ended
   pub used : AreUsedTill (solve_meaning asked) stops ended
   pub counted : IsCounted source sink ended
-  pub complete : IsProblemGiven asked.form source.told → ¬ Rose source.faults source.faults_after
+  pub complete : HasProblemLeft asked.form source.told → ¬ Rose source.faults source.faults_after
       → ¬ Rose sink.faults sink.faults_after
       → IsAnswered ended ⊎ WantsMemory ended

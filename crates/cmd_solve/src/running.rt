@@ -9,7 +9,7 @@ ghost use Rattle.one_run.specs.Outside.{shown};
 ghost use Rattle.one_run.specs.Run.{IsEnded, AreUsedTill, IsCounted, IsAnswered, IsRun, WantsMemory};
 ghost use Rattle.one_run.specs.Stops.{once_armed, signals};
 ghost use Rattle.cmd_solve.specs.Asked.{solve_in};
-ghost use Rattle.cmd_solve.specs.Headline.{IsProblemGiven, NamesMate, NamesNoMate, StandsForMate, StandsForNoMate, StandsForUnknown, IsSolveRun};
+ghost use Rattle.cmd_solve.specs.Headline.{HasProblemLeft, NamesMate, NamesNoMate, StandsForMate, StandsForNoMate, StandsForUnknown, IsSolveRun};
 ghost use Rattle.cmd_solve.specs.Meaning.{solve_meaning};
 
 use crate::Solve;
@@ -137,7 +137,7 @@ pub fn solve<R: Threads + Wait + Sync, S: Source, K: Sink, G: Gate, T: Stop + Dr
 
     // The text of a problem, told by the source and not too long, is answered, unless the outside
     // fails or memory is wanted.
-    ensures complete { IsProblemGiven asked.now.form (S.left source.old)
+    ensures complete { HasProblemLeft asked.now.form (S.left source.old)
         → ¬ Rose (S.faults source.old) (S.faults source.new)
         → ¬ Rose (K.faults sink.old) (K.faults sink.new) → IsAnswered result ⊎ WantsMemory result }
 {

@@ -10,7 +10,7 @@ use std::fs::{self, Files};
 use std::io::{self, BufWriter, Print, Write};
 use std::sync::Wait;
 use std::thread::Threads;
-use tsume_app::{WordsRead, run_and_tell};
+use tsume_app::{OpenPipe, WordsRead, run_and_tell};
 use tsume_io::{MemSink, MemSource};
 
 const ROOM: usize = 65_536;
@@ -65,6 +65,7 @@ fn tell<R: Threads + Wait + AllocGlobal + Sync, W: Write>(
         &mut source,
         &mut sink,
         &mut errors,
+        &OpenPipe,
         &OpenGate,
         &mut stops,
     );

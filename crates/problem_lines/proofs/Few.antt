@@ -4,7 +4,7 @@ use Rattle.std.specs.List.{slice_split, onto_first}
 use Rattle.std.specs.Str.Lines.{lines, lines_of_parts}
 use Rattle.std.proofs.lemmas.Bool.{cases_Bool, cond-false, ne_eqb}
 use Rattle.std.proofs.lemmas.List.Splits.{slice_split-cons_yes, slice_split-cons_no, length-slice_split}
-use Rattle.problem_lines.specs.Lines.{NumberedLine, without_note, is_skipped, problems_among}
+use Rattle.problem_lines.specs.Lines.{NumberedLine, without_remark, is_skipped, problems_among}
 use Rattle.problem_lines.proofs.Among.{problems_among-none, problems_among-skipped, problems_among-kept}
 use Rattle.problem_lines.proofs.Cutting.{lines_of_parts-cons}
 
@@ -41,4 +41,4 @@ problems_among-few first (line ∷ others) =
     ⊎_elim
     (λ yes. subst P (sym (problems_among-skipped first line others yes)) (omega (arith, later)))
     (λ fails. subst P (sym (problems_among-kept first line others fails)) (omega (arith, later)))
-    (cases_Bool (is_skipped (without_note line)))
+    (cases_Bool (is_skipped (without_remark line)))

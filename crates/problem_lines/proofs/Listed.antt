@@ -3,7 +3,7 @@ use Rattle.std.proofs.Common.{◌≡◌, ◌≢◌, ℕ, zero, suc, ◌+◌, ◌
 use Rattle.std.specs.List.{AllByRecursion}
 use Rattle.std.specs.List.Sorted.{IsStrictlyIncreasing}
 use Rattle.std.proofs.lemmas.Bool.{cases_Bool}
-use Rattle.problem_lines.specs.Lines.{NumberedLine, without_note, is_skipped, numbered_line, problems_among}
+use Rattle.problem_lines.specs.Lines.{NumberedLine, without_remark, is_skipped, numbered_line, problems_among}
 use Rattle.problem_lines.specs.Written.{HasNoFeed, HoldsProblem}
 use Rattle.problem_lines.proofs.Lacking.{take-all, before_first-lacks}
 use Rattle.problem_lines.proofs.Among.{problems_among-none, problems_among-skipped, problems_among-kept}
@@ -24,7 +24,7 @@ problems_among-rise first (line ∷ others) =
     ⊎_elim
     (λ yes. subst (RisesFrom first) (sym (problems_among-skipped first line others yes)) (RisesFrom-lower first _ later))
     (λ fails. subst (RisesFrom first) (sym (problems_among-kept first line others fails)) (omega arith, later))
-    (cases_Bool (is_skipped (without_note line)))
+    (cases_Bool (is_skipped (without_remark line)))
 
 pub increasing : (from : ℕ) (listed : List NumberedLine) → RisesFrom from listed → IsStrictlyIncreasing (map (λ line. line.number) listed)
 increasing from [] rises k low = absurd (omega arith)
@@ -41,9 +41,9 @@ pub problems_among-hold : (first : ℕ) (all : List (List ℕ)) → AllByRecursi
 problems_among-hold first [] none = subst (AllByRecursion HoldsProblem) (sym (problems_among-none first)) tt
 problems_among-hold first (line ∷ others) none =
     let later = problems_among-hold (first + 1) others none.1 in
-    let holds : is_skipped (without_note line) ≡ false → HoldsProblem (numbered_line (first, line)) =
+    let holds : is_skipped (without_remark line) ≡ false → HoldsProblem (numbered_line (first, line)) =
     λ kept. record { kept = kept; feedless = take-all (λ b. b ≢ 10) _ line none.0; tabless = before_first-lacks 9 line } in
     ⊎_elim
     (λ yes. subst (AllByRecursion HoldsProblem) (sym (problems_among-skipped first line others yes)) later)
     (λ fails. subst (AllByRecursion HoldsProblem) (sym (problems_among-kept first line others fails)) (holds fails, later))
-    (cases_Bool (is_skipped (without_note line)))
+    (cases_Bool (is_skipped (without_remark line)))

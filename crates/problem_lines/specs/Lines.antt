@@ -12,25 +12,25 @@ pub record NumberedLine : Type 0 where
   pub content : List ℕ
   pub is_too_long : Bool
 
--- A line without its note, which begins with the first tab.
-abbrev pub without_note : List ℕ → List ℕ
-without_note line = before_first (λ byte. byte == 9) line
+-- A line without its remark, which begins with the first tab.
+abbrev pub without_remark : List ℕ → List ℕ
+without_remark line = before_first (λ byte. byte == 9) line
 
--- Whether a line without its note is skipped: it is empty or holds spaces alone, or it begins with
+-- Whether a line without its remark is skipped: it is empty or holds spaces alone, or it begins with
 -- `#`.
 abbrev pub is_skipped : List ℕ → Bool
 is_skipped content = list_all (λ byte. byte == 32) content || starts_with nat_eq content (35 ∷ [])
 
 -- Whether a line, which stands behind its number, holds a problem.
 abbrev pub holds_problem : ℕ × List ℕ → Bool
-holds_problem line = not (is_skipped (without_note line.1))
+holds_problem line = not (is_skipped (without_remark line.1))
 
 -- A line that holds a problem, with its number. It is too long where it has more bytes than a
--- problem may, its note among them.
+-- problem may, its remark among them.
 abbrev pub numbered_line : ℕ × List ℕ → NumberedLine
 numbered_line line = record {
   number = line.0;
-  content = without_note line.1;
+  content = without_remark line.1;
   is_too_long = nat_lt MOST_PROBLEM_BYTES (length line.1);
 }
 

@@ -39,7 +39,7 @@ abbrev pub ListsWhatIsWritten : List ℕ → List NumberedLine → Type 0
 ListsWhatIsWritten text listed = (ended : List Ended) (last : List ℕ) → AllByRecursion IsEnded ended → HasNoFeed last → text_of ended last ≡ text
     → listed ≡ problems_among 1 (map (λ one. one.line) ended ++ last_line last)
 
--- What is listed isn't skipped; it is of one line, and has no note.
+-- What is listed isn't skipped; it is of one line, and has no remark.
 pub record HoldsProblem (line : NumberedLine) : Type 0 where
   pub kept : is_skipped line.content ≡ false
   pub feedless : HasNoFeed line.content

@@ -2,7 +2,7 @@
 ghost use Rattle.std.specs.Prelude.{◌≡◌, ◌<◌, ◌==◌, ◌∷◌, length};
 ghost use Rattle.std.specs.List.{list_all};
 ghost use Rattle.std.specs.Str.Lines.{lines, strip_carriage_return};
-ghost use Rattle.problem_lines.specs.Lines.{without_note, is_skipped};
+ghost use Rattle.problem_lines.specs.Lines.{without_remark, is_skipped};
 
 use memchr::memchr;
 
@@ -27,9 +27,9 @@ pub(crate) fn split_first(text: &[u8]) -> (&[u8], &[u8])
     }
 }
 
-/// A line without its note.
-pub(crate) fn without_note(line: &[u8]) -> &[u8]
-    ensures { result.now ≡ without_note line.now }
+/// A line without its remark.
+pub(crate) fn without_remark(line: &[u8]) -> &[u8]
+    ensures { result.now ≡ without_remark line.now }
 {
     match memchr(b'\t', line) {
         Some(tab) => &line[..tab],
@@ -43,7 +43,7 @@ fn is_blank(content: &[u8]) -> bool
     content.iter().all(|byte| *byte == b' ')
 }
 
-/// Whether a line without its note is skipped.
+/// Whether a line without its remark is skipped.
 pub(crate) fn is_skipped(content: &[u8]) -> bool
     ensures { result ≡ is_skipped content.now }
 {

@@ -2,7 +2,7 @@
 //!
 //! [`Lines`] goes over a text, and gives each [`Line`] that holds a problem, with its number. Lines
 //! end with a line feed, perhaps behind a carriage return; the last may end with the text. What
-//! begins with a tab in a line is a note. A line that is then empty, or holds spaces alone, or
+//! begins with a tab in a line is a remark. A line that is then empty, or holds spaces alone, or
 //! begins with `#`, is skipped. Nothing here takes memory, and no byte is read more than a few
 //! times.
 #![tactic(auto)]

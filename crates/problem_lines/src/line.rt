@@ -1,6 +1,6 @@
 // A line that holds a problem.
 
-/// The most bytes that the text of a problem may have; of a line with one, its note among them, and
+/// The most bytes that the text of a problem may have; of a line with one, its remark among them, and
 /// its end not.
 pub const MOST_PROBLEM_BYTES: usize = 65_536;
 
@@ -9,7 +9,7 @@ pub const MOST_PROBLEM_BYTES: usize = 65_536;
 pub struct Line<'a> {
     /// Its number in the text, from 1; skipped lines count, too.
     pub number: u64,
-    /// The bytes of the problem: the line without its end and without its note.
+    /// The bytes of the problem: the line without its end and without its remark.
     pub content: &'a [u8],
     /// Whether the line has more than [`MOST_PROBLEM_BYTES`] bytes.
     pub is_too_long: bool,

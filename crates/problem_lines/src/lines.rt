@@ -5,7 +5,7 @@ ghost use Rattle.std.specs.List.Sorted.{IsStrictlyIncreasing};
 ghost use Rattle.problem_lines.specs.Lines.{problem_lines, seen};
 ghost use Rattle.problem_lines.specs.Written.{ListsWhatIsWritten, HoldsProblem};
 
-use crate::cut::{is_skipped, split_first, without_note};
+use crate::cut::{is_skipped, split_first, without_remark};
 use crate::{Line, MOST_PROBLEM_BYTES};
 use std::marker::Model;
 
@@ -60,7 +60,7 @@ impl<'a> Lines<'a> {
             let number = self.number;
             self.rest = rest;
             self.number += 1;
-            let content = without_note(whole);
+            let content = without_remark(whole);
             if !is_skipped(content) {
                 return Some(Line {
                     number,

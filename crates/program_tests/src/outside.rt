@@ -9,7 +9,7 @@ use std::io;
 use std::test::Fail;
 use std::time::{self, Duration};
 use tsume_io::{
-    Failed, MemSink, MemSource, NeverFails, Noted, Opened, ReadEnd, Sink, Source, StdClock,
+    Failed, MemSink, MemSource, NeverFails, Opened, ReadEnd, Remembering, Sink, Source, StdClock,
     StdSink, StdSource, WriteFault, read_all, write_all,
 };
 
@@ -157,7 +157,7 @@ fn a_file_that_does_not_open_fails_at_its_first_read(rt: HostRuntime) -> Result<
     let alloc = rt.alloc();
     let error = io::Error::from(io::ErrorKind::NotFound);
     let refused: Opened<&[u8], &[u8]> = Opened::Refused(error);
-    let mut source = StdSource::new(Noted::new(refused));
+    let mut source = StdSource::new(Remembering::new(refused));
     let end = read_all(alloc, &mut source, 9).err();
     same(&rt, "refused", end, Some(ReadEnd::Fault));
     same(&rt, "refused", source.faults(), 1);
@@ -167,7 +167,7 @@ fn a_file_that_does_not_open_fails_at_its_first_read(rt: HostRuntime) -> Result<
         Opened::File(LETTERS.as_slice()),
         Opened::Standard(LETTERS.as_slice()),
     ] {
-        let mut source = StdSource::new(Noted::new(opened));
+        let mut source = StdSource::new(Remembering::new(opened));
         let bytes = read_all(alloc, &mut source, 28)?;
         same(&rt, "opened", bytes.as_slice(), LETTERS.as_slice());
         same(&rt, "opened", source.reader().reason().is_some(), false);

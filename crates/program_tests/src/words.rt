@@ -407,8 +407,8 @@ static HELPED: [(&str, &str); 28] = [
     ("check --help", "-h, --help            Print help\n"),
 ];
 
-// What help shows for some commands alone: workers solve and check, and parts matter to workers
-// that solve.
+// What help shows for some commands alone: workers solve and check, and parts have the tables of
+// those that solve.
 static HIDDEN: [&str; 2] = ["--workers", "--shards"];
 
 fn command_text(alloc: Global, command: &Command) -> Result<String, AllocError> {
@@ -530,7 +530,12 @@ fn help_teaches_each_option_in_narrow_lines(rt: HostRuntime) -> Result<(), Fail>
             same(&rt, (line, row), row.chars().count() < 80, true);
         }
         for option in HIDDEN {
-            let shown = line.contains("solve") || (option == "--workers" && line.contains("check"));
+            let also = if option == "--workers" {
+                "check"
+            } else {
+                "collection"
+            };
+            let shown = line.contains("solve") || line.contains(also);
             same(&rt, (line, option), text.contains(option), shown);
         }
     }

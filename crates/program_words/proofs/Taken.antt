@@ -1,87 +1,73 @@
--- What clap gives where it takes the words: what one of the four commands wants of it.
-use Rattle.std.proofs.Common.{◌≡◌, ◌∙◌, inl, inr, Bool, true, false, List, [], Option, Some, None, Result, Ok, Err, String, refl, sym, subst, codes}
+-- What clap gives where it takes the words: what one of the commands wants of it.
+use Rattle.std.proofs.Common.{◌≡◌, ◌∙◌, inl, inr, true, false, List, Option, Some, None, String, refl, sym, subst}
 use Rattle.std.specs.Prelude.{IsSomeAnd}
 use Rattle.std.specs.Global.{Global}
 use Rattle.clap.specs.Faults.{is_simple_and_free}
-use Rattle.clap.specs.Simple.{built, is_simple, subcommand_of}
+use Rattle.clap.specs.Simple.{App, built, is_simple, subcommand_of}
 use Rattle.clap.specs.Walk.{Row, Text}
 use Rattle.clap.proofs.OnLiterals.{clap_on_literals}
 use Rattle.search_limits.specs.Settings.{PowersHaveOneBit}
+use Rattle.search_limits.specs.Sizes.{SettingsView}
 use Rattle.tsume_words.specs.declared.faults.WordFault.{WordFault}
 use Rattle.tsume_words.specs.declared.faults.WordFault.TheVariants.{Clap}
-use Rattle.tsume_words.specs.declared.faults.WordsEnd.{WordsEnd}
-use Rattle.tsume_words.specs.declared.faults.WordsEnd.TheVariants.{Help, Fault, NoMemory}
-use Rattle.tsume_words.specs.Meaning.{HasTestLaws, IsOutcome, IsTakenByClap, all_words}
-use Rattle.tsume_words.proofs.Offered.{Each, GivesIfNamed, help_alone, taken_gives}
-use Rattle.cmd_solve.specs.Line.{solve_line}
-use Rattle.cmd_check.specs.Line.{check_line}
-use Rattle.cmd_survey.specs.Line.{survey_line}
-use Rattle.cmd_collection.specs.Line.{collection_line}
-use Rattle.cmd_solve.proofs.Offered.{solve_is_given, solve_test_laws}
-use Rattle.cmd_check.proofs.Offered.{check_is_given, check_test_laws}
-use Rattle.cmd_survey.proofs.Offered.{survey_is_given, survey_test_laws}
-use Rattle.cmd_collection.proofs.Offered.{collection_is_given, collection_test_laws}
+use Rattle.tsume_words.specs.Meaning.{HasTestLaws, IsTakenByClap, all_words}
+use Rattle.tsume_words.proofs.Offered.{Each, GivesIfNamed, help_alone, search_test_laws, taken_gives}
+use Rattle.program_words.specs.Commands.{commands, numbers_of}
 use Rattle.program_words.specs.Line.{tsume_line}
-use Rattle.program_words.specs.Meaning.{IsForCommand, IsWishStopped, Wish, wish_tests}
-use Rattle.program_words.specs.Meaning.Wish.{to_solve, to_check, to_survey, to_collect}
+use Rattle.program_words.specs.Meaning.{FailFirstIfAny, are_sound_if_any, command_tests}
 
--- the command line is one of which clap's meaning says all
-pub is_simple_line : is_simple_and_free tsume_line ≡ true
-unfolding tsume_line solve_line check_line survey_line collection_line clap_on_literals
-is_simple_line = refl
+-- what holds of the first, and of each behind it
+infixr 4 ◌and◌
+◌and◌ : {First Others : Type 0} → First → Others → First × Others
+first and others = (first, others)
 
-pub is_simple_alone : is_simple tsume_line ≡ true
-unfolding tsume_line solve_line check_line survey_line collection_line clap_on_literals
-is_simple_alone = refl
+-- what a command line has to be for clap's meaning to say all of it, and for each command to be
+-- given what it wants
+pub record IsFit (line : App) : Type 0 where
+  pub simple : is_simple_and_free line ≡ true
+  pub alone : is_simple line ≡ true
+  pub wants : (built line).top.subcommand_required ≡ true
+  pub helps : (built line).top.disable_help_subcommand ≡ false
+  pub each : Each (GivesIfNamed commands.IsGiven) (built line).subs
 
-each_command : Each (GivesIfNamed IsForCommand) (built tsume_line).subs
-unfolding tsume_line solve_line check_line survey_line collection_line
-each_command = (
-  λ word answers other words e. inl (refl, solve_is_given words e),
-  (
-    λ word answers other words e. inr (inl (refl, check_is_given words e)),
-    (
-      λ word answers other words e. inr (inr (inl (refl, survey_is_given words e))),
-      (
-        λ word answers other words e. inr (inr (inr (refl, collection_is_given words e))),
-        (λ word answers other words e. absurd (help_alone word answers other), tt),
-      ),
-    ),
-  ),
-)
-
-wants : (built tsume_line).top.subcommand_required ≡ true
-unfolding tsume_line
-wants = refl
-
-helps : (built tsume_line).top.disable_help_subcommand ≡ false
-unfolding tsume_line
-helps = refl
+-- in the order of the help, whose own command is the last
+pub fit : IsFit tsume_line
+unfolding tsume_line Rattle.cmd_solve.specs.Line.solve_line Rattle.cmd_check.specs.Line.check_line Rattle.cmd_survey.specs.Line.survey_line Rattle.cmd_collection.specs.Line.collection_line clap_on_literals
+fit = record {
+  simple = refl;
+  alone = refl;
+  wants = refl;
+  helps = refl;
+  each = (λ word answers other words e. inl (refl, Rattle.cmd_solve.proofs.Offered.solve_is_given words e))
+      and (λ word answers other words e. inr (inl (refl, Rattle.cmd_check.proofs.Offered.check_is_given words e)))
+      and (λ word answers other words e. inr (inr (inl (refl, Rattle.cmd_survey.proofs.Offered.survey_is_given words e))))
+      and (λ word answers other words e. inr (inr (inr (inl (refl, Rattle.cmd_collection.proofs.Offered.collection_is_given words e)))))
+      and (λ word answers other words e. absurd (help_alone word answers other))
+      and tt;
+}
 
 pub command_where_taken : (words : List Text) (o : Option (Text × List Row)) → IsTakenByClap tsume_line words
-    → o ≡ subcommand_of tsume_line (all_words words) → IsSomeAnd o IsForCommand
+    → o ≡ subcommand_of tsume_line (all_words words) → IsSomeAnd o commands.IsGiven
 command_where_taken words o taken is =
-    let got = taken_gives IsForCommand tsume_line words wants helps each_command taken in
-    subst (λ (q : Option (Text × List Row)). IsSomeAnd q IsForCommand) (sym (is ∙ got.1)) got.2
+    let got = taken_gives commands.IsGiven tsume_line words fit.wants fit.helps fit.each taken in
+    subst (λ (q : Option (Text × List Row)). IsSomeAnd q commands.IsGiven) (sym (is ∙ got.1)) got.2
 
--- the commands' tests have their laws
-pub wish_test_laws : PowersHaveOneBit → HasTestLaws wish_tests
-wish_test_laws law = record { unsound = unsound; one = one; own = own }
+-- the tests of numbers that may be given have the laws of tests
+pub command_test_laws : PowersHaveOneBit → HasTestLaws command_tests
+command_test_laws law = record {
+  unsound = λ f view failed sound. unsound f (numbers_of view) failed sound;
+  one = λ f g view s t. one f g (numbers_of view) s t;
+  own = λ text view failed. own text (numbers_of view) failed;
+}
   where
-    unsound : (f : WordFault) (w : Wish) → IsWishStopped f w → wish_tests.is_sound w ≡ true → ⊥
-    unsound f (to_solve a) stopped sound = (solve_test_laws law).unsound f a stopped sound
-    unsound f (to_check a) stopped sound = check_test_laws.unsound f a stopped sound
-    unsound f (to_survey a) stopped sound = survey_test_laws.unsound f a stopped sound
-    unsound f (to_collect a) stopped sound = (collection_test_laws law).unsound f a stopped sound
+    unsound : (f : WordFault) (n : Option SettingsView) → FailFirstIfAny f n → are_sound_if_any n ≡ true → ⊥
+    unsound f None failed sound = failed
+    unsound f (Some n) failed sound = (search_test_laws law (λ (v : SettingsView). v)).unsound f n failed sound
 
-    one : (f g : WordFault) (w : Wish) → IsWishStopped f w → IsWishStopped g w → g ≡ f
-    one f g (to_solve a) s t = (solve_test_laws law).one f g a s t
-    one f g (to_check a) s t = check_test_laws.one f g a s t
-    one f g (to_survey a) s t = survey_test_laws.one f g a s t
-    one f g (to_collect a) s t = (collection_test_laws law).one f g a s t
+    one : (f g : WordFault) (n : Option SettingsView) → FailFirstIfAny f n → FailFirstIfAny g n → g ≡ f
+    one f g None s t = absurd s
+    one f g (Some n) s t = (search_test_laws law (λ (v : SettingsView). v)).one f g n s t
 
-    own : (text : String Global) (w : Wish) → IsWishStopped (Clap text) w → ⊥
-    own text (to_solve a) stopped = (solve_test_laws law).own text a stopped
-    own text (to_check a) stopped = check_test_laws.own text a stopped
-    own text (to_survey a) stopped = survey_test_laws.own text a stopped
-    own text (to_collect a) stopped = (collection_test_laws law).own text a stopped
+    own : (text : String Global) (n : Option SettingsView) → FailFirstIfAny (Clap text) n → ⊥
+    own text None failed = failed
+    own text (Some n) failed = (search_test_laws law (λ (v : SettingsView). v)).own text n failed

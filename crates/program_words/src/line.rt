@@ -1,27 +1,18 @@
-// The command line, as clap is told of it.
-ghost use Rattle.std.specs.Prelude.{◌≡◌, IfOk};
+// The command line, as clap is told of it, without its commands.
+ghost use Rattle.std.specs.Prelude.{◌≡◌};
 ghost use Rattle.clap.specs.Words.{app_of};
-ghost use Rattle.program_words.specs.Line.{tsume_line};
+ghost use Rattle.program_words.specs.Line.{bare_line};
 
 use clap::Command;
-use cmd_check::Check;
-use cmd_collection::Collection;
-use cmd_solve::Solve;
-use cmd_survey::SurveyRange;
-use std::alloc::{AllocError, Global};
-use tsume_words::CommandWords;
+use std::alloc::Global;
 
 // What `--version` prints behind the program's name.
 const VERSION: &str = "0.1.0";
 
-/// The command line of the program.
-pub(crate) fn command_line<'a>(alloc: Global) -> Result<Command<'a>, AllocError>
-    ensures { IfOk result (λ command. app_of command ≡ tsume_line) }
+/// The command line of the program, before its commands.
+pub(crate) fn bare_line<'a>(alloc: Global) -> Command<'a>
+    ensures { app_of result ≡ bare_line }
 {
-    let solve = Solve::line(alloc)?;
-    let check = Check::line(alloc)?;
-    let survey = SurveyRange::line(alloc)?;
-    let collection = Collection::line(alloc)?;
     Command::new(alloc, "tsume")
         .about(
             "Solves tsume-shogi problems: what `solve` finds comes with a certificate that\n\
@@ -31,8 +22,4 @@ pub(crate) fn command_line<'a>(alloc: Global) -> Result<Command<'a>, AllocError>
         .version(VERSION)
         .subcommand_required(true)
         .arg_required_else_help(true)
-        .subcommand(solve)?
-        .subcommand(check)?
-        .subcommand(survey)?
-        .subcommand(collection)
 }

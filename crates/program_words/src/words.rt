@@ -2,7 +2,8 @@
 ghost use Rattle.std.specs.Prelude.{◌≡◌, ◌⊎◌, Err, Some, IfErr, IfOk, IsOkAnd};
 ghost use Rattle.tsume_words.specs.Meaning.{IsHelp, texts_of};
 ghost use Rattle.tsume_words.specs.declared.faults.WordFault.{WordFault};
-ghost use Rattle.program_words.specs.Meaning.{AsksForHelp, FailsFirst, IsEndFor, IsRead, Wish, asked_file, asked_wish, command_of, file_of};
+ghost use Rattle.program_words.specs.Commands.{CommandView};
+ghost use Rattle.program_words.specs.Meaning.{AsksForHelp, FailsFirst, IsEndFor, IsRead, asked_file, asked_view, command_of, file_of};
 
 use crate::{Asked, read_words};
 use std::alloc::Global;
@@ -43,18 +44,18 @@ impl WordsRead {
     /// What the words ask for, or why they ask for nothing.
     pub fn reading(&self) -> &Result<Asked, WordsEnd>
         // What the words ask for, and the file that they name.
-        ensures command { IfOk result.now (λ asked. command_of self.now ≡ Some (asked_wish asked)) }
+        ensures command { IfOk result.now (λ asked. command_of self.now ≡ Some (asked_view asked)) }
         ensures file { IfOk result.now (λ asked. asked_file asked ≡ file_of self.now) }
         // Help, a refusal or a test's fault comes only with its cause, and wherever its cause is
         // there, but for want of memory.
         ensures ended { IfErr result.now (IsEndFor self.now) }
         ensures help { AsksForHelp self.now → IsHelp result.now
             ⊎ (result.now ≡ Err WordsEnd.NoMemory) }
-        ensures stopped { (fault : WordFault) → FailsFirst self.now fault
+        ensures failed { (fault : WordFault) → FailsFirst self.now fault
             → (result.now ≡ Err (WordsEnd.Fault fault)) ⊎ (result.now ≡ Err WordsEnd.NoMemory) }
         // Words that ask for something are not refused, but for want of memory.
-        ensures complete { (wish : Wish) → command_of self.now ≡ Some wish
-            → IsOkAnd result.now (λ asked. asked_wish asked ≡ wish)
+        ensures complete { (view : CommandView) → command_of self.now ≡ Some view
+            → IsOkAnd result.now (λ asked. asked_view asked ≡ view)
             ⊎ (result.now ≡ Err WordsEnd.NoMemory) }
     {
         self.kept()
@@ -63,17 +64,17 @@ impl WordsRead {
     /// The same, without the words.
     pub fn into_reading(self) -> Result<Asked, WordsEnd>
         // What the words ask for, and the file that they name.
-        ensures command { IfOk result (λ asked. command_of self ≡ Some (asked_wish asked)) }
+        ensures command { IfOk result (λ asked. command_of self ≡ Some (asked_view asked)) }
         ensures file { IfOk result (λ asked. asked_file asked ≡ file_of self) }
         // Help, a refusal or a test's fault comes only with its cause, and wherever its cause is
         // there, but for want of memory.
         ensures ended { IfErr result (IsEndFor self) }
         ensures help { AsksForHelp self → IsHelp result ⊎ (result ≡ Err WordsEnd.NoMemory) }
-        ensures stopped { (fault : WordFault) → FailsFirst self fault
+        ensures failed { (fault : WordFault) → FailsFirst self fault
             → (result ≡ Err (WordsEnd.Fault fault)) ⊎ (result ≡ Err WordsEnd.NoMemory) }
         // Words that ask for something are not refused, but for want of memory.
-        ensures complete { (wish : Wish) → command_of self ≡ Some wish
-            → IsOkAnd result (λ asked. asked_wish asked ≡ wish) ⊎ (result ≡ Err WordsEnd.NoMemory) }
+        ensures complete { (view : CommandView) → command_of self ≡ Some view
+            → IsOkAnd result (λ asked. asked_view asked ≡ view) ⊎ (result ≡ Err WordsEnd.NoMemory) }
     {
         self.into_kept()
     }

@@ -1,7 +1,7 @@
 -- What the user is told of a run beside its answer.
 use Rattle.std.specs.Prelude.{◌≡◌, ◌++◌, ◌⊎◌, ℕ, List, [], ◌∷◌, Option, Some, None, codes}
-use Rattle.fault_notes.specs.declared.trouble.Trouble.{Trouble}
-use Rattle.fault_notes.specs.Shown.{IsHarmless, IsPlain, IsReadable}
+use Rattle.explanations.specs.declared.trouble.Trouble.{Trouble}
+use Rattle.explanations.specs.Shown.{IsHarmless, IsPlain, IsReadable}
 use Rattle.app_texts.specs.declared.fault.ProblemFault.{ProblemFault}
 use Rattle.app_texts.specs.declared.fault.ProblemFault.TheVariants.{Text, Diagram, DefenderInCheck}
 use Rattle.one_run.specs.declared.ended.Ended.{Ended}
@@ -14,9 +14,9 @@ use Rattle.one_run.specs.declared.written.Written.TheVariants as written
 -- What stands for a reader behind the line of a problem's fault: printable ASCII and line feeds,
 -- and of a diagram's the characters of Japanese texts too.
 abbrev pub MayFollowProblem : ProblemFault → List ℕ → Type 0
-MayFollowProblem (Text fault) note = IsPlain note
-MayFollowProblem (Diagram fault) note = IsReadable note
-MayFollowProblem DefenderInCheck note = IsPlain note
+MayFollowProblem (Text fault) explanation = IsPlain explanation
+MayFollowProblem (Diagram fault) explanation = IsReadable explanation
+MayFollowProblem DefenderInCheck explanation = IsPlain explanation
 
 -- What the user is told of a run: a line in words, if any; and what may stand behind it for a
 -- reader, which can't steer a terminal.
@@ -26,11 +26,11 @@ pub record Telling : Type 1 where
 
 -- The user is told nothing.
 abbrev pub nothing : Telling
-nothing = record { line = None; MayFollow = λ note. note ≡ [] }
+nothing = record { line = None; MayFollow = λ explanation. explanation ≡ [] }
 
 -- The user is told this line, and nothing behind it.
 abbrev pub alone : List ℕ → Telling
-alone text = record { line = Some text; MayFollow = λ note. note ≡ [] }
+alone text = record { line = Some text; MayFollow = λ explanation. explanation ≡ [] }
 
 -- The user is told this line, and behind it printable ASCII and line feeds.
 abbrev pub plainly : List ℕ → Telling

@@ -1,13 +1,13 @@
 // What explains a fault of a text.
 use app_texts::ProblemFault;
 use cert_text::CertFault;
-use fault_notes::Trouble;
+use explanations::Trouble;
 use std::alloc::{AllocError, Global};
 
 /// What may be wrong with a command's text: its line for the user, and what explains it.
 pub trait Explained {
     ghost use Rattle.std.specs.Prelude.{◌≡◌, ℕ, List, [], IfOk, MatchOption, string_bytes};
-    ghost use Rattle.fault_notes.specs.Shown.{IsHarmless};
+    ghost use Rattle.explanations.specs.Shown.{IsHarmless};
 
     /// It in words.
     ghost text_of: { Self → List ℕ };
@@ -22,7 +22,8 @@ pub trait Explained {
     /// What explains it, if anything does.
     fn trouble(&self) -> Option<Trouble>
         ensures harmless { MatchOption result (MayFollow self.now [])
-            (λ trouble. (note : List ℕ) → IsHarmless trouble note → MayFollow self.now note) }
+            (λ trouble. (explanation : List ℕ) → IsHarmless trouble explanation
+            → MayFollow self.now explanation) }
         // Nothing may always follow.
         ensures nothing { MayFollow self.now [] };
 }
@@ -50,11 +51,11 @@ impl Explained for ProblemFault {
 
 impl Explained for CertFault {
     ghost use Rattle.cert_text.specs.FaultText.{certificate_fault_text};
-    ghost use Rattle.fault_notes.specs.Shown.{IsPlain};
+    ghost use Rattle.explanations.specs.Shown.{IsPlain};
 
     ghost text_of = { certificate_fault_text };
 
-    ghost MayFollow = { λ fault note. IsPlain note };
+    ghost MayFollow = { λ fault explanation. IsPlain explanation };
 
     fn line(&self, alloc: Global) -> Result<String, AllocError> {
         format!(in alloc; "{self}")

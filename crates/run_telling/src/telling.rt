@@ -3,7 +3,7 @@ ghost use Rattle.std.specs.Prelude.{◌≡◌, ◌⊎◌, List, ℕ, [], IfOk};
 ghost use Rattle.run_telling.specs.Telling.{BeginsAsTold, IsToldLine, ended_telling, fault_telling, written_telling};
 
 use crate::Explained;
-use fault_notes::{Trouble, explain};
+use explanations::{Trouble, explain};
 use one_run::{Ended, Fault, Written};
 use std::alloc::{AllocError, Global};
 
@@ -23,8 +23,8 @@ pub fn told_line(
     let Some(trouble) = trouble else {
         return Ok(text);
     };
-    if let Ok(note) = explain(alloc, trouble, input) {
-        text.extend_from_slice(&note).ok();
+    if let Ok(explanation) = explain(alloc, trouble, input) {
+        text.extend_from_slice(&explanation).ok();
     }
     Ok(text)
 }

@@ -29,7 +29,7 @@ use Rattle.lone_port.specs.Alone.{IsOwnStep, HasCause, for_one, told_to_one, wor
 use Rattle.search_pool.specs.declared.end.SearchEnd.{SearchEnd}
 use Rattle.search_pool.specs.declared.end.SearchEnd.TheVariants.{Solved, Unknown}
 use Rattle.search_pool.specs.End.{IsOutcome, IsAlone}
-use Rattle.search_pool.specs.Laws.{AreSameAlone, Standing, HasRun, AloneGoesOneWay, AloneHasOneAnswer}
+use Rattle.search_pool.specs.Laws.{AreSameAlone, AloneState, HasRun, AloneGoesOneWay, AloneHasOneAnswer}
 use Rattle.search_pool.specs.Inside.{IsWindingUp}
 use Rattle.search_pool.proofs.Winding.{winding_on, ends_so}
 use Rattle.search_pool.proofs.Entering.{AreApartIn, apart_at_first}
@@ -341,10 +341,10 @@ the_end None some = absurd (cc)
 the_end (Some end) some = (end, refl)
 
 -- Where it has come to.
-abbrev standing : (problem : Board) (s : SettingsView) (answer : SearchEnd) → IsAlone problem s answer → Standing
-standing problem s answer alone = record { log = alone.2.log; port = alone.2.port; worker = alone.2.worker }
+abbrev alone_state : (problem : Board) (s : SettingsView) (answer : SearchEnd) → IsAlone problem s answer → AloneState
+alone_state problem s answer alone = record { log = alone.2.log; port = alone.2.port; worker = alone.2.worker }
 
-has_run : (problem : Board) (s : SettingsView) (answer : SearchEnd) (alone : IsAlone problem s answer) → HasRun problem s (standing problem s answer alone)
+has_run : (problem : Board) (s : SettingsView) (answer : SearchEnd) (alone : IsAlone problem s answer) → HasRun problem s (alone_state problem s answer alone)
 has_run problem s answer (schedule, own, run) =
     let end = the_end (end_of run.worker.state) run.ended in
     let told = kept_by IsTold stays_told schedule (told_to_one run.log) (alone_at_first problem s.expansions s.room s.rows) run.port (worker_at_first problem 1) run.worker
@@ -360,5 +360,5 @@ has_run problem s answer (schedule, own, run) =
 -- A search with one worker has one answer.
 pub one_answer : AreLaws → AloneHasOneAnswer
 one_answer laws problem s r end other same h k =
-    let once = one_way laws problem s r (standing problem s end h) (standing problem r other k) same (has_run problem s end h) (has_run problem r other k) in
-    outcome_once s r k.2.port k.2.worker end other same (subst (λ (z : Standing). IsOutcome s z.port z.worker end) once h.2.outcome) k.2.outcome
+    let once = one_way laws problem s r (alone_state problem s end h) (alone_state problem r other k) same (has_run problem s end h) (has_run problem r other k) in
+    outcome_once s r k.2.port k.2.worker end other same (subst (λ (z : AloneState). IsOutcome s z.port z.worker end) once h.2.outcome) k.2.outcome

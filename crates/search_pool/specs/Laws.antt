@@ -22,13 +22,13 @@ pub record AreSameAlone (s other : SettingsView) : Type 0 where
 
 -- Where a search with one worker has come to: what it asked and was told, its table with its desk,
 -- and its worker.
-pub record Standing : Type 0 where
+pub record AloneState : Type 0 where
   pub log : List Exchange
   pub port : LonePortView
   pub worker : WorkerView
 
 -- A search with one worker, under its own steps, has ended there, and not for want of memory.
-pub record HasRun (problem : Board) (s : SettingsView) (at : Standing) : Type 0 where
+pub record HasRun (problem : Board) (s : SettingsView) (at : AloneState) : Type 0 where
   pub schedule : List Event
   pub own : All IsOwnStep schedule
   pub runs : RunsAlone problem s schedule at.log at.port at.worker
@@ -40,7 +40,7 @@ pub record HasRun (problem : Board) (s : SettingsView) (at : Standing) : Type 0 
 -- of which ended for want of memory, asked and were told the same, and their tables, their desks
 -- and their workers stand the same at the end.
 abbrev pub AloneGoesOneWay : Type 0
-AloneGoesOneWay = (problem : Board) (s r : SettingsView) (end other : Standing) → AreSameAlone s r
+AloneGoesOneWay = (problem : Board) (s r : SettingsView) (end other : AloneState) → AreSameAlone s r
     → HasRun problem s end → HasRun problem r other → end ≡ other
 
 -- A law: so it has one answer: the same note; or the same cause, and the worker as it stands. (That

@@ -6,8 +6,6 @@
 #![tactic(auto)]
 
 #[cfg(test)]
-mod crews;
-#[cfg(test)]
 mod problems;
 #[cfg(test)]
 mod same;

@@ -1,6 +1,6 @@
 use crate::same::{same, shown};
 use cert_text::{CertEnd, read_cert};
-use fault_notes::{Trouble, explain};
+use explanations::{Trouble, explain};
 use kif_text::read_kif;
 use sfen_text::read_sfen;
 use std::process::Abort;
@@ -15,10 +15,10 @@ fn columns_of(line: &str) -> usize {
 }
 
 fn told(rt: &(impl Abort + AllocGlobal), trouble: Trouble, input: &[u8], wanted: &str) {
-    let note = explain(rt.alloc(), trouble, input)
+    let explanation = explain(rt.alloc(), trouble, input)
         .ok()
         .expect(rt, "memory");
-    same(rt, trouble, shown(&note), wanted);
+    same(rt, trouble, shown(&explanation), wanted);
     for line in wanted.lines() {
         same(rt, line, columns_of(line) < 80, true);
     }
@@ -308,6 +308,109 @@ fn a_fault_of_a_certificate_is_explained(rt: HostRuntime) {
         };
         let fault = fault.expect(&rt, wanted);
         told(&rt, Trouble::Certificate(fault), input, wanted);
+    }
+}
+
+// What is told first of words that are refused, and what is told behind it.
+const WORDS: &[(&str, &str)] = &[
+    (
+        "error: unexpected argument 'b' found\n\nUsage: tsume solve [OPTIONS] [FILE]\n",
+        "An SFEN is read from standard input or from a file, and is no word of the line:\necho '9/4k4/8R/9/9/9/9/9/9 b R' | tsume solve\n",
+    ),
+    (
+        "error: unexpected argument 'sfen' found\n",
+        "An SFEN is read from standard input or from a file, and is no word of the line:\necho '9/4k4/8R/9/9/9/9/9/9 b R' | tsume solve\n",
+    ),
+    ("error: unexpected argument 'x' found\n", ""),
+    (
+        "error: invalid value '5s' for '--deadline <MS>': invalid digit found in string\n",
+        "Expected: milliseconds, in digits alone. Five seconds are --deadline 5000\n",
+    ),
+    (
+        "error: invalid value '1e9' for '--expansions <N>': invalid digit found in string\n",
+        "Expected: digits alone, with no unit, comma or exponent. A million is 1000000.\n",
+    ),
+    (
+        "error: invalid value '0' for '--workers <N>': 0 is not in 1..=64\n",
+        "",
+    ),
+    (
+        "error: unexpected argument '--threads' found\n\nUsage: tsume solve --shards <N> [FILE]\n",
+        "`tsume solve` searches one problem with --workers N, a thread each.\n",
+    ),
+    (
+        "error: unexpected argument '--threads' found\n\nUsage: tsume check [OPTIONS] [FILE]\n",
+        "`tsume check` judges with --workers N, a thread each.\n",
+    ),
+    (
+        "error: unexpected argument '--workers' found\n\nUsage: tsume collection [OPTIONS] [FILE]\n",
+        "`tsume collection` searches each problem with one worker, and decides\n--threads N problems side by side.\n",
+    ),
+    (
+        "error: unexpected argument '--workers' found\n\nUsage: tsume survey [OPTIONS]\n",
+        "`tsume survey` takes as many threads as there are processors.\n",
+    ),
+    (
+        "error: unexpected argument '--kif' found\n\nUsage: tsume collection [OPTIONS] [FILE]\n",
+        "`tsume collection` reads SFEN alone. `tsume solve --kif` reads one KIF file.\n",
+    ),
+    (
+        "error: unexpected argument '--kif' found\n\nUsage: tsume check [OPTIONS] [FILE]\n",
+        "",
+    ),
+    ("rows is no power of two", ""),
+];
+
+#[test]
+fn words_that_are_refused_are_explained(rt: HostRuntime) {
+    for (input, wanted) in WORDS {
+        told(&rt, Trouble::Words, input.as_bytes(), wanted);
+    }
+}
+
+// Texts that the words give for a certificate's problem, and what is told of each.
+const ASKED: &[(&str, &str)] = &[
+    (
+        "problem.sfen",
+        "--problem takes an SFEN itself, in quotes, and not the name of its file:\ntsume check --problem \"$(cat PROBLEM)\" CERTIFICATE\n",
+    ),
+    (
+        "4k4/9/4P4/9/9/9/9/9/9 w G",
+        "The side to move attacks, so the other side needs a king.\n",
+    ),
+    (
+        "4k4/9/4P4/9/4P4/9/9/9/9 b -",
+        "A side has at most one unpromoted pawn on a file.\n",
+    ),
+];
+
+#[test]
+fn a_problem_in_the_words_is_explained(rt: HostRuntime) {
+    for (input, wanted) in ASKED {
+        let fault = read_sfen(input.as_bytes()).err().expect(&rt, wanted);
+        told(&rt, Trouble::Asked(fault), &[], wanted);
+    }
+}
+
+// How collections begin, and what is told of each.
+const FRONTS: &[(&str, &str)] = &[
+    (
+        "# KIF\n手合割：平手\n",
+        "tsume: this looks like a game record or a diagram. `collection` reads an SFEN\nin each line; `tsume solve --kif` reads the board diagram of a KIF file.\n",
+    ),
+    (
+        "後手の持駒：なし\n+---------------------------+\n",
+        "tsume: this looks like a game record or a diagram. `collection` reads an SFEN\nin each line; `tsume solve --kif` reads the board diagram of a KIF file.\n",
+    ),
+    ("9/4k4/8R/9/9/9/9/9/9 b R\t手数 3\nx\n", ""),
+    ("# 手合割\n\nx\n", ""),
+    ("", ""),
+];
+
+#[test]
+fn a_record_that_is_given_as_a_collection_is_told(rt: HostRuntime) {
+    for (input, wanted) in FRONTS {
+        told(&rt, Trouble::Collection, input.as_bytes(), wanted);
     }
 }
 

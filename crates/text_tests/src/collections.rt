@@ -63,7 +63,7 @@ fn notes_and_skipped_lines_hold_no_problem(rt: HostRuntime) -> Result<(), Fail> 
         (b"# a\na\n#\n#\tb\nb", "2<a>5<b>"),
         (b" # a", "1< # a>"),
         (b" a ", "1< a >"),
-        // What begins with a tab is a note; a line with nothing but spaces before it is skipped.
+        // What begins with a tab is a remark; a line with nothing but spaces before it is skipped.
         (b"a\tx", "1<a>"),
         (b"a\tx\ty\nb\t\n", "1<a>2<b>"),
         (b"a \tx", "1<a >"),
@@ -107,7 +107,7 @@ fn a_line_of_too_many_bytes_is_told(rt: HostRuntime) -> Result<(), Fail> {
         (b"", b'a', MOST_PROBLEM_BYTES, b"\r\nb", "1<>2<b>"),
         (b"", b'a', MOST_PROBLEM_BYTES + 1, b"\nb", "1!<>2<b>"),
         (b"", b'a', MOST_PROBLEM_BYTES, b"\r", "1!<\r>"),
-        // A note counts; what is skipped may be longer.
+        // A remark counts; what is skipped may be longer.
         (b"c\t", b'a', MOST_PROBLEM_BYTES - 2, b"\nb", "1<c>2<b>"),
         (b"c\t", b'a', MOST_PROBLEM_BYTES - 1, b"\nb", "1!<c>2<b>"),
         (b"# ", b'a', MOST_PROBLEM_BYTES, b"\nb", "2<b>"),

@@ -2,43 +2,44 @@
 use Rattle.std.specs.Prelude.{◌≡◌, ◌⊎◌, List, Option, Some, None, String, ⊤, string_bytes}
 use Rattle.std.specs.Global.{Global}
 use Rattle.clap.specs.Words.{Text as Word}
-use Rattle.program_words.specs.Meaning.{IsRefusalOf, MayAskForHelp, Wish}
-use Rattle.program_words.specs.Meaning.Wish.{to_solve, to_check, to_survey, to_collect}
+use Rattle.program_words.specs.Commands.{CommandView}
+use Rattle.program_words.specs.Commands.CommandView.{to_solve, to_check, to_survey, to_collect}
+use Rattle.program_words.specs.Meaning.{IsRefusalOf, MayAskForHelp}
 use Rattle.app_texts.specs.declared.fault.ProblemFault.{ProblemFault}
 use Rattle.one_run.specs.declared.written.Written.TheVariants.{Whole, NoMemory as HelpNoMemory}
 use Rattle.one_run.specs.Outside.{Shown, IsUntouched}
 use Rattle.one_run.specs.Stops.{Signals, AreUnused}
 use Rattle.one_run.specs.Written.{Statement, IsStatedRun}
 use Rattle.cmd_solve.specs.Headline.{IsSolveRun}
-use Rattle.cmd_check.specs.Asked.{IsGivenFault, IsProblemAsked}
+use Rattle.cmd_check.specs.Asked.{IsFaultInWords, AnyProblemIsSound}
 use Rattle.cmd_check.specs.Headline.{IsCheckRun}
 use Rattle.cmd_survey.specs.Headline.{IsSurveyRun}
 use Rattle.cmd_collection.specs.Headline.{IsCollectionRun}
 use Rattle.tsume_app.specs.declared.ended.Ended.{Ended}
-use Rattle.tsume_app.specs.declared.ended.Ended.TheVariants.{Solve, Check, Survey, Collection, Help, Refused}
+use Rattle.tsume_app.specs.declared.ended.Ended.TheVariants as ends
 use Rattle.tsume_app.specs.declared.ended.Refusal.{Refusal}
 use Rattle.tsume_app.specs.declared.ended.Refusal.TheVariants.{NotUtf8, Words, Asked, NoMemory}
 
 -- The words ask to check for a problem whose text is none: this is its first fault.
-abbrev pub GivesFault : Option Wish → ProblemFault → Type 0
+abbrev pub GivesFault : Option CommandView → ProblemFault → Type 0
 GivesFault None fault = ⊥
-GivesFault (Some (to_check asked)) fault = IsGivenFault asked.problem fault
+GivesFault (Some (to_check asked)) fault = IsFaultInWords asked.problem fault
 GivesFault (Some other) fault = ⊥
 
 -- The words ask to check for a problem whose text is one, or for none.
-abbrev pub GivesProblem : Option Wish → Type 0
+abbrev pub GivesProblem : Option CommandView → Type 0
 GivesProblem None = ⊥
-GivesProblem (Some (to_check asked)) = IsProblemAsked asked.problem
+GivesProblem (Some (to_check asked)) = AnyProblemIsSound asked.problem
 GivesProblem (Some other) = ⊥
 
 -- Why no command was begun: the words are refused with this cause; or they give a problem that is
 -- none; or memory was wanted, which is free. (That a word is no UTF-8 is told before the program's
 -- run.)
-abbrev pub IsRefusal : List Word → Option Wish → Refusal → Type 0
-IsRefusal words wish NotUtf8 = ⊥
-IsRefusal words wish (Words fault) = (wish ≡ None) × IsRefusalOf words fault
-IsRefusal words wish (Asked fault) = GivesFault wish fault × ¬ GivesProblem wish
-IsRefusal words wish NoMemory = ⊤
+abbrev pub IsRefusal : List Word → Option CommandView → Refusal → Type 0
+IsRefusal words view NotUtf8 = ⊥
+IsRefusal words view (Words fault) = (view ≡ None) × IsRefusalOf words fault
+IsRefusal words view (Asked fault) = GivesFault view fault × ¬ GivesProblem view
+IsRefusal words view NoMemory = ⊤
 
 -- Nothing was read, and no stop used.
 abbrev pub IsUnasked : Signals → Shown → Type 0
@@ -52,25 +53,25 @@ help_meaning = record { IsTrue = λ text. ⊤; text_of = string_bytes }
 -- run, where it ended as that command does; and no other command ends a run. Where no command was
 -- begun, words that ask for none may ask for help, whose text was written; or there was a refusal,
 -- and nothing was written.
-abbrev pub IsKept : Ended → Option Wish → List Word → Signals → Shown → Shown → Type 0
-IsKept (Solve ended) (Some (to_solve asked)) words stops source sink =
+abbrev pub IsKept : Ended → Option CommandView → List Word → Signals → Shown → Shown → Type 0
+IsKept (ends.Solve ended) (Some (to_solve asked)) words stops source sink =
     IsSolveRun asked stops source sink ended
-IsKept (Check ended) (Some (to_check asked)) words stops source sink =
+IsKept (ends.Check ended) (Some (to_check asked)) words stops source sink =
     IsCheckRun asked.problem source sink ended × AreUnused stops
-IsKept (Survey ended) (Some (to_survey range)) words stops source sink =
+IsKept (ends.Survey ended) (Some (to_survey range)) words stops source sink =
     IsSurveyRun range sink ended × IsUnasked stops source
-IsKept (Collection ended) (Some (to_collect asked)) words stops source sink =
+IsKept (ends.Collection ended) (Some (to_collect asked)) words stops source sink =
     IsCollectionRun asked source sink ended × AreUnused stops
-IsKept (Help ended) None words stops source sink =
+IsKept (ends.Help ended) None words stops source sink =
     MayAskForHelp words × IsStatedRun help_meaning sink ended × IsUnasked stops source
-IsKept (Refused refusal) wish words stops source sink =
-    IsRefusal words wish refusal × IsUnasked stops source × IsUntouched sink
-IsKept ended wish words stops source sink = ⊥
+IsKept (ends.Refused refusal) view words stops source sink =
+    IsRefusal words view refusal × IsUnasked stops source × IsUntouched sink
+IsKept ended view words stops source sink = ⊥
 
 -- The run ended with help, or with the version, written whole.
 abbrev pub GivesHelp : Ended → Type 0
-GivesHelp ended = (text : String Global) × (ended ≡ Help (Whole text))
+GivesHelp ended = (text : String Global) × (ended ≡ ends.Help (Whole text))
 
 -- The run ended for want of memory before a command was begun.
 abbrev pub WantsMemory : Ended → Type 0
-WantsMemory ended = (ended ≡ Refused NoMemory) ⊎ (ended ≡ Help HelpNoMemory)
+WantsMemory ended = (ended ≡ ends.Refused NoMemory) ⊎ (ended ≡ ends.Help HelpNoMemory)

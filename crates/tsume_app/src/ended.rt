@@ -3,15 +3,45 @@ ghost use Rattle.std.specs.Prelude.{◌≡◌, IfOk};
 ghost use Rattle.run_telling.specs.Telling.{BeginsAsTold};
 ghost use Rattle.tsume_app.specs.Told.{refusal_status, refusal_telling, status_of, telling_of};
 
-use app_texts::{Judgement, ProblemFault, Solution};
-use cert_text::CertFault;
-use cmd_collection::{Counts, NoFault};
-use cmd_survey::Summary;
-use fault_notes::Trouble;
+use app_texts::ProblemFault;
+use explanations::Trouble;
 use one_run::Written;
-use run_telling::{Status, told_line, told_of, told_of_written};
+use run_telling::{Explained, Status, told_line, told_of, told_of_written};
 use std::alloc::{AllocError, Global};
 use tsume_words::WordFault;
+
+// An ending of which the user may be told.
+trait Tells {
+    ghost use Rattle.std.specs.Prelude.{IfOk};
+    ghost use Rattle.run_telling.specs.Telling.{BeginsAsTold, Telling};
+
+    // What is told.
+    ghost telling_of: { Self → Telling };
+
+    // Its text. Errors: want of memory for the line.
+    fn told(&self, alloc: Global) -> Result<Vec<u8>, AllocError>
+        ensures { IfOk result (λ text. BeginsAsTold (telling_of self.now) text.items) };
+}
+
+impl<A, F: Explained> Tells for one_run::Ended<A, F> {
+    ghost use Rattle.run_telling.specs.Telling.{ended_telling};
+
+    ghost telling_of = { ended_telling F.text_of F.MayFollow };
+
+    fn told(&self, alloc: Global) -> Result<Vec<u8>, AllocError> {
+        told_of(alloc, self)
+    }
+}
+
+impl<A> Tells for Written<A> {
+    ghost use Rattle.run_telling.specs.Telling.{written_telling};
+
+    ghost telling_of = { written_telling };
+
+    fn told(&self, alloc: Global) -> Result<Vec<u8>, AllocError> {
+        told_of_written(alloc, self)
+    }
+}
 
 /// Why no command was begun. Nothing was read or written.
 #[derive(Drop)]
@@ -31,17 +61,31 @@ pub enum Refusal {
 #[derive(Drop)]
 pub enum Ended {
     /// As `solve`.
-    Solve(one_run::Ended<Solution, ProblemFault>),
+    Solve(one_run::Ended<app_texts::Solution, ProblemFault>),
     /// As `check`.
-    Check(one_run::Ended<Judgement, CertFault>),
+    Check(one_run::Ended<app_texts::Judgement, cert_text::CertFault>),
     /// As `survey`.
-    Survey(Written<Summary>),
+    Survey(Written<cmd_survey::Summary>),
     /// As `collection`.
-    Collection(one_run::Ended<Counts, NoFault>),
+    Collection(one_run::Ended<cmd_collection::Counts, cmd_collection::NoFault>),
     /// With help, or with the version, as clap made it.
     Help(Written<String>),
     /// No command was begun.
     Refused(Refusal),
+}
+
+// Does the same with the ending, whatever command it is of, and with a refusal.
+macro_rules! with_ending {
+    ($ended:expr, $ending:ident => $then:expr) => {
+        match $ended {
+            Ended::Solve($ending) => $then,
+            Ended::Check($ending) => $then,
+            Ended::Survey($ending) => $then,
+            Ended::Collection($ending) => $then,
+            Ended::Help($ending) => $then,
+            Ended::Refused($ending) => $then,
+        }
+    };
 }
 
 impl Refusal {
@@ -63,11 +107,20 @@ impl Refusal {
             Refusal::NotUtf8 => told_line(alloc, "a word is not UTF-8", None, &[]),
             Refusal::Words(fault) => {
                 let words = format!(in alloc; "{fault}")?;
-                told_line(alloc, words.as_str(), None, &[])
+                let told = words.as_str();
+                told_line(alloc, told, Some(Trouble::Words), told.as_bytes())
             }
             Refusal::Asked(fault) => {
                 let words = format!(in alloc; "{fault}")?;
-                told_line(alloc, words.as_str(), None, &[])
+                match fault {
+                    ProblemFault::Text(fault) => {
+                        told_line(alloc, words.as_str(), Some(Trouble::Asked(*fault)), &[])
+                    }
+                    ProblemFault::Diagram(_) => told_line(alloc, words.as_str(), None, &[]),
+                    ProblemFault::DefenderInCheck => {
+                        told_line(alloc, words.as_str(), Some(Trouble::DefenderInCheck), &[])
+                    }
+                }
             }
             Refusal::NoMemory => told_line(alloc, "out of memory", Some(Trouble::NoMemory), &[]),
         }
@@ -82,14 +135,7 @@ impl Ended {
     pub fn status(&self) -> u8
         ensures { result ≡ status_of self.now }
     {
-        match self {
-            Ended::Solve(ended) => ended.status(),
-            Ended::Check(ended) => ended.status(),
-            Ended::Survey(ended) => ended.status(),
-            Ended::Collection(ended) => ended.status(),
-            Ended::Help(ended) => ended.status(),
-            Ended::Refused(refusal) => refusal.status(),
-        }
+        with_ending!(self, ending => ending.status())
     }
 
     /// What the user is told of the run beside its answer: nothing where it was answered; else a
@@ -98,13 +144,6 @@ impl Ended {
     pub fn told(&self, alloc: Global) -> Result<Vec<u8>, AllocError>
         ensures { IfOk result (λ text. BeginsAsTold (telling_of self.now) text.items) }
     {
-        match self {
-            Ended::Solve(ended) => told_of(alloc, ended),
-            Ended::Check(ended) => told_of(alloc, ended),
-            Ended::Survey(ended) => told_of_written(alloc, ended),
-            Ended::Collection(ended) => told_of(alloc, ended),
-            Ended::Help(ended) => told_of_written(alloc, ended),
-            Ended::Refused(refusal) => refusal.told(alloc),
-        }
+        with_ending!(self, ending => ending.told(alloc))
     }
 }

@@ -1,8 +1,9 @@
 // The run of the program.
 ghost use Rattle.std.specs.Prelude.{◌≡◌, ◌<◌, ◌⊎◌, List, Option, Some, None, Err, IfOk, IfErr, option_map, string_bytes, length};
 ghost use Rattle.tsume_io.specs.Faults.{Rose};
-ghost use Rattle.program_words.specs.Meaning.{AsksForHelp, FailsFirst, Wish, command_of, file_of, wish_of};
-ghost use Rattle.program_words.specs.Meaning.Wish.{to_check};
+ghost use Rattle.program_words.specs.Commands.{CommandView, command_view};
+ghost use Rattle.program_words.specs.Commands.CommandView.{to_check};
+ghost use Rattle.program_words.specs.Meaning.{AsksForHelp, FailsFirst, command_of, file_of};
 ghost use Rattle.tsume_words.specs.declared.faults.WordFault.{WordFault};
 ghost use Rattle.clap.specs.Words.{Text as Word};
 ghost use Rattle.search_limits.specs.declared.settings.TheConstants.{MOST_WORKERS};
@@ -10,7 +11,7 @@ ghost use Rattle.app_texts.specs.declared.fault.ProblemFault.{ProblemFault};
 ghost use Rattle.one_run.specs.Outside.{shown};
 ghost use Rattle.one_run.specs.Stops.{AreUnused, Signals, signals};
 ghost use Rattle.one_run.specs.Written.{IsStatedRun};
-ghost use Rattle.cmd_check.specs.Asked.{IsGivenFault, check_in};
+ghost use Rattle.cmd_check.specs.Asked.{IsFaultInWords, check_in};
 ghost use Rattle.cmd_check.specs.Words.{check_view};
 ghost use Rattle.tsume_app.specs.Run.{IsKept, GivesFault, GivesHelp, WantsMemory, help_meaning};
 ghost use Rattle.tsume_app.specs.Told.{limit_told};
@@ -34,8 +35,8 @@ use tsume_words::WordsEnd;
 // Whether the problem that the words give for a certificate, where they give one, is one: else its
 // text's first fault.
 fn asked(command: &Command) -> Result<(), ProblemFault>
-    ensures fault { IfErr result (GivesFault (Some (wish_of command.now))) }
-    ensures stopped { (fault : ProblemFault) → GivesFault (Some (wish_of command.now)) fault
+    ensures fault { IfErr result (GivesFault (Some (command_view command.now))) }
+    ensures failed { (fault : ProblemFault) → GivesFault (Some (command_view command.now)) fault
         → result ≡ Err fault }
 {
     match command {
@@ -43,7 +44,7 @@ fn asked(command: &Command) -> Result<(), ProblemFault>
             asked_problem(asked)?;
             Ok(())
         }
-        Command::Solve(_) | Command::Survey(_) | Command::Collection(_) => Ok(()),
+        _ => Ok(()),
     }
 }
 
@@ -58,7 +59,7 @@ fn check_ended<R: Threads + Sync, S: Source, K: Sink>(
     ensures kept { (words : List Word) (stops : Signals) → AreUnused stops
         → IsKept result (Some (to_check (check_view asked.now))) words stops
         (shown S.left S.faults source.old source.new) (shown K.kept K.faults sink.old sink.new) }
-    ensures asked { (fault : ProblemFault) → IsGivenFault (check_in asked.now) fault
+    ensures asked { (fault : ProblemFault) → IsFaultInWords (check_in asked.now) fault
         → result ≡ Ended.Refused (Refusal.Asked fault) }
 {
     // No text stands for two problems.
@@ -88,10 +89,10 @@ fn command_ended<R: Threads + Wait + Sync, S: Source, K: Sink, G: Gate, T: Stop 
 ) -> Ended
     requires { length stops.old.items ≡ MOST_WORKERS }
     ensures kept { (words : List Word)
-        → IsKept result (Some (wish_of command.now)) words
+        → IsKept result (Some (command_view command.now)) words
         (signals T.signal stops.old.items stops.new.items)
         (shown S.left S.faults source.old source.new) (shown K.kept K.faults sink.old sink.new) }
-    ensures asked { (fault : ProblemFault) → GivesFault (Some (wish_of command.now)) fault
+    ensures asked { (fault : ProblemFault) → GivesFault (Some (command_view command.now)) fault
         → result ≡ Ended.Refused (Refusal.Asked fault) }
 {
     match command {
@@ -117,7 +118,7 @@ fn words_ended<R: Threads + Wait + Sync, S: Source, K: Sink, G: Gate, T: Stop + 
         (shown S.left S.faults source.old source.new) (shown K.kept K.faults sink.old sink.new) }
     ensures help { AsksForHelp words → ¬ Rose (K.faults sink.old) (K.faults sink.new)
         → GivesHelp result ⊎ WantsMemory result }
-    ensures stopped { (fault : WordFault) → FailsFirst words fault
+    ensures failed { (fault : WordFault) → FailsFirst words fault
         → (result ≡ Ended.Refused (Refusal.Words fault))
         ⊎ (result ≡ Ended.Refused Refusal.NoMemory) }
     ensures asked { (fault : ProblemFault) → GivesFault (command_of words) fault
@@ -150,8 +151,8 @@ fn copied(alloc: Global, text: &Option<String>) -> Result<Option<String>, AllocE
 /// Errors: want of memory alone.
 pub fn named_file(alloc: Global, words: &WordsRead) -> Result<Option<String>, AllocError>
     // The file of a command whose problem, where the words give one, has no fault.
-    ensures named { (wish : Wish) → command_of words.now ≡ Some wish
-        → ((fault : ProblemFault) → ¬ GivesFault (Some wish) fault)
+    ensures named { (view : CommandView) → command_of words.now ≡ Some view
+        → ((fault : ProblemFault) → ¬ GivesFault (Some view) fault)
         → IfOk result (λ file. option_map string_bytes file ≡ file_of words.now) }
 
     // None where the words ask for no command, or give a problem that is none.
@@ -172,7 +173,7 @@ pub fn named_file(alloc: Global, words: &WordsRead) -> Result<Option<String>, Al
 
 // How many expansions a search has that the user is told of while it runs.
 fn limit_told(command: &Command) -> Option<u64>
-    ensures { result ≡ limit_told (wish_of command.now) }
+    ensures { result ≡ limit_told (command_view command.now) }
 {
     match command {
         Command::Solve(asked) => {
@@ -182,7 +183,7 @@ fn limit_told(command: &Command) -> Option<u64>
                 None
             }
         }
-        Command::Check(_) | Command::Survey(_) | Command::Collection(_) => None,
+        _ => None,
     }
 }
 
@@ -190,8 +191,8 @@ fn limit_told(command: &Command) -> Option<u64>
 /// they don't ask for it. Whoever calls [`run`] makes a gate that tells it. Errors: want of memory
 /// alone.
 pub fn told_limit(words: &WordsRead) -> Result<Option<u64>, AllocError>
-    ensures told { (wish : Wish) → command_of words.now ≡ Some wish
-        → IfOk result (λ limit. limit ≡ limit_told wish) }
+    ensures told { (view : CommandView) → command_of words.now ≡ Some view
+        → IfOk result (λ limit. limit ≡ limit_told view) }
     ensures unasked { command_of words.now ≡ None → IfOk result (λ limit. limit ≡ None) }
 {
     match words.reading() {
@@ -262,7 +263,7 @@ pub fn run<R: Threads + Wait + Sync, S: Source, K: Sink, G: Gate, T: Stop + Drop
 
     // Each of the three tests after clap is named where it is the first to fail, unless memory is
     // wanted.
-    ensures stopped { (fault : WordFault) → FailsFirst words fault
+    ensures failed { (fault : WordFault) → FailsFirst words fault
         → (result ≡ Ended.Refused (Refusal.Words fault))
         ⊎ (result ≡ Ended.Refused Refusal.NoMemory) }
 

@@ -1,6 +1,7 @@
 // How far a search has come, for a user who waits. No clause depends on it.
 ghost use Rattle.std.specs.Prelude.{◌≡◌};
 
+use crate::pipe::Pipe;
 use search_gate::Gate;
 use std::sync::atomic::{AtomicBool, AtomicU64, Ordering};
 use std::time::Clock;
@@ -42,35 +43,60 @@ impl fmt::Display for Grouped {
     }
 }
 
-/// A gate that tells the user how many of so many visits were used, a few times a second and each
-/// time over the line before; where it isn't asked to, it is an open gate.
+/// A gate that tells the user for how long a search has run, how many visits all its workers made,
+/// and how many a second, a few times a second and each time over the line before; where it isn't
+/// asked to, it is an open gate. It notes too where the reader of a pipe went away.
 #[derive(Drop)]
 pub(crate) struct Progress<'a, R> {
     system: &'a R,
     limit: Option<u64>,
     used: AtomicU64,
+    // The millisecond of the first visit, plus one; 0 before it.
+    begun: AtomicU64,
     due: AtomicU64,
+    // How many milliseconds had passed at the last visit.
+    passed: AtomicU64,
     is_shown: AtomicBool,
+    is_closed: AtomicBool,
+}
+
+// How many visits were made a second, of so many in so many milliseconds.
+fn pace(used: u64, passed: u64) -> u64 {
+    if passed < 1_000 {
+        return used;
+    }
+    used.saturating_mul(1_000) / passed
 }
 
 impl<'a, R: io::Eprint + Clock> Progress<'a, R> {
-    /// With the limit that is told, if anything is.
+    /// With the limit of what is told, if anything is.
     pub(crate) fn new(system: &'a R, limit: Option<u64>) -> Progress<'a, R> {
         Progress {
             system,
             limit,
             used: AtomicU64::new(0),
+            begun: AtomicU64::new(0),
             due: AtomicU64::new(0),
+            passed: AtomicU64::new(0),
             is_shown: AtomicBool::new(false),
+            is_closed: AtomicBool::new(false),
+        }
+    }
+
+    // How many milliseconds have passed since the first visit.
+    fn passed_till(&self, now: u64) -> u64 {
+        let now = now.saturating_add(1);
+        match self
+            .begun
+            .compare_exchange(0, now, Ordering::SeqCst, Ordering::SeqCst)
+        {
+            Ok(_) => 0,
+            Err(begun) => now.saturating_sub(begun),
         }
     }
 
     // Whether it is time for a line; then the next one waits.
-    fn is_due(&self) -> bool {
-        let Ok(time) = self.system.monotonic() else {
-            return false;
-        };
-        let now = u64::try_from(time.as_millis()).unwrap_or(u64::MAX);
+    fn is_due(&self, now: u64) -> bool {
         let due = self.due.load(Ordering::SeqCst);
         now >= due
             && self
@@ -84,38 +110,93 @@ impl<'a, R: io::Eprint + Clock> Progress<'a, R> {
                 .is_ok()
     }
 
+    // Tells, over the line before, how far the search has come. The line fits 40 columns.
+    fn tell(&self, used: u64, passed: u64) {
+        self.is_shown.store(true, Ordering::SeqCst);
+        eprint!(self.system;
+            "\r                                       \r{} s, {} visits, {}/s",
+            passed / 1_000,
+            Grouped(used),
+            Grouped(pace(used, passed))
+        )
+        .ok();
+    }
+
     /// Clears the line, where one is shown.
     pub(crate) fn clear(&self) {
         if self.is_shown.swap(false, Ordering::SeqCst) {
-            eprint!(self.system;
-                "\r                                                        \r"
-            ).ok();
+            eprint!(self.system; "\r                                       \r").ok();
         }
     }
 
-    /// Tells how many visits were used.
+    /// Notes why a write failed, where that is a closed pipe.
+    pub(crate) fn note(&self, reason: &io::Error) {
+        if reason.kind() == io::ErrorKind::BrokenPipe {
+            self.is_closed.store(true, Ordering::SeqCst);
+        }
+    }
+
+    // Tells how many visits were used, in how long, and what else there is to say.
+    fn tell_end(&self, used: u64, more: &str) {
+        let passed = self.passed.load(Ordering::SeqCst);
+        eprintln!(self.system;
+            "tsume: {} visits used in {}.{} s{}",
+            Grouped(used),
+            passed / 1_000,
+            passed % 1_000 / 100,
+            more
+        )
+        .ok();
+    }
+
+    /// Tells how many visits a verdict took.
     pub(crate) fn tell_used(&self) {
         let used = self.used.load(Ordering::SeqCst);
         if self.limit.is_some() && used > 0 {
-            eprintln!(self.system; "tsume: {} visits used", Grouped(used)).ok();
+            self.tell_end(used, "");
         }
+    }
+
+    /// Tells how many visits were made where the search gave up, and what to do.
+    pub(crate) fn tell_given_up(&self) {
+        let Some(limit) = self.limit else {
+            return;
+        };
+        let used = self.used.load(Ordering::SeqCst);
+        if used >= limit {
+            self.tell_end(used, ": all; give it more --expansions");
+        } else {
+            self.tell_end(used, ": the answer says which limit to raise");
+        }
+    }
+}
+
+impl<'a, R: io::Eprint + Clock> Pipe for Progress<'a, R> {
+    fn is_closed(&self) -> bool {
+        self.is_closed.load(Ordering::SeqCst)
     }
 }
 
 impl<'a, R: io::Eprint + Clock + Sync> Gate for Progress<'a, R> {
     fn pass(&self, _worker: u32, _expansion: u64) {
-        let Some(limit) = self.limit else {
+        if self.limit.is_none() {
+            return;
+        }
+        let used = self.used.fetch_add(1, Ordering::SeqCst).saturating_add(1);
+        let Ok(time) = self.system.monotonic() else {
             return;
         };
-        let used = self.used.fetch_add(1, Ordering::SeqCst).saturating_add(1);
-        if self.is_due() {
-            self.is_shown.store(true, Ordering::SeqCst);
-            eprint!(self.system; "\rtsume: {} of {} visits", Grouped(used), Grouped(limit)).ok();
+        let now = u64::try_from(time.as_millis()).unwrap_or(u64::MAX);
+        let passed = self.passed_till(now);
+        self.passed.store(passed, Ordering::SeqCst);
+        if self.is_due(now) {
+            self.tell(used, passed);
         }
     }
 }
 
-/// A writer that clears the line of progress, where one is shown, before it writes.
+/// A writer that clears the line of progress, where one is shown, before it writes, and has it
+/// noted where the reader of a pipe went away.
 #[derive(Drop)]
 pub(crate) struct Clearing<'a, R, W> {
     progress: &'a Progress<'a, R>,
@@ -137,7 +218,11 @@ impl<'a, R: io::Eprint + Clock, W: io::Write + Drop> io::Write for Clearing<'a, 
 
     fn write(&mut self, buf: &[u8]) -> io::Result<usize> {
         self.progress.clear();
-        self.writer.write(buf)
+        let answer = self.writer.write(buf);
+        if let Err(reason) = &answer {
+            self.progress.note(reason);
+        }
+        answer
     }
 
     fn flush(&mut self) -> io::Result<()> {

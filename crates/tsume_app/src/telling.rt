@@ -7,8 +7,11 @@ ghost use Rattle.tsume_app.specs.Told.{IsTold, IsToldRun};
 
 use crate::ended::{Ended, Refusal};
 use crate::exit::Exit;
+use crate::front::Front;
+use crate::pipe::Pipe;
 use crate::program::{named_file, run, told_limit};
 use crate::progress::{Clearing, Progress};
+use explanations::{Trouble, explain};
 use program_words::WordsRead;
 use search_gate::{DeadlineStop, Gate, Stop};
 use search_limits::MOST_WORKERS;
@@ -20,7 +23,7 @@ use std::io::{self, Eprint, Print};
 use std::sync::Wait;
 use std::thread::Threads;
 use std::time::Clock;
-use tsume_io::{Noted, Opened, Sink, Source, StdClock, StdSink, StdSource, write_all};
+use tsume_io::{Opened, Remembering, Sink, Source, StdClock, StdSink, StdSource, write_all};
 
 /// How much of an ending the user was told.
 #[derive(Clone, Copy, PartialEq, Eq, Debug)]
@@ -31,7 +34,12 @@ pub enum Told {
     InPart,
     /// Nothing, for want of memory.
     Nothing,
+    /// Nothing, since the answer's reader went away, and the answer couldn't be written.
+    Unwanted,
 }
+
+// The status where the answer couldn't be written whole.
+const WRITE_FAULT: u8 = 5;
 
 /// Tells the user how a run ended, on a sink beside that of the answer: nothing where it was
 /// answered, else a line with `tsume: ` and why it wasn't. Behind it lines may stand for a reader:
@@ -49,15 +57,35 @@ pub fn tell<K: Sink>(alloc: Global, ended: &Ended, errors: &mut K) -> Told
     Told::Whole
 }
 
-/// Runs the program as [`run`] does, and tells the user how it ended: see [`tell`]. What comes back
-/// is the exit status.
-pub fn run_and_tell<R: Threads + Wait + Sync, S: Source, K: Sink, E: Sink, G: Gate, T: Stop + Drop>(
+// Tells the user how a run ended, unless the answer couldn't be written and its reader went away.
+fn tell_if_wanted<K: Sink, P: Pipe>(alloc: Global, ended: &Ended, pipe: &P, errors: &mut K) -> Told
+    ensures { IsTold (shown K.kept K.faults errors.old errors.new) ended.now result }
+{
+    if ended.status() == WRITE_FAULT && pipe.is_closed() {
+        return Told::Unwanted;
+    }
+    tell(alloc, ended, errors)
+}
+
+/// Runs the program as [`run`] does, and tells the user how it ended: see [`tell`]. A reader that
+/// closed its pipe made no mistake, so nothing is told of an answer that couldn't be written for
+/// it. What comes back is the exit status.
+pub fn run_and_tell<
+    R: Threads + Wait + Sync,
+    S: Source,
+    K: Sink,
+    E: Sink,
+    P: Pipe,
+    G: Gate,
+    T: Stop + Drop,
+>(
     rt: &R,
     alloc: Global,
     words: WordsRead,
     source: &mut S,
     sink: &mut K,
     errors: &mut E,
+    pipe: &P,
     gate: &G,
     stops: &mut Vec<T>,
 ) -> u8
@@ -67,7 +95,7 @@ pub fn run_and_tell<R: Threads + Wait + Sync, S: Source, K: Sink, E: Sink, G: Ga
         (shown E.kept E.faults errors.old errors.new) result }
 {
     let ended = run(rt, alloc, words, source, sink, gate, stops);
-    tell(alloc, &ended, errors);
+    tell_if_wanted(alloc, &ended, pipe, errors);
     ended.status()
 }
 
@@ -117,6 +145,36 @@ impl<'a> fmt::Display for Name<'a> {
     }
 }
 
+// Whether a field of an SFEN is the side to move.
+fn is_side(field: &[u8]) -> bool {
+    field.len() == 1 && (field.starts_with(b"b") || field.starts_with(b"w"))
+}
+
+// Whether the name of a file is an SFEN: a problem that was meant to be read.
+fn is_like_sfen(path: &[u8]) -> bool {
+    let slashes = path.iter().filter(|byte| **byte == b'/').count();
+    slashes == 8 && path.split(|byte| *byte == b' ').any(|field| is_side(field))
+}
+
+// What the system said where reading failed, with what was read, and what to do where that is an
+// SFEN. Errors: want of memory alone.
+fn reason_text(
+    alloc: Global,
+    file: &Option<String>,
+    reason: io::Error,
+) -> Result<String, AllocError> {
+    let Some(path) = file else {
+        return format!(in alloc; "standard input: {reason}\n");
+    };
+    let name = Name(path.as_str());
+    if is_like_sfen(path.as_bytes()) {
+        return format!(in alloc;
+            "{name}: {reason}\nThis looks like an SFEN, which is read from standard input or from a file:\necho '{name}' | tsume solve\n"
+        );
+    }
+    format!(in alloc; "{name}: {reason}\n")
+}
+
 // Tells the user what the system said where reading failed: what was read, and the reason.
 fn tell_reason<K: Sink>(
     alloc: Global,
@@ -124,17 +182,31 @@ fn tell_reason<K: Sink>(
     reason: io::Error,
     errors: &mut K,
 ) -> Told {
-    let name = Name(match file {
-        Some(path) => path.as_str(),
-        None => "standard input",
-    });
-    let Ok(line) = format!(in alloc; "{name}: {reason}\n") else {
+    let Ok(line) = reason_text(alloc, file, reason) else {
         return Told::Nothing;
     };
     if write_all(errors, line.as_bytes()).is_err() {
         return Told::InPart;
     }
     Told::Whole
+}
+
+// Tells the user what there is to say of a collection that begins so, some of whose lines are none.
+fn tell_of_front<K: Sink>(alloc: Global, front: &[u8], errors: &mut K) -> Told {
+    let Ok(note) = explain(alloc, Trouble::Collection, front) else {
+        return Told::Nothing;
+    };
+    if write_all(errors, &note).is_err() {
+        return Told::InPart;
+    }
+    Told::Whole
+}
+
+// Whether the words are those of `collection`.
+fn are_for_collection(words: &[String]) -> bool {
+    words
+        .first()
+        .is_some_and(|word| word.as_str() == "collection")
 }
 
 // Tells the user of a run that couldn't begin. What comes back is the exit status.
@@ -164,6 +236,7 @@ fn run_on_file<
     W: io::Write + Drop,
 >(rt: &R, words: Vec<String>, errors: W) -> u8 {
     let alloc = rt.alloc();
+    let is_collection = are_for_collection(&words);
     let words = WordsRead::new(alloc, words);
     let Ok(file) = named_file(alloc, &words) else {
         return fail(alloc, Refusal::NoMemory, errors);
@@ -176,7 +249,8 @@ fn run_on_file<
     };
     let progress = Progress::new(rt, limit);
     let mut errors = StdSink::new(Clearing::new(&progress, errors));
-    let mut source = StdSource::new(Noted::new(opened(rt, &file)));
+    let reader = Front::new(alloc, Remembering::new(opened(rt, &file)));
+    let mut source = StdSource::new(reader);
     let mut sink = StdSink::new(Clearing::new(&progress, io::writer(rt)));
     let status = run_and_tell(
         rt,
@@ -186,12 +260,18 @@ fn run_on_file<
         &mut sink,
         &mut errors,
         &progress,
+        &progress,
         &mut stops,
     );
-    if status == 0 {
-        progress.tell_used();
+    match status {
+        0 => progress.tell_used(),
+        1 => progress.tell_given_up(),
+        3 if is_collection => {
+            tell_of_front(alloc, source.reader().kept(), &mut errors);
+        }
+        _ => {}
     }
-    if let Some(reason) = source.reader().reason() {
+    if let Some(reason) = source.reader().reader().reason() {
         tell_reason(alloc, &file, reason, &mut errors);
     }
     status
@@ -200,10 +280,12 @@ fn run_on_file<
 /// The program over the words of the command line, the file that they name or the standard input,
 /// the standard output, and a writer for what the user is told: see [`named_file`] and
 /// [`run_and_tell`]. Words that are no UTF-8 are refused. Where reading failed, a second line tells
-/// what was read and what the system said. Where the words ask for progress, a line of how many
-/// visits were used is written a few times a second, each over the one before, and cleared when the
-/// answer is written or the user is told of a fault; behind a verdict a line tells how many it
-/// took. What comes back ends the process with the exit status.
+/// what was read and what the system said. Where the words ask for progress, a line of how far the
+/// search has come is written a few times a second, each over the one before, and cleared when the
+/// answer is written or the user is told of a fault; behind the answer a line tells how many visits
+/// it took, and where the search gave up, how to let it go on. Where the text of a collection with
+/// a fault begins as a record does, the user is told so once. What comes back ends the process with
+/// the exit status.
 pub fn start<
     R: Env + io::Input + Print + Eprint + Files + Clock + AllocGlobal + Threads + Wait + Sync,
     W: io::Write + Drop,

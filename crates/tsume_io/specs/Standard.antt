@@ -3,7 +3,7 @@ use Rattle.std.specs.Prelude.{ℕ, List, Option, None}
 use Rattle.tsume_io.specs.declared.standard.StdSource.{StdSource}
 use Rattle.tsume_io.specs.declared.standard.StdSink.{StdSink}
 use Rattle.tsume_io.specs.declared.clock.StdClock.{StdClock}
-use Rattle.tsume_io.specs.declared.opened.Noted.{Noted}
+use Rattle.tsume_io.specs.declared.opened.Remembering.{Remembering}
 use Rattle.tsume_io.specs.declared.opened.Opened.{Opened}
 use Rattle.tsume_io.specs.declared.opened.Opened.TheVariants.{File, Standard, Refused}
 
@@ -31,9 +31,9 @@ last_shown clock = clock.shown
 abbrev pub times_asked : {R : Type 0} → StdClock R → ℕ
 times_asked clock = clock.asks
 
--- the reader of which failed reads are noted
-abbrev pub noted_reader : {R : Type 0} → Noted R → R
-noted_reader noted = noted.reader
+-- the reader of which failed reads are remembered
+abbrev pub remembering_reader : {R : Type 0} → Remembering R → R
+remembering_reader noted = noted.reader
 
 -- the bytes that reads of what was opened will give, where a file and the standard input tell
 -- theirs; nothing is told where opening was refused

@@ -4,7 +4,7 @@
 //! at its last value).
 //!
 //! `read_all` and `write_all` are the two calls that the layers above make. `StdSource` and
-//! `StdSink` adapt std's readers and writers, and `StdClock` its clock; `Opened` and `Noted` are
+//! `StdSink` adapt std's readers and writers, and `StdClock` its clock; `Opened` and `Remembering` are
 //! readers for a file that may not open; `MemSource`, `MemSink` and `NeverFails` stand in memory.
 #![tactic(auto)]
 
@@ -23,7 +23,7 @@ pub use clock::StdClock;
 pub use fault::Failed;
 pub use memory::{MemSink, MemSource};
 pub use never_fails::NeverFails;
-pub use opened::{Noted, Opened};
+pub use opened::{Opened, Remembering};
 pub use sink::{Sink, WriteFault, write_all};
 pub use source::{ReadEnd, Source, read_all};
 pub use standard::{StdSink, StdSource};

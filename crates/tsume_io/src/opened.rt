@@ -31,19 +31,19 @@ impl<F: io::Read + Drop, R: io::Read + Drop> io::Read for Opened<F, R> {
 
 /// A reader that keeps the system's reason where a read of it failed, so that the user can be told.
 #[derive(Drop)]
-pub struct Noted<R> {
+pub struct Remembering<R> {
     reader: R,
     reason: Option<io::Error>,
 }
 
-impl<R: io::Read + Drop> Noted<R> {
-    ghost use Rattle.tsume_io.specs.Standard.{noted_reader};
+impl<R: io::Read + Drop> Remembering<R> {
+    ghost use Rattle.tsume_io.specs.Standard.{remembering_reader};
 
     /// This reader, of which no read failed yet.
-    pub fn new(reader: R) -> Noted<R>
-        ensures { noted_reader result ≡ reader }
+    pub fn new(reader: R) -> Remembering<R>
+        ensures { remembering_reader result ≡ reader }
     {
-        Noted {
+        Remembering {
             reader,
             reason: None,
         }
@@ -55,11 +55,11 @@ impl<R: io::Read + Drop> Noted<R> {
     }
 }
 
-impl<R: io::Read + Drop> io::Read for Noted<R> {
-    ghost use Rattle.tsume_io.specs.Standard.{noted_reader};
+impl<R: io::Read + Drop> io::Read for Remembering<R> {
+    ghost use Rattle.tsume_io.specs.Standard.{remembering_reader};
 
     // The reader's bytes.
-    ghost remaining = { λ noted. R.remaining (noted_reader noted) };
+    ghost remaining = { λ noted. R.remaining (remembering_reader noted) };
 
     fn read(&mut self, buf: &mut [u8]) -> io::Result<usize> {
         let answer = self.reader.read(buf);

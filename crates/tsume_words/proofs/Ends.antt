@@ -10,7 +10,7 @@ use Rattle.search_limits.specs.Sizes.{SettingsView}
 use Rattle.clap.specs.Kinds.{IsAmong, Kinds}
 use Rattle.clap.specs.declared.error.kind.ErrorKind.{ErrorKind}
 use Rattle.clap.specs.Simple.{subcommand_of}
-use Rattle.tsume_words.specs.Meaning.{Asks, CommandMeaning, FailFirst, HasTestLaws, IsClapsEnd, IsEnd, IsHelp, IsOutcome, IsReading, IsRefused, IsStopped, IsTakenByClap, ProgramMeaning, Tests}
+use Rattle.tsume_words.specs.Meaning.{Asks, CommandMeaning, FailFirst, HasTestLaws, IsClapsEnd, IsEnd, IsHelp, IsOutcome, IsReading, IsRefused, FailsAt, IsTakenByClap, ProgramMeaning, Tests}
 use Rattle.tsume_words.specs.Meaning.{all_words, are_sound, asked_by, clap_faults, file_by, given_by, if_sound, no_tests, search_tests, unless_faulty}
 use Rattle.search_limits.specs.declared.faults.Size.TheVariants.{Rows, Shards}
 use Rattle.tsume_words.specs.declared.faults.WordFault.{WordFault}
@@ -22,7 +22,7 @@ use Rattle.tsume_words.specs.declared.faults.WordsEnd.TheVariants.{Help, Fault, 
 
 -- where there are no tests, they have their laws
 pub no_test_laws : {View : Type 0} → HasTestLaws (no_tests {View = View})
-no_test_laws = record { unsound = λ f v stopped sound. stopped; one = λ f g v a b. absurd a; own = λ text v stopped. stopped }
+no_test_laws = record { unsound = λ f v failed sound. failed; one = λ f g v a b. absurd a; own = λ text v failed. failed }
 
 -- sound numbers pass each test
 sound_parts : PowersHaveOneBit → (n : SettingsView) → are_sound n ≡ true → IsPowerOfTwo n.rows × IsPowerOfTwo n.shards × (n.rows < n.shards → ⊥)
@@ -58,35 +58,35 @@ one_first MoreShardsThanRows (NotPowerOfTwo Shards) n a b = absurd (b.1 a.1)
 -- the tests of a search have their laws
 pub search_test_laws : {View : Type 0} → PowersHaveOneBit → (numbers : View → SettingsView) → HasTestLaws (search_tests numbers)
 search_test_laws law numbers = record {
-  unsound = λ f v stopped sound. unsound law f (numbers v) stopped sound;
+  unsound = λ f v failed sound. unsound law f (numbers v) failed sound;
   one = λ f g v a b. one_first f g (numbers v) a b;
-  own = λ text v stopped. stopped;
+  own = λ text v failed. failed;
 }
 
 -- ---- the reading of a program's words
 
-module _ {Wish Answer : Type 0} (program : ProgramMeaning Wish) (view : Answer → Wish) (file : Answer → Option Text) where
+module _ {View Answer : Type 0} (program : ProgramMeaning View) (view : Answer → View) (file : Answer → Option Text) where
   -- where clap takes the words it gives what `given_by` says
   pub given_where_taken : (words : List Text) (o : Option (Text × List Row)) (r : Result Answer WordsEnd) → IsTakenByClap program.line words
-      → o ≡ subcommand_of program.line (all_words words) → IsSomeAnd (option_and_then program.named o) (λ wish. IsOutcome program.tests view wish r)
-      → IsSomeAnd (given_by program words) (λ wish. IsOutcome program.tests view wish r)
+      → o ≡ subcommand_of program.line (all_words words) → IsSomeAnd (option_and_then program.named o) (λ asked. IsOutcome program.tests view asked r)
+      → IsSomeAnd (given_by program words) (λ asked. IsOutcome program.tests view asked r)
   given_where_taken words o r taken is h =
       let all : given_by program words ≡ option_and_then program.named o =
       ap (λ k. unless_faulty k (option_and_then program.named (subcommand_of program.line (all_words words)))) taken
       ∙ ap (option_and_then program.named) (sym is) in
-      subst (λ (w : Option Wish). IsSomeAnd w (λ wish. IsOutcome program.tests view wish r)) (sym all) h
+      subst (λ (w : Option View). IsSomeAnd w (λ asked. IsOutcome program.tests view asked r)) (sym all) h
 
   -- an error of clap's says that clap finds a fault
   fault_there : (kinds : Kinds) (k : ErrorKind) → IsAmong k kinds → kinds ≡ [] → ⊥
   fault_there [] k among e = among
   fault_there (x ∷ xs) k among e = absurd cc
 
-  -- a wish that a test stops asks for nothing
-  stopped_none : HasTestLaws program.tests → (f : WordFault) (w v : Wish) → program.tests.IsStoppedBy f w → if_sound program.tests w ≡ Some v → ⊥
-  stopped_none laws f w v stopped e = go (program.tests.is_sound w) refl e
+  -- what a test refuses asks for nothing
+  failed_none : HasTestLaws program.tests → (f : WordFault) (w v : View) → program.tests.IsFirstFailed f w → if_sound program.tests w ≡ Some v → ⊥
+  failed_none laws f w v failed e = go (program.tests.is_sound w) refl e
     where
       go : (b : Bool) → program.tests.is_sound w ≡ b → (if b then Some w else None) ≡ Some v → ⊥
-      go true is e = laws.unsound f w stopped is
+      go true is e = laws.unsound f w failed is
       go false is e = absurd cc
 
   -- want of memory keeps them
@@ -96,12 +96,12 @@ module _ {Wish Answer : Type 0} (program : ProgramMeaning Wish) (view : Answer �
     file = tt;
     ended = tt;
     help = λ asks. inr refl;
-    stopped = λ f h. inr refl;
+    failed = λ f h. inr refl;
     complete = λ w e. inr refl;
   }
 
-  same_wish : (a b : Wish) → Some a ≡ Some b → a ≡ b
-  same_wish a b e = cc
+  same_view : (a b : View) → Some a ≡ Some b → a ≡ b
+  same_view a b e = cc
 
   -- words that clap takes ask for no help
   asks_nothing : (words : List Text) → IsTakenByClap program.line words → Asks program.line words → ⊥
@@ -109,11 +109,11 @@ module _ {Wish Answer : Type 0} (program : ProgramMeaning Wish) (view : Answer �
 
   -- an outcome for what clap gave keeps them
   pub promised_by_outcome : HasTestLaws program.tests → (words : List Text) (r : Result Answer WordsEnd) → IsTakenByClap program.line words
-      → IsSomeAnd (given_by program words) (λ wish. IsOutcome program.tests view wish r) → IfOk r (λ answer. file answer ≡ file_by program words)
+      → IsSomeAnd (given_by program words) (λ asked. IsOutcome program.tests view asked r) → IfOk r (λ answer. file answer ≡ file_by program words)
       → IsReading program view file words r
   promised_by_outcome laws words r taken h names = go (given_by program words) refl h
     where
-      with : (w : Wish) (r : Result Answer WordsEnd) → given_by program words ≡ Some w → IsOutcome program.tests view w r
+      with : (w : View) (r : Result Answer WordsEnd) → given_by program words ≡ Some w → IsOutcome program.tests view w r
           → IfOk r (λ answer. file answer ≡ file_by program words) → IsReading program view file words r
       with w (Ok c) is a names =
           let sound : if_sound program.tests w ≡ Some w = ap (λ (b : Bool). if b then Some w else None) a.1 in
@@ -123,8 +123,8 @@ module _ {Wish Answer : Type 0} (program : ProgramMeaning Wish) (view : Answer �
             file = names;
             ended = tt;
             help = λ asks. absurd (asks_nothing words taken asks);
-            stopped = λ f fails. absurd (stopped_none laws f w w (subst (λ (o : Option Wish). IsSomeAnd o (program.tests.IsStoppedBy f)) is fails) sound);
-            complete = λ v e. inl (same_wish _ _ (sym means ∙ e));
+            failed = λ f fails. absurd (failed_none laws f w w (subst (λ (o : Option View). IsSomeAnd o (program.tests.IsFirstFailed f)) is fails) sound);
+            complete = λ v e. inl (same_view _ _ (sym means ∙ e));
           }
       with w (Err NoMemory) is a names = promised_by_memory words
       with w (Err (Help text)) is a names = absurd a
@@ -132,22 +132,22 @@ module _ {Wish Answer : Type 0} (program : ProgramMeaning Wish) (view : Answer �
         command = tt;
         file = tt;
         help = λ asks. absurd (asks_nothing words taken asks);
-        ended = refuses g a (subst (λ (o : Option Wish). IsSomeAnd o (program.tests.IsStoppedBy g)) (sym is) a);
-        stopped = λ f fails. inl (ap (λ x. Err (Fault x)) (laws.one f g w (subst (λ (o : Option Wish). IsSomeAnd o (program.tests.IsStoppedBy f)) is fails) a));
-        complete = λ v e. absurd (stopped_none laws g w v a (sym (ap (option_and_then (if_sound program.tests)) is) ∙ e));
+        ended = refuses g a (subst (λ (o : Option View). IsSomeAnd o (program.tests.IsFirstFailed g)) (sym is) a);
+        failed = λ f fails. inl (ap (λ x. Err (Fault x)) (laws.one f g w (subst (λ (o : Option View). IsSomeAnd o (program.tests.IsFirstFailed f)) is fails) a));
+        complete = λ v e. absurd (failed_none laws g w v a (sym (ap (option_and_then (if_sound program.tests)) is) ∙ e));
       }
         where
-          refuses : (g : WordFault) → program.tests.IsStoppedBy g w → IsStopped program words g → IsRefused program words g
+          refuses : (g : WordFault) → program.tests.IsFirstFailed g w → FailsAt program words g → IsRefused program words g
           refuses (Clap text) by fails = absurd (laws.own text w by)
           refuses (NotPowerOfTwo size) by fails = fails
           refuses MoreShardsThanRows by fails = fails
 
-      go : (o : Option Wish) → given_by program words ≡ o → IsSomeAnd o (λ wish. IsOutcome program.tests view wish r) → IsReading program view file words r
+      go : (o : Option View) → given_by program words ≡ o → IsSomeAnd o (λ asked. IsOutcome program.tests view asked r) → IsReading program view file words r
       go None is h = absurd h
       go (Some w) is h = with w r is h names
 
   -- words that clap doesn't take ask for no command
-  no_command : (words : List Text) (P : Option Wish → Type 0) → (IsTakenByClap program.line words → ⊥) → (P None → ⊥) → P (given_by program words) → ⊥
+  no_command : (words : List Text) (P : Option View → Type 0) → (IsTakenByClap program.line words → ⊥) → (P None → ⊥) → P (given_by program words) → ⊥
   no_command words P untaken bare p = go (clap_faults program.line words) refl p
     where
       go : (k : Kinds) → clap_faults program.line words ≡ k
@@ -167,7 +167,7 @@ module _ {Wish Answer : Type 0} (program : ProgramMeaning Wish) (view : Answer �
     file = tt;
     ended = (kind, among, claps);
     help = λ asks. absurd (asks.not_refused (kind, among, claps));
-    stopped = λ f fails. absurd (no_command words (λ o. IsSomeAnd o (program.tests.IsStoppedBy f)) (fault_there _ _ among) (λ x. x) fails);
+    failed = λ f fails. absurd (no_command words (λ o. IsSomeAnd o (program.tests.IsFirstFailed f)) (fault_there _ _ among) (λ x. x) fails);
     complete = λ v e. absurd (no_command words (λ o. option_and_then (if_sound program.tests) o ≡ Some v) (fault_there _ _ among) (λ x. absurd cc) e);
   }
   promised_by_clap words (Help text) kind claps (inr among) = record {
@@ -175,6 +175,6 @@ module _ {Wish Answer : Type 0} (program : ProgramMeaning Wish) (view : Answer �
     file = tt;
     ended = (kind, among, claps);
     help = λ asks. inl tt;
-    stopped = λ f fails. absurd (no_command words (λ o. IsSomeAnd o (program.tests.IsStoppedBy f)) (fault_there _ _ among) (λ x. x) fails);
+    failed = λ f fails. absurd (no_command words (λ o. IsSomeAnd o (program.tests.IsFirstFailed f)) (fault_there _ _ among) (λ x. x) fails);
     complete = λ v e. absurd (no_command words (λ o. option_and_then (if_sound program.tests) o ≡ Some v) (fault_there _ _ among) (λ x. absurd cc) e);
   }

@@ -24,11 +24,11 @@ use Rattle.tsume_words.specs.declared.faults.WordsEnd.TheVariants.{Help, Fault, 
 -- that it fails.
 pub record Tests (View : Type 0) : Type 1 where
   pub is_sound : View → Bool
-  pub IsStoppedBy : WordFault → View → Type 0
+  pub IsFirstFailed : WordFault → View → Type 0
 
 -- There are no tests but clap's.
 abbrev pub no_tests : {View : Type 0} → Tests View
-no_tests = record { is_sound = λ view. true; IsStoppedBy = λ fault view. ⊥ }
+no_tests = record { is_sound = λ view. true; IsFirstFailed = λ fault view. ⊥ }
 
 -- The rows and the shards are powers of two, and there are no more shards than rows.
 abbrev pub are_sound : SettingsView → Bool
@@ -45,7 +45,7 @@ FailFirst (Clap text) n = ⊥
 abbrev pub search_tests : {View : Type 0} → (View → SettingsView) → Tests View
 search_tests numbers = record {
   is_sound = λ view. are_sound (numbers view);
-  IsStoppedBy = λ fault view. FailFirst fault (numbers view);
+  IsFirstFailed = λ fault view. FailFirst fault (numbers view);
 }
 
 -- The outcome of the tests of a search, on these numbers: they are sound and stand in the settings,
@@ -57,16 +57,16 @@ AreTested n (Err fault) = FailFirst fault n
 -- The laws of tests: what a test stops isn't sound; only one test is the first to fail; and none of
 -- them is clap's.
 pub record HasTestLaws {View : Type 0} (tests : Tests View) : Type 0 where
-  pub unsound : (fault : WordFault) (view : View) → tests.IsStoppedBy fault view → ¬ (tests.is_sound view ≡ true)
-  pub one : (fault other : WordFault) (view : View) → tests.IsStoppedBy fault view → tests.IsStoppedBy other view → other ≡ fault
-  pub own : (text : String Global) (view : View) → ¬ tests.IsStoppedBy (Clap text) view
+  pub unsound : (fault : WordFault) (view : View) → tests.IsFirstFailed fault view → ¬ (tests.is_sound view ≡ true)
+  pub one : (fault other : WordFault) (view : View) → tests.IsFirstFailed fault view → tests.IsFirstFailed other view → other ≡ fault
+  pub own : (text : String Global) (view : View) → ¬ tests.IsFirstFailed (Clap text) view
 
 -- The outcome of what words ask for, before the tests: it passes them and stands in the answer, or
 -- else the first test that it fails. Want of memory is free.
 abbrev pub IsOutcome : {View Answer : Type 0} → Tests View → (Answer → View) → View → Result Answer WordsEnd → Type 0
 IsOutcome tests view given (Ok answer) = (view answer ≡ given) × (tests.is_sound given ≡ true)
 IsOutcome tests view given (Err (Help text)) = ⊥
-IsOutcome tests view given (Err (Fault fault)) = tests.IsStoppedBy fault given
+IsOutcome tests view given (Err (Fault fault)) = tests.IsFirstFailed fault given
 IsOutcome tests view given (Err NoMemory) = ⊤
 
 -- ---- the words of a command
@@ -96,11 +96,11 @@ IsGivenWhereTaken words = (behind : List Text) → level_fault (shape_of words.l
 -- What the words of a program mean: its clap line; what clap gives for a command of a name; what is
 -- asked for then, before the tests, none where there is no such command; the tests; and the file
 -- that is read.
-pub record ProgramMeaning (Wish : Type 0) : Type 1 where
+pub record ProgramMeaning (View : Type 0) : Type 1 where
   pub line : App
   pub IsGiven : Text × List Row → Type 0
-  pub named : Text × List Row → Option Wish
-  pub tests : Tests Wish
+  pub named : Text × List Row → Option View
+  pub tests : Tests View
   pub file : Text × List Row → Option Text
 
 -- The texts of the words.
@@ -140,31 +140,31 @@ pub record Asks (line : App) (words : List Text) : Type 0 where
   pub may : MayAsk line words
   pub not_refused : ¬ MayFail line words
 
--- A wish stands where clap found no fault.
-abbrev pub unless_faulty : {Wish : Type 0} → Kinds → Option Wish → Option Wish
-unless_faulty [] wish = wish
-unless_faulty (fault ∷ faults) wish = None
+-- What is asked for stands where clap found no fault.
+abbrev pub unless_faulty : {View : Type 0} → Kinds → Option View → Option View
+unless_faulty [] asked = asked
+unless_faulty (fault ∷ faults) asked = None
 
 -- What the words ask for, before the tests after clap: none where clap refuses them.
-abbrev pub given_by : {Wish : Type 0} → ProgramMeaning Wish → List Text → Option Wish
+abbrev pub given_by : {View : Type 0} → ProgramMeaning View → List Text → Option View
 given_by program words =
     unless_faulty (clap_faults program.line words) (option_and_then program.named (subcommand_of program.line (all_words words)))
 
--- A wish stands where it passes the tests.
-abbrev pub if_sound : {Wish : Type 0} → Tests Wish → Wish → Option Wish
-if_sound tests wish = if tests.is_sound wish then Some wish else None
+-- What is asked for stands where it passes the tests.
+abbrev pub if_sound : {View : Type 0} → Tests View → View → Option View
+if_sound tests asked = if tests.is_sound asked then Some asked else None
 
 -- What the words ask for: none where clap refuses them or a test after it fails.
-abbrev pub asked_by : {Wish : Type 0} → ProgramMeaning Wish → List Text → Option Wish
+abbrev pub asked_by : {View : Type 0} → ProgramMeaning View → List Text → Option View
 asked_by program words = option_and_then (if_sound program.tests) (given_by program words)
 
 -- The file that the words name: none for the standard input, or where nothing is read.
-abbrev pub file_by : {Wish : Type 0} → ProgramMeaning Wish → List Text → Option Text
+abbrev pub file_by : {View : Type 0} → ProgramMeaning View → List Text → Option Text
 file_by program words = option_and_then program.file (subcommand_of program.line (all_words words))
 
 -- Clap takes the words, and this test after it is the first to fail.
-abbrev pub IsStopped : {Wish : Type 0} → ProgramMeaning Wish → List Text → WordFault → Type 0
-IsStopped program words fault = IsSomeAnd (given_by program words) (program.tests.IsStoppedBy fault)
+abbrev pub FailsAt : {View : Type 0} → ProgramMeaning View → List Text → WordFault → Type 0
+FailsAt program words fault = IsSomeAnd (given_by program words) (program.tests.IsFirstFailed fault)
 
 -- What an error of clap of this kind becomes: help, where it is a request, or else a refusal; or
 -- want of memory.
@@ -177,13 +177,13 @@ IsClapsEnd kind NoMemory = ⊤
 
 -- Why the words are refused: clap's first fault is no request, or this test after clap is the first
 -- to fail.
-abbrev pub IsRefused : {Wish : Type 0} → ProgramMeaning Wish → List Text → WordFault → Type 0
+abbrev pub IsRefused : {View : Type 0} → ProgramMeaning View → List Text → WordFault → Type 0
 IsRefused program words (Clap text) = MayFail program.line words
-IsRefused program words fault = IsStopped program words fault
+IsRefused program words fault = FailsAt program words fault
 
 -- Why the words give no command: clap's first fault is a request for help or for the version; or
 -- they are refused; want of memory says nothing.
-abbrev pub IsEnd : {Wish : Type 0} → ProgramMeaning Wish → List Text → WordsEnd → Type 0
+abbrev pub IsEnd : {View : Type 0} → ProgramMeaning View → List Text → WordsEnd → Type 0
 IsEnd program words (Help text) = MayAsk program.line words
 IsEnd program words (Fault fault) = IsRefused program words fault
 IsEnd program words NoMemory = ⊤
@@ -197,7 +197,7 @@ IsHelp (Err NoMemory) = ⊥
 
 -- All that a reading of words promises, by what it came to, what is asked for then and which file
 -- is read.
-pub record IsReading {Wish Answer : Type 0} (program : ProgramMeaning Wish) (view : Answer → Wish) (file_in : Answer → Option Text) (words : List Text) (result : Result Answer WordsEnd) : Type 0 where
+pub record IsReading {View Answer : Type 0} (program : ProgramMeaning View) (view : Answer → View) (file_in : Answer → Option Text) (words : List Text) (result : Result Answer WordsEnd) : Type 0 where
   -- What comes back is what the words ask for, and the file that they name.
   pub command : IfOk result (λ answer. asked_by program words ≡ Some (view answer))
   pub file : IfOk result (λ answer. file_in answer ≡ file_by program words)
@@ -207,6 +207,6 @@ pub record IsReading {Wish Answer : Type 0} (program : ProgramMeaning Wish) (vie
   -- Help comes wherever clap's first fault is such a request, but for want of memory.
   pub help : Asks program.line words → IsHelp result ⊎ (result ≡ Err NoMemory)
   -- And each fault after clap comes where its test is the first to fail, but for want of memory.
-  pub stopped : (fault : WordFault) → IsStopped program words fault → (result ≡ Err (Fault fault)) ⊎ (result ≡ Err NoMemory)
+  pub failed : (fault : WordFault) → FailsAt program words fault → (result ≡ Err (Fault fault)) ⊎ (result ≡ Err NoMemory)
   -- Words that ask for something are not refused, but for want of memory.
-  pub complete : (wish : Wish) → asked_by program words ≡ Some wish → IsOkAnd result (λ answer. view answer ≡ wish) ⊎ (result ≡ Err NoMemory)
+  pub complete : (asked : View) → asked_by program words ≡ Some asked → IsOkAnd result (λ answer. view answer ≡ asked) ⊎ (result ≡ Err NoMemory)

@@ -35,7 +35,7 @@ const _: () = prove!(size_of::<Child>() + size_of::<Counted>() + size_of::<Numbe
 /// What is known in one visit: of which position it is, its thresholds, and what the table showed
 /// of the position's successors.
 ///
-/// Contracts see it as `Visiting` of `visit_log`. It takes at most 384 bytes, and each child at
+/// Contracts see it as `FrameView` of `visit_log`. It takes at most 384 bytes, and each child at
 /// most 136 more.
 #[derive(Drop)]
 pub struct Frame {

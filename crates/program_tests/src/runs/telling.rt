@@ -7,12 +7,12 @@ use search_gate::OpenGate;
 use std::sync::Wait;
 use std::test::Fail;
 use std::thread::Threads;
-use tsume_app::{WordsRead, run_and_tell};
+use tsume_app::{OpenPipe, Pipe, WordsRead, run_and_tell};
 use tsume_io::{MemSink, MemSource};
 
 // Words, an input, the failing call of the sink and of the user's sink; the status, and what the
 // user is told.
-static TOLD: [(&str, &str, u64, u64, u8, &str); 9] = [
+static TOLD: [(&str, &str, u64, u64, u8, &str); 11] = [
     ("solve", GOLD, 0, 0, 0, ""),
     ("solve --expansions 1", TWO_ROOKS, 0, 0, 1, ""),
     (
@@ -48,6 +48,22 @@ static TOLD: [(&str, &str, u64, u64, u8, &str); 9] = [
         "tsume: rows is no power of two\n",
     ),
     (
+        "solve --expansions 1e9",
+        GOLD,
+        0,
+        0,
+        2,
+        "tsume: error: invalid value '1e9' for '--expansions <N>': invalid digit found in string\n\nFor more information, try '--help'.\nExpected: digits alone, with no unit, comma or exponent. A million is 1000000.\n",
+    ),
+    (
+        "check --problem problem.sfen",
+        GOLD,
+        0,
+        0,
+        2,
+        "tsume: bad piece at 2\n--problem takes an SFEN itself, in quotes, and not the name of its file:\ntsume check --problem \"$(cat PROBLEM)\" CERTIFICATE\n",
+    ),
+    (
         "solve",
         GOLD,
         1,
@@ -59,12 +75,23 @@ static TOLD: [(&str, &str, u64, u64, u8, &str); 9] = [
     ("check", GOLD, 0, 2, 3, "tsume: bad "),
 ];
 
-// The status of a run on the words of a line, with sinks that fail at the calls of these numbers,
+// A pipe whose reader went away.
+#[derive(Clone, Copy, Debug, PartialEq, Eq)]
+struct ClosedPipe;
+
+impl Pipe for ClosedPipe {
+    fn is_closed(&self) -> bool {
+        true
+    }
+}
+
+// The status of a run on the words of a line, with this pipe and sinks that fail at the calls of these numbers,
 // and what the user's has kept.
-fn told<R: Threads + Wait + AllocGlobal + Sync>(
+fn told<R: Threads + Wait + AllocGlobal + Sync, P: Pipe>(
     rt: &R,
     line: &str,
     input: &str,
+    pipe: &P,
     sink: u64,
     user: u64,
 ) -> Result<(u8, String), Fail> {
@@ -81,6 +108,7 @@ fn told<R: Threads + Wait + AllocGlobal + Sync>(
         &mut from,
         &mut to,
         &mut errors,
+        pipe,
         &OpenGate,
         &mut stops_at(alloc, 0)?,
     );
@@ -91,7 +119,27 @@ fn told<R: Threads + Wait + AllocGlobal + Sync>(
 #[test]
 fn the_user_is_told_how_a_run_ended(rt: HostRuntime) -> Result<(), Fail> {
     for (line, input, sink, user, status, wanted) in TOLD {
-        let (found, text) = told(&rt, line, input, sink, user)?;
+        let (found, text) = told(&rt, line, input, &OpenPipe, sink, user)?;
+        same(&rt, (line, input), (found, text.as_str()), (status, wanted));
+    }
+    Ok(())
+}
+
+#[test]
+fn a_reader_that_went_away_is_no_mistake(rt: HostRuntime) -> Result<(), Fail> {
+    for (line, input, sink, status, wanted) in [
+        ("solve", GOLD, 1, 5, ""),
+        ("help check", "", 2, 5, ""),
+        ("solve", GOLD, 0, 0, ""),
+        (
+            "solve --rows 24",
+            GOLD,
+            0,
+            2,
+            "tsume: rows is no power of two\n",
+        ),
+    ] {
+        let (found, text) = told(&rt, line, input, &ClosedPipe, sink, 0)?;
         same(&rt, (line, input), (found, text.as_str()), (status, wanted));
     }
     Ok(())

@@ -11,7 +11,7 @@ returns-in-Err-Help c =
     let none : command_of c.args.words.now ≡ None =
     nothing_asked (command_of c.args.words.now) c.reading.result.now (ends.Help c.in-Err-Help.field-0-0)
     (c.in-Err-Help.is ∙ ap (λ (e : WordsEnd). Err e) end) (help_is_no_want c.in-Err-Help.field-0-0) c.reading.ensures.complete in
-    record { named = λ wish is sound. absurd (let same = sym none ∙ is in cc); unasked = λ nothing. refl; asked = λ fault gives. refl }
+    record { named = λ view is sound. absurd (let same = sym none ∙ is in cc); unasked = λ nothing. refl; asked = λ fault gives. refl }
 
 pub returns-in-Err-Fault : goal.returns-in-Err-Fault
 returns-in-Err-Fault c =
@@ -19,4 +19,4 @@ returns-in-Err-Fault c =
     let none : command_of c.args.words.now ≡ None =
     nothing_asked (command_of c.args.words.now) c.reading.result.now (ends.Fault c.in-Err-Fault.field-0-0)
     (c.in-Err-Fault.is ∙ ap (λ (e : WordsEnd). Err e) end) (fault_is_no_want c.in-Err-Fault.field-0-0) c.reading.ensures.complete in
-    record { named = λ wish is sound. absurd (let same = sym none ∙ is in cc); unasked = λ nothing. refl; asked = λ fault gives. refl }
+    record { named = λ view is sound. absurd (let same = sym none ∙ is in cc); unasked = λ nothing. refl; asked = λ fault gives. refl }

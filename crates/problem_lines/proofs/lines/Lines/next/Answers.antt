@@ -3,7 +3,7 @@
 use Rattle.std.proofs.Common.{◌≡◌, ◌∷◌, [], ◌+◌, ℕ, true, false, nat_lt, List, length, sym, ap, ◌∙◌, arith}
 use Rattle.std.specs.Str.Lines.{lines}
 use Rattle.std.proofs.lemmas.Bool.{eqb-true}
-use Rattle.problem_lines.specs.Lines.{NumberedLine, is_skipped, without_note, problems_among}
+use Rattle.problem_lines.specs.Lines.{NumberedLine, is_skipped, without_remark, problems_among}
 use Rattle.problem_lines.specs.declared.line.TheConstants.{MOST_PROBLEM_BYTES}
 use Rattle.problem_lines.proofs.Among.{problems_among-none, problems_among-skipped, problems_among-kept}
 use Rattle.problem_lines.proofs.Cutting.{lines-empty}
@@ -14,12 +14,12 @@ returns-then-not-is_skipped c =
     let first : ℕ = c.loop-self.self-inside.number in
     let whole : List ℕ = c.split_first.result.0.now in
     let others : List (List ℕ) = lines c.split_first.result.1.now in
-    let kept : is_skipped (without_note whole) ≡ false =
-    ap is_skipped (sym c.without_note-content.ensures) ∙ sym c.is_skipped.ensures ∙ c.if-not-is_skipped.true in
+    let kept : is_skipped (without_remark whole) ≡ false =
+    ap is_skipped (sym c.without_remark-content.ensures) ∙ sym c.is_skipped.ensures ∙ c.if-not-is_skipped.true in
     let listed : List ℕ → List NumberedLine = λ content.
     record { number = first; content = content; is_too_long = nat_lt MOST_PROBLEM_BYTES (length whole) } ∷ problems_among (first + 1) others in
     sym c.self.view_is ∙ sym c.loop-self.invariant.same ∙ ap (problems_among first) c.split_first.ensures.lines
-    ∙ problems_among-kept first whole others kept ∙ ap listed (sym c.without_note-content.ensures)
+    ∙ problems_among-kept first whole others kept ∙ ap listed (sym c.without_remark-content.ensures)
 
 pub loop-self-preserved : goal.loop-self-preserved
 loop-self-preserved c = record {
@@ -27,8 +27,8 @@ loop-self-preserved c = record {
       let first : ℕ = c.loop-self.self-inside.number in
       let whole : List ℕ = c.split_first.result.0.now in
       let others : List (List ℕ) = lines c.split_first.result.1.now in
-      let skipped : is_skipped (without_note whole) ≡ true =
-      ap is_skipped (sym c.without_note-content.ensures) ∙ sym c.is_skipped.ensures ∙ c.if-not-is_skipped.false in
+      let skipped : is_skipped (without_remark whole) ≡ true =
+      ap is_skipped (sym c.without_remark-content.ensures) ∙ sym c.is_skipped.ensures ∙ c.if-not-is_skipped.false in
       sym (problems_among-skipped first whole others skipped) ∙ ap (problems_among first) (sym c.split_first.ensures.lines) ∙ c.loop-self.invariant.same;
   few = omega (arith, c.loop-self.invariant.few, c.split_first.ensures.shorter);
 }
