@@ -87,11 +87,11 @@ impl CommandWords for Collection {
         Command::new(alloc, "collection")
             .about("Tells of every problem of a text, an SFEN a line, what is found")
             .after_help(
-                "What follows a tab in a line is a remark. A line that is empty then, or of spaces\n\
-                 alone, or that begins with #, is skipped. A line of the output begins with the\n\
-                 number of the input's line; the last line has the counts. The expansions, the\n\
-                 room and the rows count for each problem by itself. As with `solve`, every\n\
-                 interposition counts, and a mate need not be the shortest.\n\n\
+                "What follows a tab in a line is a remark. A line that is empty then, or of\n\
+                 spaces alone, or that begins with #, is skipped. A line of the output begins\n\
+                 with the number of the input's line; the last line has the counts. The\n\
+                 expansions, the room and the rows count for each problem by itself. As with\n\
+                 `solve`, every interposition counts, and a mate need not be the shortest.\n\n\
                  Status: 0 a verdict for each, 1 gave up on one, 3 a line is no problem or the\n\
                  text is too long, 2 words refused, 4 reading failed, 5 writing failed, 6 out of\n\
                  memory.\n\n\

@@ -10,7 +10,7 @@ use std::alloc::{AllocError, Global};
 use std::sync::Wait;
 use std::test::Fail;
 use std::thread::Threads;
-use tsume_app::{Ended, WordsRead, run};
+use tsume_app::{Ended, Refusal, WordsRead, run};
 use tsume_io::{MemSink, MemSource};
 
 // What a run did: its status, whether it has an answer, what the user is told beside it, how many
@@ -51,12 +51,13 @@ fn answer_and_input(ended: &Ended) -> (bool, usize) {
     }
 }
 
-// What the user is told in words: of refused words all, else the first line, without what explains
-// it.
+// What the user is told in words: where clap or a test refuses them all, else the first line,
+// without what explains it.
 fn words_told(alloc: Global, ended: &Ended) -> Result<String, Fail> {
     let text = String::from_utf8(ended.told(alloc)?)?;
     let words = text.as_str().strip_prefix("tsume: ").unwrap_or("");
     let words = match ended {
+        Ended::Refused(Refusal::Asked(_)) => words.split('\n').next().unwrap_or(""),
         Ended::Refused(_) => words.strip_suffix("\n").unwrap_or(words),
         _ => words.split('\n').next().unwrap_or(""),
     };

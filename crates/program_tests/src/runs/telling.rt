@@ -85,8 +85,8 @@ impl Pipe for ClosedPipe {
     }
 }
 
-// The status of a run on the words of a line, with this pipe and sinks that fail at the calls of these numbers,
-// and what the user's has kept.
+// The status of a run on the words of a line, with this pipe and sinks that fail at the calls of
+// these numbers, and what the user's has kept.
 fn told<R: Threads + Wait + AllocGlobal + Sync, P: Pipe>(
     rt: &R,
     line: &str,
