@@ -100,7 +100,7 @@ impl CommandWords for Collection {
             .arg(expansions_option(alloc, "100000"))?
             .arg(room_option(alloc))?
             .arg(rows_option(alloc))?
-            .arg(shards_option(alloc, false))?
+            .arg(shards_option(alloc))?
             .arg(threads_option(alloc))?
             .arg(rest_flag(alloc))?
             .arg(certificates_flag(alloc))?

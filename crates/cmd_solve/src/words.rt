@@ -65,7 +65,7 @@ impl CommandWords for Solve {
             .arg(expansions_option(alloc, "1000000"))?
             .arg(room_option(alloc))?
             .arg(rows_option(alloc))?
-            .arg(shards_option(alloc, false))?
+            .arg(shards_option(alloc))?
             .arg(deadline_option(alloc))?
             .arg(kif_flag(alloc))?
             .arg(rest_flag(alloc))?

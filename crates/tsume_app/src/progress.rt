@@ -45,7 +45,7 @@ impl fmt::Display for Grouped {
 
 /// A gate that tells the user for how long a search has run, how many visits all its workers made,
 /// and how many a second, a few times a second and each time over the line before; where it isn't
-/// asked to, it is an open gate. It notes too where the reader of a pipe went away.
+/// asked to, it is an open gate. It remembers too where the reader of a pipe went away.
 #[derive(Drop)]
 pub(crate) struct Progress<'a, R> {
     system: &'a R,
@@ -86,6 +86,10 @@ impl<'a, R: io::Eprint + Clock> Progress<'a, R> {
     // How many milliseconds have passed since the first visit.
     fn passed_till(&self, now: u64) -> u64 {
         let now = now.saturating_add(1);
+        let begun = self.begun.load(Ordering::SeqCst);
+        if begun > 0 {
+            return now.saturating_sub(begun);
+        }
         match self
             .begun
             .compare_exchange(0, now, Ordering::SeqCst, Ordering::SeqCst)
@@ -129,8 +133,8 @@ impl<'a, R: io::Eprint + Clock> Progress<'a, R> {
         }
     }
 
-    /// Notes why a write failed, where that is a closed pipe.
-    pub(crate) fn note(&self, reason: &io::Error) {
+    /// Remembers why a write failed, where that is a closed pipe.
+    pub(crate) fn remember(&self, reason: &io::Error) {
         if reason.kind() == io::ErrorKind::BrokenPipe {
             self.is_closed.store(true, Ordering::SeqCst);
         }
@@ -188,7 +192,10 @@ impl<'a, R: io::Eprint + Clock + Sync> Gate for Progress<'a, R> {
         };
         let now = u64::try_from(time.as_millis()).unwrap_or(u64::MAX);
         let passed = self.passed_till(now);
-        self.passed.store(passed, Ordering::SeqCst);
+        // Written once a millisecond at most, since all workers share it.
+        if passed > self.passed.load(Ordering::SeqCst) {
+            self.passed.store(passed, Ordering::SeqCst);
+        }
         if self.is_due(now) {
             self.tell(used, passed);
         }
@@ -196,7 +203,7 @@ impl<'a, R: io::Eprint + Clock + Sync> Gate for Progress<'a, R> {
 }
 
 /// A writer that clears the line of progress, where one is shown, before it writes, and has it
-/// noted where the reader of a pipe went away.
+/// remembered where the reader of a pipe went away.
 #[derive(Drop)]
 pub(crate) struct Clearing<'a, R, W> {
     progress: &'a Progress<'a, R>,
@@ -220,7 +227,7 @@ impl<'a, R: io::Eprint + Clock, W: io::Write + Drop> io::Write for Clearing<'a, 
         self.progress.clear();
         let answer = self.writer.write(buf);
         if let Err(reason) = &answer {
-            self.progress.note(reason);
+            self.progress.remember(reason);
         }
         answer
     }

@@ -150,10 +150,17 @@ fn is_side(field: &[u8]) -> bool {
     field.len() == 1 && (field.starts_with(b"b") || field.starts_with(b"w"))
 }
 
+// Whether a byte is one of an SFEN, so that it means nothing to a shell between quotes.
+fn is_of_sfen(byte: u8) -> bool {
+    byte.is_ascii_alphanumeric() || matches!(byte, b'/' | b' ' | b'+' | b'-')
+}
+
 // Whether the name of a file is an SFEN: a problem that was meant to be read.
 fn is_like_sfen(path: &[u8]) -> bool {
     let slashes = path.iter().filter(|byte| **byte == b'/').count();
-    slashes == 8 && path.split(|byte| *byte == b' ').any(|field| is_side(field))
+    slashes == 8
+        && path.iter().all(|byte| is_of_sfen(*byte))
+        && path.split(|byte| *byte == b' ').any(|field| is_side(field))
 }
 
 // What the system said where reading failed, with what was read, and what to do where that is an
@@ -193,10 +200,10 @@ fn tell_reason<K: Sink>(
 
 // Tells the user what there is to say of a collection that begins so, some of whose lines are none.
 fn tell_of_front<K: Sink>(alloc: Global, front: &[u8], errors: &mut K) -> Told {
-    let Ok(note) = explain(alloc, Trouble::Collection, front) else {
+    let Ok(explanation) = explain(alloc, Trouble::Collection, front) else {
         return Told::Nothing;
     };
-    if write_all(errors, &note).is_err() {
+    if write_all(errors, &explanation).is_err() {
         return Told::InPart;
     }
     Told::Whole

@@ -139,9 +139,8 @@ pub fn rows_option<'a>(alloc: Global) -> Arg<'a>
     )
 }
 
-/// Into how many parts the table is cut, which matters to several workers alone; hidden where there
-/// is one.
-pub fn shards_option<'a>(alloc: Global, is_hidden: bool) -> Arg<'a>
+/// Into how many parts the table is cut, which matters to several workers alone.
+pub fn shards_option<'a>(alloc: Global) -> Arg<'a>
     ensures rule { rule_of result ≡ shards_option }
     ensures local { result.global ≡ false }
 {
@@ -152,10 +151,9 @@ pub fn shards_option<'a>(alloc: Global, is_hidden: bool) -> Arg<'a>
         1,
         MOST_SHARDS,
         "Parts of the table, a lock each: a power of two, 1 to\n\
-             256, at most the rows; 64 or the rows, the lesser,\n\
-             unless given",
+         256, at most the rows; 64 or the rows, the lesser,\n\
+         unless given",
     )
-    .hide(is_hidden)
 }
 
 /// After how long a search gives up.
