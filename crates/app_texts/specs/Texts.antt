@@ -26,7 +26,7 @@ why_text (CheckUnanswered check) = codes "unanswered " ++ move_text check
 
 -- What was used up, that it was stopped, or that its certificate would have more entries than this.
 abbrev pub cause_text : Cause → List ℕ
-cause_text (Expansions units) = codes "expansions " ++ decimal units
+cause_text (Expansions visits) = codes "expansions " ++ decimal visits
 cause_text (Room notes) = codes "room " ++ decimal notes
 cause_text (Height height) = codes "height " ++ decimal height
 cause_text (Stopped worker) = codes "stopped"

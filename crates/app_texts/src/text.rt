@@ -112,7 +112,7 @@ pub fn append_cause(out: &mut Vec<u8>, cause: Cause) -> Result<(), AllocError>
     ensures { OnOk result (out.new.items ≡ out.old.items ++ cause_text cause) }
 {
     match cause {
-        Cause::Expansions(units) => append_counted(out, b"expansions ", units),
+        Cause::Expansions(visits) => append_counted(out, b"expansions ", visits),
         Cause::Room(notes) => append_counted(out, b"room ", u64::from(notes)),
         Cause::Height(height) => append_counted(out, b"height ", u64::from(height)),
         Cause::Stopped(_) => {

@@ -22,7 +22,7 @@ fn told(end: &SearchEnd) -> (Option<Conclusion>, Option<Cause>) {
     }
 }
 
-// How many workers a search brought with its cause, and how many units and notes they have
+// How many workers a search brought with its cause, and how many visits and notes they have
 // together.
 fn crew_of(end: &SearchEnd) -> (usize, u64, u64) {
     match end {
@@ -51,7 +51,7 @@ pub(crate) fn quiet(alloc: Global) -> Result<Vec<QuietStop>, AllocError>
 fn a_crew_ends_as_it_should(rt: HostRuntime) -> Result<(), Fail> {
     let mate = (Some(Conclusion::Mate), None);
     let escape = (Some(Conclusion::Escape), None);
-    // The problem, its workers, units and notes, how its search ends, and what its crew is, has
+    // The problem, its workers, visits and notes, how its search ends, and what its crew is, has
     // drawn and has claimed.
     let rows = [
         (GOLD, 4, 1_000, 100, mate, (0, 0, 0)),
@@ -169,7 +169,7 @@ const ROUNDS: u32 = 100_000;
 
 const LOOKS: u32 = 10_000;
 
-// Holds each of two workers at its first unit till the other one has drawn one too, or it has
+// Holds each of two workers at its first visit till the other one has drawn one too, or it has
 // waited long enough.
 #[derive(Drop)]
 struct Meeting {
@@ -206,7 +206,7 @@ impl Gate for Meeting {
 }
 
 #[test]
-fn two_workers_meet_at_their_first_units(rt: HostRuntime) -> Result<(), Fail> {
+fn two_workers_meet_at_their_first_visits(rt: HostRuntime) -> Result<(), Fail> {
     let meeting = Meeting {
         first: AtomicU64::new(0),
         second: AtomicU64::new(0),

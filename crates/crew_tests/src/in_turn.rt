@@ -1,4 +1,4 @@
-// Two workers of a search take turns, unit by unit, and are held against a world of two that does
+// Two workers of a search take turns, visit by visit, and are held against a world of two that does
 // the same.
 use crate::crews::quiet;
 use crate::problems::{ROOKS, problem};
@@ -18,10 +18,10 @@ use std::thread::{Threads, yield_now};
 use worker_core::Worker;
 use world_play::World;
 
-// The most units of a search.
-const UNITS: u64 = 1_000;
+// The most visits of a search.
+const VISITS: u64 = 1_000;
 
-// More steps than a worker takes from one unit to the next.
+// More steps than a worker takes from one visit to the next.
 const STEPS: u32 = 100_000;
 
 // How long a worker waits for its turn: so many rounds of so many looks, behind each of which it
@@ -33,20 +33,20 @@ const LOOKS: u32 = 10_000;
 // How often a search is tried whose worker was away for longer than the other one waits.
 const TRIES: u32 = 100;
 
-// Lets one of two workers at a time run from unit to unit, once both have drawn their first: worker
+// Lets one of two workers at a time run from visit to visit, once both have drawn their first: worker
 // 1 begins.
 #[derive(Drop)]
 struct Turns {
-    // How many units each has drawn.
+    // How many visits each has drawn.
     one: AtomicU64,
     two: AtomicU64,
-    // Who drew the first unit of all, and whose turn it is.
+    // Who drew the first visit of all, and whose turn it is.
     first: AtomicU64,
     on: AtomicU64,
     // Who waited long enough for the other one to have ended; from then on nobody waits, and
     // nothing is counted.
     last: AtomicU64,
-    // Whether a unit was drawn after that, so that the other one hadn't ended after all.
+    // Whether a visit was drawn after that, so that the other one hadn't ended after all.
     is_void: AtomicU64,
 }
 
@@ -88,7 +88,7 @@ impl Turns {
         false
     }
 
-    // How many units each had drawn when the first ended.
+    // How many visits each had drawn when the first ended.
     fn drawn(&self) -> (u64, u64) {
         (
             self.one.load(Ordering::SeqCst),
@@ -115,7 +115,7 @@ impl Gate for Turns {
     }
 }
 
-// What two workers in turn had drawn when the first ended, and whether worker 2 drew the first unit
+// What two workers in turn had drawn when the first ended, and whether worker 2 drew the first visit
 // of all; none where one of them was away for too long.
 fn drawn_in_turn<R: Threads + Wait + Sync>(
     rt: &R,
@@ -139,7 +139,7 @@ fn visits_of(world: &World, number: u32) -> u64 {
     world.worker(number).map_or(0, Worker::visits)
 }
 
-// Has a worker of a world go on till it has drawn one more unit; whether it has ended instead.
+// Has a worker of a world go on till it has drawn one more visit; whether it has ended instead.
 fn ends(rt: &impl Abort, alloc: Global, world: &mut World, number: u32) -> bool {
     let before = visits_of(world, number);
     for _ in 0..STEPS {
@@ -168,7 +168,7 @@ fn drawn_in_world(
     let first = if second_first { 2 } else { 1 };
     ends(rt, alloc, &mut world, first);
     ends(rt, alloc, &mut world, other(first));
-    for _ in 0..UNITS {
+    for _ in 0..VISITS {
         if ends(rt, alloc, &mut world, 1) || ends(rt, alloc, &mut world, 2) {
             break;
         }
@@ -183,7 +183,7 @@ fn take_turns<R: Threads + Wait + Abort + Sync>(
     row: u64,
     problem: &Problem,
 ) -> Result<(), AllocError> {
-    let settings = Settings::new(2, UNITS, 10_000, 1_024, 16).expect(rt, "settings");
+    let settings = Settings::new(2, VISITS, 10_000, 1_024, 16).expect(rt, "settings");
     for _ in 0..TRIES {
         if let Some((one, two, second_first)) = drawn_in_turn(rt, alloc, problem, &settings)? {
             let wanted = drawn_in_world(rt, alloc, problem, &settings, second_first)?;

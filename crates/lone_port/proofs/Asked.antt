@@ -156,7 +156,7 @@ enter_books_at port key numbers slot row is few enters =
     let sums = size_moves port.pins (place_of key (length port.pins)) slot (get_or (pins_of port.pins key) slot 0 + 1) known.pins_within within in
     record {
       problem = refl;
-      units = omega arith;
+      visits = omega arith;
       most = λ h. h;
       going = refl;
       words = ap word_of (length-set port.pins (place_of key (length port.pins)) (set (pins_of port.pins key) slot (get_or (pins_of port.pins key) slot 0 + 1)));
@@ -269,7 +269,7 @@ leave_books_at port key slot update row is mine =
     let sums = size_moves port.pins (place_of key (length port.pins)) slot (get_or (pins_of port.pins key) slot 0 - 1) known.pins_within within in
     record {
       problem = refl;
-      units = omega arith;
+      visits = omega arith;
       most = λ h. h;
       going = refl;
       words = ap word_of (length-set port.pins (place_of key (length port.pins)) (set (pins_of port.pins key) slot (get_or (pins_of port.pins key) slot 0 - 1)));
@@ -314,7 +314,7 @@ alone_suits port problem expansions room rows number is = subst (λ (q : LonePor
   going = inl refl;
   held = λ word. omega arith;
   some = omega arith;
-  units = omega arith;
+  visits = omega arith;
   size = let none = sum_by-replicate sum rows (replicate 8 0) in omega (arith, none);
   most = omega arith;
 })

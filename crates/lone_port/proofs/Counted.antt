@@ -22,7 +22,7 @@ use Rattle.visit_log.specs.declared.words.Reply.{Reply}
 use Rattle.visit_log.specs.declared.words.Reply.TheVariants.{Poll as Polled, Draw as Drew, Claim as Claimed, Look as Looked, Enter as Entered, Leave as LeftIt, Post as PostedIt}
 use Rattle.visit_log.specs.Visit.{Exchange}
 use Rattle.visit_log.specs.Counts.{Words, enters, leaves, enters_some, leaves_some}
-use Rattle.worker_core.specs.Port.{units_by, rooms_by}
+use Rattle.worker_core.specs.Port.{visits_by, rooms_by}
 use Rattle.lone_port.specs.Lone.{LonePortView, Turns, held_by, pins_of, pinned, unpinned}
 use Rattle.lone_port.specs.Keeps.{IsKeptPort, MayAsk, IsCountedBy, TurnsAreCounted}
 use Rattle.lone_port.proofs.Asked.{after_enter, enter_keeps_at, enter_books_at, after_leave, left_row, leave_keeps_at, leave_books_at}
@@ -58,21 +58,21 @@ enters_few row pins key numbers slot after few (inr (lacks, inr full)) =
 
 -- One that changes nothing, and counts nothing.
 same_counted : (event : Exchange) (before after : LonePortView) → IsKeptPort before → after ≡ before → ((words : Words) (word : ℕ) → leaves words event word ≡ enters words event word)
-    → leaves_some event ≡ enters_some event → units_by event ≡ 0 → rooms_by event ≡ 0 → IsCountedBy event before after
-same_counted event before after is e slots some units rooms = subst (λ (p : LonePortView). IsCountedBy event before p) (sym e) (record {
+    → leaves_some event ≡ enters_some event → visits_by event ≡ 0 → rooms_by event ≡ 0 → IsCountedBy event before after
+same_counted event before after is e slots some visits rooms = subst (λ (p : LonePortView). IsCountedBy event before p) (sym e) (record {
   kept = is;
   as_many = refl;
   held = λ word. ap (λ (n : ℕ). held_by before.pins word + n) (slots (word_of (length before.pins)) word);
   size = ap (λ (n : ℕ). sum_by sum before.pins + n) some;
-  units = omega (arith, units);
+  visits = omega (arith, visits);
   rooms = omega (arith, rooms);
 })
 
 -- One that changes the desk alone.
 desk_counted : (event : Exchange) (before after : LonePortView) (desk : DeskView) (going : Bool) → IsKeptPort before → after ≡ record before { desk = desk; going = going }
     → desk.position ≡ before.desk.position → ((words : Words) (word : ℕ) → leaves words event word ≡ enters words event word) → leaves_some event ≡ enters_some event
-    → desk.drawn ≡ before.desk.drawn + units_by event → desk.claimed ≡ before.desk.claimed + rooms_by event → IsCountedBy event before after
-desk_counted event before after desk going is e same slots some units rooms = subst (λ (p : LonePortView). IsCountedBy event before p) (sym e) (record {
+    → desk.drawn ≡ before.desk.drawn + visits_by event → desk.claimed ≡ before.desk.claimed + rooms_by event → IsCountedBy event before after
+desk_counted event before after desk going is e same slots some visits rooms = subst (λ (p : LonePortView). IsCountedBy event before p) (sym e) (record {
   kept = record {
     lone = record {
       some = is.lone.some;
@@ -86,7 +86,7 @@ desk_counted event before after desk going is e same slots some units rooms = su
   as_many = refl;
   held = λ word. ap (λ (n : ℕ). held_by before.pins word + n) (slots (word_of (length before.pins)) word);
   size = ap (λ (n : ℕ). sum_by sum before.pins + n) some;
-  units = units;
+  visits = visits;
   rooms = rooms;
 })
 
@@ -105,7 +105,7 @@ enter_counted before after key numbers slot row is enters e =
       as_many = length-set before.pins (place_of key (length before.pins)) _;
       held = booked.held;
       size = booked.size;
-      units = booked.units;
+      visits = booked.visits;
       rooms = booked.rooms;
     })
 
@@ -128,7 +128,7 @@ leave_counted before after key slot update is may h =
       as_many = length-set before.pins (place_of key (length before.pins)) _;
       held = booked.held;
       size = booked.size;
-      units = booked.units;
+      visits = booked.visits;
       rooms = booked.rooms;
     })
 
@@ -136,11 +136,11 @@ leave_counted before after key slot update is may h =
 counted : (before : LonePortView) (path : List Key) (q : Request) (a : Option Reply) (after : LonePortView) → IsKeptPort before → MayAsk before (q, a)
     → Turns before path q a after → IsCountedBy (q, a) before after
 counted before path Poll (Some (Polled stop)) after is may h = same_counted (Poll, Some (Polled stop)) before after is h.1 (λ words word. refl) refl refl refl
-counted before path Draws (Some (Drew (Go unit))) after is may h =
+counted before path Draws (Some (Drew (Go number))) after is may h =
     let e = ap (λ (d : DeskView). d.drawn) h.0.3 in
     let n = h.0.2 in
     let c = ap (λ (d : DeskView). d.claimed) h.0.3 in
-    desk_counted (Draws, Some (Drew (Go unit))) before after after.desk _ is h.1 (ap (λ (d : DeskView). d.position) h.0.3) (λ words word. refl) refl
+    desk_counted (Draws, Some (Drew (Go number))) before after after.desk _ is h.1 (ap (λ (d : DeskView). d.position) h.0.3) (λ words word. refl) refl
     (omega (arith, e, n)) (omega (arith, c))
 counted before path Draws (Some (Drew Done)) after is may h =
     let e = ap (λ (d : DeskView). d.drawn) h.0.1 in

@@ -16,7 +16,7 @@ opened_suits worker port ready stops is suits = subst (λ (p : LonePortView). Su
   going = inl refl;
   held = suits.held;
   some = suits.some;
-  units = suits.units;
+  visits = suits.visits;
   size = suits.size;
   most = suits.most;
 })
@@ -69,7 +69,7 @@ pub others_opened : (worker later : WorkerView) (port ready after : LonePortView
     → KeepsOthers worker later (book_of ready) (book_of after) → KeepsOthers worker later (book_of port) (book_of after)
 others_opened worker later port ready after stops is keeps =
     let k = subst (λ (p : LonePortView). KeepsOthers worker later (book_of p) (book_of after)) is keeps in
-    record { words = k.words; held = k.held; size = k.size; units = k.units; rooms = k.rooms }
+    record { words = k.words; held = k.held; size = k.size; visits = k.visits; rooms = k.rooms }
 
 -- What holds holds where there is no result, too.
 pub where_none : {P : Type 0} (result : Option WorkEnd) → P → IfNone result P

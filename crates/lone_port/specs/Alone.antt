@@ -46,7 +46,7 @@ pub record RunsAlone (problem : Board) (s : SettingsView) (schedule : List Event
   pub plays : Plays (world_at_first problem (for_one s)) schedule (told_to_one log) (world_of port worker raised)
   pub reached : IsReached worker log
 
--- Why a search with one worker ends without an answer, by how its worker ended: its units are used
+-- Why a search with one worker ends without an answer, by how its worker ended: its visits are used
 -- up, and it had them all; its room is, and it had it all; a note would have been higher than notes
 -- can be; or a stop was signalled. That a certificate is too long is no cause of a search.
 abbrev pub HasCause : SettingsView → WorkerView → Cause → Type 0

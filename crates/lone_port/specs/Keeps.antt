@@ -6,7 +6,7 @@ use Rattle.visit_log.specs.Visit.{Exchange}
 use Rattle.visit_log.specs.Sound.{IsSoundRequest}
 use Rattle.visit_log.specs.Counts.{enters, leaves, enters_some, leaves_some}
 use Rattle.table_shard.specs.Spot.{word_of}
-use Rattle.worker_core.specs.Port.{units_by, rooms_by}
+use Rattle.worker_core.specs.Port.{visits_by, rooms_by}
 use Rattle.lone_port.specs.Lone.{LonePortView, IsLone, Turns, held_by}
 
 -- A table and a desk as they are kept, and no row has more than eight entries.
@@ -27,7 +27,7 @@ pub record IsCountedBy (event : Exchange) (before after : LonePortView) : Type 0
   pub held : (word : ℕ) → held_by after.pins word + leaves (word_of (length before.pins)) event word
       ≡ held_by before.pins word + enters (word_of (length before.pins)) event word
   pub size : sum_by sum after.pins + leaves_some event ≡ sum_by sum before.pins + enters_some event
-  pub units : after.desk.drawn ≡ before.desk.drawn + units_by event
+  pub visits : after.desk.drawn ≡ before.desk.drawn + visits_by event
   pub rooms : after.desk.claimed ≡ before.desk.claimed + rooms_by event
 
 -- A law: so it is of each request that may be asked, and its answer.

@@ -71,7 +71,7 @@ IsBelow rows pins key count =
 
 -- What it tells of itself.
 abbrev pub book_of : LonePortView → Book
-book_of port = record { problem = port.desk.position; units = port.desk.drawn; going = port.going; words = word_of (length port.pins); held = held_by port.pins; size = sum_by sum port.pins; rooms = port.desk.claimed }
+book_of port = record { problem = port.desk.position; visits = port.desk.drawn; going = port.going; words = word_of (length port.pins); held = held_by port.pins; size = sum_by sum port.pins; rooms = port.desk.claimed }
 
 -- The worker of this number in the search of the problem, before it asks anything.
 abbrev pub worker_at_first : Board → ℕ → WorkerView

@@ -48,7 +48,7 @@ impl Model for LonePort {
 }
 
 impl LonePort {
-    /// The table and the desk of a problem, with the rows, the units and the room of the settings;
+    /// The table and the desk of a problem, with the rows, the visits and the room of the settings;
     /// nothing is known, drawn, claimed or posted. Takes all the table's memory but for that of the
     /// notes. Errors: want of memory alone.
     #[tactic(auto, using(crate::proofs::Asked::alone_suits))]
@@ -79,7 +79,7 @@ impl LonePort {
         })
     }
 
-    /// Begins anew with another problem, with the units and the room of these settings and as many
+    /// Begins anew with another problem, with the visits and the room of these settings and as many
     /// rows as before: nothing is known, drawn, claimed or posted, as where it was just made. In
     /// the time of the rows that had entries. Takes no memory.
     #[tactic(auto, using(crate::proofs::Asked::alone_suits))]
@@ -114,7 +114,7 @@ impl LonePort {
         self.pins.len()
     }
 
-    /// How many units were drawn. Takes no memory.
+    /// How many visits were drawn. Takes no memory.
     pub fn drawn(&self) -> u64
         ensures { result ≡ self.now.desk.drawn }
     {

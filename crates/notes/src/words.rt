@@ -2,14 +2,14 @@
 use crate::Note;
 use pn_numbers::Numbers;
 
-/// What the desk answers to a worker that asks for its next unit of work.
+/// What the desk answers to a worker that asks for its next visit.
 #[derive(Clone, Copy, PartialEq, Eq, Debug)]
 pub enum Draw {
-    /// Go on: this is the unit of this number, from 1.
+    /// Go on: this is the visit of this number, from 1.
     Go(u64),
     /// A note about the problem was posted: nothing is left to do.
     Done,
-    /// All units were drawn.
+    /// All visits were drawn.
     Spent,
 }
 

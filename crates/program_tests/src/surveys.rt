@@ -22,7 +22,7 @@ fn counts(tallies: &[Tally]) -> (usize, usize, usize) {
 
 #[test]
 fn tallies_are_counted(rt: HostRuntime) -> Result<(), Fail> {
-    // The seed, how many problems, the units of each, and how many are mates, are none and are
+    // The seed, how many problems, the expansions of each, and how many are mates, are none and are
     // given up.
     let rows = [
         (0, 1, 10_000, (1, 0, 0)),

@@ -92,19 +92,19 @@ desk_all : (seat : DeskSeatView) (lanes : List LaneView) → (joined_all seat la
 desk_all seat [] = refl
 desk_all seat (lane ∷ lanes) = desk_all seat lanes
 
-units_all : (shared : Shared) (number : ℕ) (before after : List Signal) (seat : DeskSeatView) (lanes : List LaneView) → AreDone shared number before after lanes
-    → length (joined_all seat lanes).units ≡ length seat.units + sum_by (λ worker. worker.state.visits) (map (λ lane. lane.worker) lanes)
-units_all shared number before after seat [] done = omega arith
-units_all shared number (old ∷ before) (new ∷ after) seat (lane ∷ lanes) (one, done) =
-    let rest = units_all shared (suc number) before after seat lanes done in
-    let long = length-append lane.desk.units (joined_all seat lanes).units in
-    let mine = one.units in
+visits_all : (shared : Shared) (number : ℕ) (before after : List Signal) (seat : DeskSeatView) (lanes : List LaneView) → AreDone shared number before after lanes
+    → length (joined_all seat lanes).visits ≡ length seat.visits + sum_by (λ worker. worker.state.visits) (map (λ lane. lane.worker) lanes)
+visits_all shared number before after seat [] done = omega arith
+visits_all shared number (old ∷ before) (new ∷ after) seat (lane ∷ lanes) (one, done) =
+    let rest = visits_all shared (suc number) before after seat lanes done in
+    let long = length-append lane.desk.visits (joined_all seat lanes).visits in
+    let mine = one.visits in
     let add = sum_by-cons (λ worker. worker.state.visits) lane.worker (map (λ each. each.worker) lanes) in
-    let whole : length (lane.desk.units ++ (joined_all seat lanes).units)
-    ≡ length seat.units + sum_by (λ worker. worker.state.visits) (lane.worker ∷ map (λ each. each.worker) lanes) = omega (arith, rest, long, mine, add) in
+    let whole : length (lane.desk.visits ++ (joined_all seat lanes).visits)
+    ≡ length seat.visits + sum_by (λ worker. worker.state.visits) (lane.worker ∷ map (λ each. each.worker) lanes) = omega (arith, rest, long, mine, add) in
     whole
-units_all shared number [] after seat (lane ∷ lanes) done = absurd done
-units_all shared number (old ∷ before) [] seat (lane ∷ lanes) done = absurd done
+visits_all shared number [] after seat (lane ∷ lanes) done = absurd done
+visits_all shared number (old ∷ before) [] seat (lane ∷ lanes) done = absurd done
 
 claims_all : (shared : Shared) (number : ℕ) (before after : List Signal) (seat : DeskSeatView) (lanes : List LaneView) → AreDone shared number before after lanes
     → length (joined_all seat lanes).claims ≡ length seat.claims + sum_by (λ worker. worker.state.claims) (map (λ lane. lane.worker) lanes)
@@ -122,15 +122,15 @@ claims_all shared number (old ∷ before) [] seat (lane ∷ lanes) done = absurd
 
 -- A crew whose seats came back to one that had drawn and claimed nothing.
 pub crew_tells : (shared : Shared) (before after : List Signal) (lanes : List LaneView) (first seat : DeskSeatView) (crew : List WorkerView)
-    → AreDone shared 1 before after lanes → first.desk ≡ shared.desk → first.units ≡ [] → first.claims ≡ [] → seat ≡ joined_all first lanes
+    → AreDone shared 1 before after lanes → first.desk ≡ shared.desk → first.visits ≡ [] → first.claims ≡ [] → seat ≡ joined_all first lanes
     → crew ≡ map (λ lane. lane.worker) lanes → CrewTells shared before after crew seat
-crew_tells shared before after lanes first seat crew done desk units claims is all =
+crew_tells shared before after lanes first seat crew done desk visits claims is all =
     subst (λ (d : DeskSeatView). CrewTells shared before after crew d) (sym is)
     (subst (λ (c : List WorkerView). CrewTells shared before after c (joined_all first lanes)) (sym all)
     (record {
       searched = have_searched shared 1 before after lanes done;
       desk = desk_all first lanes ∙ desk;
-      units = (let e = units_all shared 1 before after first lanes done in let none = ap length units in omega (arith, e, none));
+      visits = (let e = visits_all shared 1 before after first lanes done in let none = ap length visits in omega (arith, e, none));
       claims = (let e = claims_all shared 1 before after first lanes done in let none = ap length claims in omega (arith, e, none));
       spent = λ o. one_tells Spent (λ d. 0 < d.draw_ends) (λ a b low. omega (arith, low)) (λ a b low. omega (arith, low)) (λ c n x y l d e. d.spent e)
           shared 1 before after first lanes done o.0 o.1 o.2 o.3;
@@ -217,6 +217,6 @@ pub closes : (s : SettingsView) (shared : Shared) (before after : List Signal) (
 closes s shared before after crew seat drawn claimed note tells ends at expansions room = record {
   answer = subst (λ (b : Board). IfSome note (IsAnswerTo b)) (ap (λ (d : WordDeskView). d.position) tells.desk ∙ at) ends.answer;
   posted = λ o. ends.met (subst IsTrue (sym (tells.posted o)) refl);
-  spent = λ none o. sym tells.units ∙ (sym ends.drawn ∙ (ends.all_drawn none (tells.spent o) ∙ (ap (λ (d : WordDeskView). d.expansions) tells.desk ∙ expansions)));
+  spent = λ none o. sym tells.visits ∙ (sym ends.drawn ∙ (ends.all_drawn none (tells.spent o) ∙ (ap (λ (d : WordDeskView). d.expansions) tells.desk ∙ expansions)));
   full = λ o. sym tells.claims ∙ (sym ends.claimed ∙ (ends.all_claimed (tells.full o) ∙ (ap (λ (d : WordDeskView). d.room) tells.desk ∙ room)));
 }

@@ -48,9 +48,9 @@ pub record Moves (before : TablePortView) (x : Exchange) (after : TablePortView)
   pub counts : after.seat.seat.counts ≡ before.seat.seat.counts
   pub silent : is_poll x.0 ≡ false → says_stop x ≡ false
 
--- Units and claims alone come, and nothing is said.
-unmoved : (seat : DeskSeatView) (x : Exchange) {its_units its_claims : List ℕ} → says_spent x ≡ false → says_full x ≡ false → says_posted x ≡ false
-    → DeskMoves seat x (record seat { units = its_units; claims = its_claims })
+-- Visits and claims alone come, and nothing is said.
+unmoved : (seat : DeskSeatView) (x : Exchange) {its_visits its_claims : List ℕ} → says_spent x ≡ false → says_full x ≡ false → says_posted x ≡ false
+    → DeskMoves seat x (record seat { visits = its_visits; claims = its_claims })
 unmoved seat x one two three = record {
   desk = refl;
   draws = omega arith;
@@ -138,7 +138,7 @@ pub moves : (before : TablePortView) (own : Signal) (path : List Key) (q : Reque
     → TableTurns before own path q a after later → Moves before (q, a) after
 moves before own path Poll None after later h = absurd h
 moves before own path Poll (Some (Polled stop)) after later h = still before after (Poll, (Some (Polled stop))) (ap (λ (p : TablePortView). p.desk) h.0) (ap (λ (p : TablePortView). p.seat.seat.counts) h.0) refl refl refl (λ e. absurd (false≢true (sym e)))
-moves before own path Poll (Some (Drew (Go unit))) after later h = absurd h
+moves before own path Poll (Some (Drew (Go number))) after later h = absurd h
 moves before own path Poll (Some (Drew Done)) after later h = absurd h
 moves before own path Poll (Some (Drew AllDrawn)) after later h = absurd h
 moves before own path Poll (Some (Claimed (Room room))) after later h = absurd h
@@ -149,7 +149,7 @@ moves before own path Poll (Some LeftIt) after later h = absurd h
 moves before own path Poll (Some PostedIt) after later h = absurd h
 moves before own path Draws None after later h = absurd h
 moves before own path Draws (Some (Polled stop)) after later h = absurd h
-moves before own path Draws (Some (Drew (Go unit))) after later h = drawn before after (Draws, (Some (Drew (Go unit)))) h.1 (record before.desk { units = unit ∷ before.desk.units }) h.0.2 (unmoved before.desk (Draws, (Some (Drew (Go unit)))) refl refl refl) (λ e. refl)
+moves before own path Draws (Some (Drew (Go number))) after later h = drawn before after (Draws, (Some (Drew (Go number)))) h.1 (record before.desk { visits = number ∷ before.desk.visits }) h.0.2 (unmoved before.desk (Draws, (Some (Drew (Go number)))) refl refl refl) (λ e. refl)
 moves before own path Draws (Some (Drew Done)) after later h = drawn before after (Draws, (Some (Drew Done))) h.1 (record before.desk { draw_ends = before.desk.draw_ends + 1; met = true }) h.0 (record { desk = refl; draws = omega arith; claims = omega arith; met = λ m. refl; spent = λ e. omega arith; full = λ e. absurd (false≢true e); posted = λ e. refl }) (λ e. refl)
 moves before own path Draws (Some (Drew AllDrawn)) after later h = drawn before after (Draws, (Some (Drew AllDrawn))) h.1 (record before.desk { draw_ends = before.desk.draw_ends + 1 }) h.0.1 (record { desk = refl; draws = omega arith; claims = omega arith; met = λ m. m; spent = λ e. omega arith; full = λ e. absurd (false≢true e); posted = λ e. absurd (false≢true e) }) (λ e. refl)
 moves before own path Draws (Some (Claimed (Room room))) after later h = absurd h
@@ -160,7 +160,7 @@ moves before own path Draws (Some LeftIt) after later h = absurd h
 moves before own path Draws (Some PostedIt) after later h = absurd h
 moves before own path Claims None after later h = absurd h
 moves before own path Claims (Some (Polled stop)) after later h = absurd h
-moves before own path Claims (Some (Drew (Go unit))) after later h = absurd h
+moves before own path Claims (Some (Drew (Go number))) after later h = absurd h
 moves before own path Claims (Some (Drew Done)) after later h = absurd h
 moves before own path Claims (Some (Drew AllDrawn)) after later h = absurd h
 moves before own path Claims (Some (Claimed (Room room))) after later h = drawn before after (Claims, (Some (Claimed (Room room)))) h.1 (record before.desk { claims = room ∷ before.desk.claims }) h.0.1 (unmoved before.desk (Claims, (Some (Claimed (Room room)))) refl refl refl) (λ e. refl)
@@ -171,7 +171,7 @@ moves before own path Claims (Some LeftIt) after later h = absurd h
 moves before own path Claims (Some PostedIt) after later h = absurd h
 moves before own path (Look key) None after later h = seated before after ((Look key), None) h.0.1 (by_dark before key after h.0.0) refl refl refl (λ e. refl)
 moves before own path (Look key) (Some (Polled stop)) after later h = absurd h
-moves before own path (Look key) (Some (Drew (Go unit))) after later h = absurd h
+moves before own path (Look key) (Some (Drew (Go number))) after later h = absurd h
 moves before own path (Look key) (Some (Drew Done)) after later h = absurd h
 moves before own path (Look key) (Some (Drew AllDrawn)) after later h = absurd h
 moves before own path (Look key) (Some (Claimed (Room room))) after later h = absurd h
@@ -182,7 +182,7 @@ moves before own path (Look key) (Some LeftIt) after later h = absurd h
 moves before own path (Look key) (Some PostedIt) after later h = absurd h
 moves before own path (Enter key numbers) None after later h = absurd h
 moves before own path (Enter key numbers) (Some (Polled stop)) after later h = absurd h
-moves before own path (Enter key numbers) (Some (Drew (Go unit))) after later h = absurd h
+moves before own path (Enter key numbers) (Some (Drew (Go number))) after later h = absurd h
 moves before own path (Enter key numbers) (Some (Drew Done)) after later h = absurd h
 moves before own path (Enter key numbers) (Some (Drew AllDrawn)) after later h = absurd h
 moves before own path (Enter key numbers) (Some (Claimed (Room room))) after later h = absurd h
@@ -193,7 +193,7 @@ moves before own path (Enter key numbers) (Some LeftIt) after later h = absurd h
 moves before own path (Enter key numbers) (Some PostedIt) after later h = absurd h
 moves before own path (Leave (Slot slot) key update) None after later h = absurd h
 moves before own path (Leave (Slot slot) key update) (Some (Polled stop)) after later h = absurd h
-moves before own path (Leave (Slot slot) key update) (Some (Drew (Go unit))) after later h = absurd h
+moves before own path (Leave (Slot slot) key update) (Some (Drew (Go number))) after later h = absurd h
 moves before own path (Leave (Slot slot) key update) (Some (Drew Done)) after later h = absurd h
 moves before own path (Leave (Slot slot) key update) (Some (Drew AllDrawn)) after later h = absurd h
 moves before own path (Leave (Slot slot) key update) (Some (Claimed (Room room))) after later h = absurd h
@@ -204,7 +204,7 @@ moves before own path (Leave (Slot slot) key update) (Some LeftIt) after later h
 moves before own path (Leave (Slot slot) key update) (Some PostedIt) after later h = absurd h
 moves before own path (Leave Unkept key update) None after later h = absurd h
 moves before own path (Leave Unkept key update) (Some (Polled stop)) after later h = absurd h
-moves before own path (Leave Unkept key update) (Some (Drew (Go unit))) after later h = absurd h
+moves before own path (Leave Unkept key update) (Some (Drew (Go number))) after later h = absurd h
 moves before own path (Leave Unkept key update) (Some (Drew Done)) after later h = absurd h
 moves before own path (Leave Unkept key update) (Some (Drew AllDrawn)) after later h = absurd h
 moves before own path (Leave Unkept key update) (Some (Claimed (Room room))) after later h = absurd h
@@ -215,7 +215,7 @@ moves before own path (Leave Unkept key update) (Some LeftIt) after later h = st
 moves before own path (Leave Unkept key update) (Some PostedIt) after later h = absurd h
 moves before own path (Post note) None after later h = absurd h
 moves before own path (Post note) (Some (Polled stop)) after later h = absurd h
-moves before own path (Post note) (Some (Drew (Go unit))) after later h = absurd h
+moves before own path (Post note) (Some (Drew (Go number))) after later h = absurd h
 moves before own path (Post note) (Some (Drew Done)) after later h = absurd h
 moves before own path (Post note) (Some (Drew AllDrawn)) after later h = absurd h
 moves before own path (Post note) (Some (Claimed (Room room))) after later h = absurd h
@@ -226,7 +226,7 @@ moves before own path (Post note) (Some LeftIt) after later h = absurd h
 moves before own path (Post note) (Some PostedIt) after later h = posts before note after h.0 h.1
 moves before own path (End end) None after later h = absurd h
 moves before own path (End end) (Some (Polled stop)) after later h = absurd h
-moves before own path (End end) (Some (Drew (Go unit))) after later h = absurd h
+moves before own path (End end) (Some (Drew (Go number))) after later h = absurd h
 moves before own path (End end) (Some (Drew Done)) after later h = absurd h
 moves before own path (End end) (Some (Drew AllDrawn)) after later h = absurd h
 moves before own path (End end) (Some (Claimed (Room room))) after later h = absurd h

@@ -46,7 +46,7 @@ IsQuiet before after log s =
     ((WasSaid says_stop log → ⊥) × (after.raised ≡ before.raised))
     ⊎ (WasSaid says_stop log × (after.raised ≡ one_more before.raised) × (after.last ≡ after.polls) × (s.stage ≡ Winding Stopped))
 
--- Behind a log: the seats are where they were; what was said of units, room and a posted note, the
+-- Behind a log: the seats are where they were; what was said of visits, room and a posted note, the
 -- desk's seat tells; the stop was polled as often as the worker polls, and not armed.
 pub record IsOnWay (first : TablePortView) (before after : Signal) (port : TablePortView) (log : List Exchange) (s : State) : Type 0 where
   pub counts : port.seat.seat.counts ≡ first.seat.seat.counts
@@ -283,7 +283,7 @@ done turn port_of signal_of serves shared number p r worker later events end law
       added = no_words (port_of r).seat.seat.view.added
           (let size = others.size in let none : length (port_of p).seat.seat.view.added ≡ 0 = ap length fresh.added in omega (arith, size, none, begins, leaves));
       desk = way.desk ∙ ap (λ (d : DeskSeatView). d.desk) fresh.desk;
-      units = (let u = others.units in let none : length (port_of p).desk.units ≡ 0 = ap (λ (d : DeskSeatView). length d.units) fresh.desk in
+      visits = (let u = others.visits in let none : length (port_of p).desk.visits ≡ 0 = ap (λ (d : DeskSeatView). length d.visits) fresh.desk in
           let no : worker.state.visits ≡ 0 = ap (λ (w : WorkerView). w.state.visits) fresh.worker in omega (arith, u, none, no));
       claims = (let u = others.rooms in let none : length (port_of p).desk.claims ≡ 0 = ap (λ (d : DeskSeatView). length d.claims) fresh.desk in
           let no : worker.state.claims ≡ 0 = ap (λ (w : WorkerView). w.state.claims) fresh.worker in omega (arith, u, none, no));

@@ -75,8 +75,8 @@ pub record IsFirstEnded (end : WorkEnd) (crew : List WorkerView) (number : ℕ) 
   pub ended : EndedSo end worker
   pub first : (earlier : ℕ) (other : WorkerView) → earlier < place → slice_get crew earlier ≡ Some other → EndedOtherwise end other
 
--- Why a crew gave up, the first of these that holds. Expansions: one had no unit any more, and all
--- units were drawn by them, so many. Room: one had no room for a note, and they claimed it all.
+-- Why a crew gave up, the first of these that holds. Expansions: one had no visit any more, and all
+-- visits were drawn by them, so many. Room: one had no room for a note, and they claimed it all.
 -- Height: one came upon a note that would have been too high. Stopped: this worker is the first
 -- that was stopped.
 abbrev pub GaveUpFor : SettingsView → List WorkerView → Cause → Type 0

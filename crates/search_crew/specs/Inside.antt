@@ -58,7 +58,7 @@ pub record IsDone (shared : Shared) (number : ℕ) (before after : Signal) (lane
   pub counts : lane.seat.seat.counts ≡ shared.words
   pub added : lane.seat.seat.view.added ≡ []
   pub desk : lane.desk.desk ≡ shared.desk
-  pub units : length lane.desk.units ≡ lane.worker.state.visits
+  pub visits : length lane.desk.visits ≡ lane.worker.state.visits
   pub claims : length lane.desk.claims ≡ lane.worker.state.claims
   pub spent : EndedSo Spent lane.worker → 0 < lane.desk.draw_ends
   pub full : EndedSo NoRoom lane.worker → 0 < lane.desk.claim_ends
@@ -94,14 +94,14 @@ joined_all seat (lane ∷ lanes) = joined (joined_all seat lanes) lane.desk
 pub record CrewTells (shared : Shared) (before after : List Signal) (crew : List WorkerView) (seat : DeskSeatView) : Type 0 where
   pub searched : HaveSearched shared.problem 1 before after crew
   pub desk : seat.desk ≡ shared.desk
-  pub units : length seat.units ≡ sum_by (λ worker. worker.state.visits) crew
+  pub visits : length seat.visits ≡ sum_by (λ worker. worker.state.visits) crew
   pub claims : length seat.claims ≡ sum_by (λ worker. worker.state.claims) crew
   pub spent : OneEnded Spent crew → 0 < seat.draw_ends
   pub full : OneEnded NoRoom crew → 0 < seat.claim_ends
   pub posted : OneEnded Posted crew → seat.met ≡ true
 
 -- What the close of its desk tells of a crew, with the note that was posted first: it answers the
--- problem; it is there where a worker ended with one; where there is none and a worker had no unit
+-- problem; it is there where a worker ended with one; where there is none and a worker had no visit
 -- any more, all are drawn; and where one had no room, all is claimed.
 pub record ClosesCrew (s : SettingsView) (problem : Board) (crew : List WorkerView) (note : Option Derivation) : Type 0 where
   pub answer : IfSome note (IsAnswerTo problem)

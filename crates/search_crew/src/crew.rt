@@ -291,7 +291,7 @@ pub fn search_by_one<G: Gate, T: Stop>(
 /// else the search gave up, for the first cause that a worker met, and all workers come with it, in
 /// order. With one worker it takes no lock and waits for nobody: it is [`search_by_one`].
 ///
-/// The gate is passed for each unit, by the worker that drew it, with no lock held. Worker w polls
+/// The gate is passed for each visit, by the worker that drew it, with no lock held. Worker w polls
 /// stop w and no other; the stops go with the workers, and come back to their places. Takes the
 /// table's memory at once: about 1 KB a row. Errors: want of memory alone. Nothing is promised of
 /// which worker is first, or that more are faster. (df-pn: Nagai 2002; many workers over one table:

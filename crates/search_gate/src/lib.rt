@@ -1,4 +1,4 @@
-//! What a search is held by: a gate that it passes for each unit of work, and a stop that it polls
+//! What a search is held by: a gate that it passes for each visit, and a stop that it polls
 //! before each. A search stands on this and its limits alone, and on no file or stream.
 #![tactic(auto)]
 

@@ -3,7 +3,7 @@ ghost use Rattle.std.specs.Prelude.{◌≡◌, ◌↔◌, IsTrue, Contains, None
 ghost use Rattle.search_gate.specs.Stop.{one_more, armed_with, polled};
 
 /// What tells a worker that it is to stop, a deadline for one. A worker polls it before it draws a
-/// unit of work, and nobody else does.
+/// visit, and nobody else does.
 ///
 /// It tells of itself how often it was polled, how often it said so then, and at which poll last;
 /// how often, and for what, it was armed; and how often it had been polled when it was armed last.

@@ -4,7 +4,7 @@
 /// answer is too long to be told.
 #[derive(Clone, Copy, PartialEq, Eq, Debug)]
 pub enum Cause {
-    /// All its units were drawn: so many, the setting `expansions`.
+    /// All its visits were drawn: so many, the setting `expansions`.
     Expansions(u64),
     /// All its room for notes was taken: for so many, the setting `room`.
     Room(u32),

@@ -1,11 +1,11 @@
-// How many units of work a search may do.
+// How many visits a search may do.
 ghost use Rattle.std.specs.Prelude.{◌≡◌, ◌≤◌, ◌↔◌, IfSome, IsSome};
 ghost use Rattle.search_limits.specs.declared.expansions.TheConstants.{MOST_EXPANSIONS};
 
 /// The greatest number of expansions that a search may be given.
 pub const MOST_EXPANSIONS: u64 = 1_000_000_000;
 
-/// How many expansions a search may use, 1 to [`MOST_EXPANSIONS`]: its units of work. The plain
+/// How many expansions a search may use, 1 to [`MOST_EXPANSIONS`]: its visits. The plain
 /// search uses one for each position, of either side, whose moves it lists; the search by proof
 /// numbers one for each visit of a position.
 #[derive(Clone, Copy, PartialEq, Eq, PartialOrd, Ord, Debug)]

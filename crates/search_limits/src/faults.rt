@@ -5,7 +5,7 @@
 pub enum Setting {
     /// The workers.
     Workers,
-    /// The units.
+    /// The visits, the setting `expansions`.
     Expansions,
     /// The room for notes.
     Room,

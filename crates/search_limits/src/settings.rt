@@ -8,7 +8,7 @@ ghost use Rattle.search_limits.specs.declared.settings.TheConstants.{MOST_WORKER
 /// The most workers of a search.
 pub const MOST_WORKERS: u32 = 64;
 
-/// The most notes that a search may make. As a unit makes at most one, this is no limit of its own.
+/// The most notes that a search may make. As a visit makes at most one, this is no limit of its own.
 pub const MOST_ROOM: u32 = 1_000_000_000;
 
 /// The fewest rows of a table of positions.
@@ -29,8 +29,8 @@ pub const DEFAULT_SHARDS: u64 = 64;
 pub struct Settings {
     /// Workers that search, 1 to [`MOST_WORKERS`].
     pub workers: u32,
-    /// Units of work before the search gives up, 1 to [`MOST_EXPANSIONS`](crate::MOST_EXPANSIONS):
-    /// a unit is one visit of a position.
+    /// Visits of positions before the search gives up, 1 to
+    /// [`MOST_EXPANSIONS`](crate::MOST_EXPANSIONS).
     pub expansions: u64,
     /// Notes that the search may make, 1 to [`MOST_ROOM`].
     pub room: u32,

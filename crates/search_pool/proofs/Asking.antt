@@ -28,14 +28,14 @@ use Rattle.search_pool.proofs.Entering.{AreApartIn, enters_apart, left_apart, ro
 draws_once : (desk : DeskView) (d e : Drawing) (one two : DeskView) → Draws desk d one → Draws desk e two → (d ≡ e) × (one ≡ two)
 draws_once desk Done Done one two h k = (refl, h.1 ∙ sym k.1)
 draws_once desk Done Spent one two h k = absurd (k.0 h.0)
-draws_once desk Done (Go unit) one two h k = absurd (k.0 h.0)
+draws_once desk Done (Go number) one two h k = absurd (k.0 h.0)
 draws_once desk Spent Done one two h k = absurd (h.0 k.0)
 draws_once desk Spent Spent one two h k = (refl, h.2 ∙ sym k.2)
-draws_once desk Spent (Go unit) one two h k = (let all = h.1 in let less = k.1 in absurd (omega (arith, all, less)))
-draws_once desk (Go unit) Done one two h k = absurd (h.0 k.0)
-draws_once desk (Go unit) Spent one two h k = (let all = k.1 in let less = h.1 in absurd (omega (arith, all, less)))
-draws_once desk (Go unit) (Go other) one two h k =
-    let same : unit ≡ other = h.2 ∙ sym k.2 in
+draws_once desk Spent (Go number) one two h k = (let all = h.1 in let less = k.1 in absurd (omega (arith, all, less)))
+draws_once desk (Go number) Done one two h k = absurd (h.0 k.0)
+draws_once desk (Go number) Spent one two h k = (let all = k.1 in let less = h.1 in absurd (omega (arith, all, less)))
+draws_once desk (Go number) (Go other) one two h k =
+    let same : number ≡ other = h.2 ∙ sym k.2 in
     (ap Go same, h.3 ∙ (ap (λ (n : ℕ). record desk { drawn = n }) same ∙ sym k.3))
 
 claims_once : (desk : DeskView) (d e : RoomAnswer) (one two : DeskView) → Claims desk d one → Claims desk e two → (d ≡ e) × (one ≡ two)

@@ -127,7 +127,7 @@ pub leads_once : AreLaws → (task : Task) (s : State) (stage : Stage) (a : Repl
     → ¬ IsStarved u → t ≡ u
 leads_once laws task s (Polling entry) (Polled true) t u h k not nor = h ∙ sym k
 leads_once laws task s (Polling entry) (Polled false) t u h k not nor = h ∙ sym k
-leads_once laws task s (Drawing entry) (Drew (Go unit)) t u h k not nor = begins_once task s entry t u h k not nor
+leads_once laws task s (Drawing entry) (Drew (Go number)) t u h k not nor = begins_once task s entry t u h k not nor
 leads_once laws task s (Drawing entry) (Drew Done) t u h k not nor = h ∙ sym k
 leads_once laws task s (Drawing entry) (Drew AllDrawn) t u h k not nor = h ∙ sym k
 leads_once laws task s Entering (Entered kept) t u h k not nor = opens_once laws task s s.frames kept t u h k not nor

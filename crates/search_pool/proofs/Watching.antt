@@ -257,4 +257,4 @@ stays_by {P} {A} turn name same task p r from to (x ∷ xs) went =
 -- A worker that had nothing of a desk that had given nothing had all that it gave.
 pub had_all : (port next : LonePortView) (worker later : WorkerView) → KeepsOthers worker later (book_of port) (book_of next) → HadAll port worker → HadAll next later
 had_all port next worker later keeps had =
-    (let k = keeps.units in let u = had.0 in omega (arith, k, u), let k = keeps.rooms in let u = had.1 in omega (arith, k, u))
+    (let k = keeps.visits in let u = had.0 in omega (arith, k, u), let k = keeps.rooms in let u = had.1 in omega (arith, k, u))

@@ -69,7 +69,7 @@ winds_stopped task s t (q, Some PostedIt) g e = absurd (false≢true e)
 winds_posted : (task : Task) (s t : State) (x : Exchange) → Goes task s x t → says_posted x ≡ true → t.stage ≡ Winding Posted
 winds_posted task s t (q, None) g e = absurd (false≢true e)
 winds_posted task s t (q, Some (Polled stop)) g e = absurd (false≢true e)
-winds_posted task s t (q, Some (Drew (Go unit))) g e = absurd (false≢true e)
+winds_posted task s t (q, Some (Drew (Go number))) g e = absurd (false≢true e)
 winds_posted task s t (q, Some (Drew Done)) g e = told_done task s s.stage t g.2
 winds_posted task s t (q, Some (Drew AllDrawn)) g e = absurd (false≢true e)
 winds_posted task s t (q, Some (Claimed claim)) g e = absurd (false≢true e)

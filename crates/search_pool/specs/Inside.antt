@@ -33,7 +33,7 @@ abbrev pub Watches : LonePortView → Signal → List Key → Request → Option
 Watches before signal path Poll (Some (Polled answer)) after later = (after ≡ before) × (later ≡ polled signal answer)
 Watches before signal path request answer after later = Turns before path request answer after × (later ≡ signal)
 
--- Whether the answer says that all units were drawn; that all room was claimed; that a note is
+-- Whether the answer says that all visits were drawn; that all room was claimed; that a note is
 -- posted, now or before; that the worker is to stop.
 abbrev pub says_spent : Exchange → Bool
 says_spent (request, Some (Drew AllDrawn)) = true
@@ -81,7 +81,7 @@ IsQuiet before after schedule log =
 
 -- A search with one worker goes on so: the world of one worker comes by a schedule to where table,
 -- desk and worker stand; no stop waits to be told; the worker stands by the log, and winds up where
--- it was told to; what was said of the desk holds, whose units and room are the settings'; the stop
+-- it was told to; what was said of the desk holds, whose visits and room are the settings'; the stop
 -- was polled as often as it polls, and not armed; and unless the stop signalled, no stop was
 -- signalled to the worker.
 pub record IsUnderWay (problem : Board) (s : SettingsView) (before after : Signal) (port : LonePortView) (worker : WorkerView) : Type 0 where
@@ -108,7 +108,7 @@ abbrev pub IsWatched : Board → SettingsView → Signal → Signal → LonePort
 IsWatched problem s before after port worker =
     (its_going : Bool) × (its_stops : Bool) × IsUnderWay problem s before after (record port { going = its_going; stops = its_stops }) worker
 
--- The worker had all units and all room that the desk gave.
+-- The worker had all visits and all room that the desk gave.
 abbrev pub HadAll : LonePortView → WorkerView → Type 0
 HadAll port worker = (port.desk.drawn ≡ worker.state.visits) × (port.desk.claimed ≡ worker.state.claims)
 

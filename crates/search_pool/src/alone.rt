@@ -46,7 +46,7 @@ fn work_watched<G: Gate, T: Stop>(
 }
 
 // Has the worker work over the table and the desk until it has ended, and says how: each poll asks
-// the stop, and the gate is passed behind each unit.
+// the stop, and the gate is passed behind each visit.
 fn work_alone<G: Gate, T: Stop>(
     alloc: Global,
     problem: &Problem,
@@ -129,8 +129,8 @@ pub(crate) fn search_over<G: Gate, T: Stop>(
 /// Searches a problem with one worker, whatever the settings say of workers: it works under its own
 /// steps, and what the stop signals, till it has ended. Where a note is posted, that note answers
 /// the problem; else the search gave up, for the cause that the worker's end names, and the worker
-/// comes with it. The gate is passed for each unit, as worker 1. The stop is polled before each
-/// unit is drawn; where it says that the worker is to stop, the search ends as stopped. Takes the
+/// comes with it. The gate is passed for each visit, as worker 1. The stop is polled before each
+/// visit is drawn; where it says that the worker is to stop, the search ends as stopped. Takes the
 /// table's memory at once: about 1 KB a row. Errors: want of memory alone. (df-pn: Nagai 2002.)
 pub fn search_alone_until<G: Gate, T: Stop>(
     alloc: Global,

@@ -3,7 +3,7 @@
 //!
 //! [`search_alone`] searches with one worker, with no lock and no wait: what it answers is what the
 //! world of one worker does under its own steps (`lone_port`), or there was no memory; and that is
-//! one answer ([`alone_laws`]). [`search_alone_gated`] passes a gate for each unit, and
+//! one answer ([`alone_laws`]). [`search_alone_gated`] passes a gate for each visit, and
 //! [`search_alone_until`] may be stopped, too. A [`Table`] is for many searches, one after the
 //! other.
 #![tactic(auto)]

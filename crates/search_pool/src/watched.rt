@@ -1,5 +1,5 @@
 // A table and a desk that are watched: by a stop, which is asked at each poll, and by a gate, which
-// is passed for each unit.
+// is passed for each visit.
 ghost use Rattle.std.specs.Prelude.{◌≡◌};
 
 use board_core::Key;
@@ -11,7 +11,7 @@ use search_gate::{Gate, Stop};
 use std::alloc::AllocError;
 use worker_core::Port;
 
-// The table and the desk of a search alone, the gate that its worker passes behind each unit that
+// The table and the desk of a search alone, the gate that its worker passes behind each visit that
 // it draws, as worker 1, and the stop that each of its polls asks.
 #[derive(Drop)]
 pub(crate) struct Watched<'a, G: Gate, T: Stop> {
@@ -35,8 +35,8 @@ impl<'a, G: Gate, T: Stop> Port for Watched<'a, G, T> {
 
     fn draw(&mut self) -> Draw {
         let draw = self.port.draw();
-        if let Draw::Go(unit) = draw {
-            self.gate.pass(1, unit);
+        if let Draw::Go(visit) = draw {
+            self.gate.pass(1, visit);
         }
         draw
     }

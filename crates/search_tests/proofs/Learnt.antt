@@ -14,7 +14,7 @@ pub learnt_suits : (worker : WorkerView) (a b c : Book) (key : Key) (numbers : N
     → IsBooked (Enter key numbers, Some (Entered kept)) a b → IsBooked (Leave kept key update, Some LeftIt) b c → Suits worker a → Suits worker c
 learnt_suits worker a b c key numbers kept update first second suits =
     let going : c.going ≡ a.going = second.going ∙ first.going in
-    let units : c.units ≡ a.units = (let one = first.units in let two = second.units in omega (arith, one, two)) in
+    let visits : c.visits ≡ a.visits = (let one = first.visits in let two = second.visits in omega (arith, one, two)) in
     let size : c.size ≡ a.size = (let one = first.size in let two = second.size in omega (arith, one, two)) in
     record {
       problem = suits.problem ∙ sym (second.problem ∙ first.problem);
@@ -26,7 +26,7 @@ learnt_suits worker a b c key numbers kept update first second suits =
           let z = ap (λ (ws : Words). own_slots ws worker.state.frames word) (second.words ∙ first.words) in
           omega (arith, one, two, h, z);
       some = (let some = suits.some in omega (arith, size, some));
-      units = (let own = suits.units in omega (arith, units, own));
-      size = (let own = suits.size in omega (arith, size, units, own));
-      most = (let most = suits.most in omega (arith, units, most));
+      visits = (let own = suits.visits in omega (arith, visits, own));
+      size = (let own = suits.size in omega (arith, size, visits, own));
+      most = (let most = suits.most in omega (arith, visits, most));
     }

@@ -25,7 +25,7 @@ starved_suits v w book suits is alone =
       going = inr (winds.0, stage);
       held = λ word. let own = alone.slots book.words word in let h = suits.held word in omega (arith, own, h);
       some = (let own = alone.size in let some = suits.some in omega (arith, own, some));
-      units = (let visits = alone.visits in let units = suits.units in omega (arith, visits, units));
+      visits = (let own = alone.visits in let given = suits.visits in omega (arith, own, given));
       size = (let size = suits.size in omega (arith, none, size));
       most = suits.most;
     }

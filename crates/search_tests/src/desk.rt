@@ -1,4 +1,4 @@
-// Settings at the ends of their ranges and beyond, and desks whose units and room run out.
+// Settings at the ends of their ranges and beyond, and desks whose visits and room run out.
 use crate::problems::{problem, settings};
 use crate::same::same;
 use notes::{Draw, RoomAnswer};
@@ -53,13 +53,13 @@ fn a_table_has_64_shards_unless_told_or_as_many_as_rows(rt: HostRuntime) {
 }
 
 #[test]
-fn units_and_room_are_handed_out_each_once_until_none_is_left(rt: HostRuntime) {
+fn visits_and_room_are_handed_out_each_once_until_none_is_left(rt: HostRuntime) {
     let alone = problem(&rt, "9/9/9/9/8k/9/9/9/9 b -");
     for (expansions, room) in [(1, 1), (3, 1), (1, 4), (5, 2)] {
         let mut desk = Desk::make(&alone, &settings(&rt, 1, expansions, room));
-        for unit in 1..=expansions {
-            same(&rt, "drawn before", desk.drawn(), unit - 1);
-            same(&rt, "a unit", desk.draw(), Draw::Go(unit));
+        for visit in 1..=expansions {
+            same(&rt, "drawn before", desk.drawn(), visit - 1);
+            same(&rt, "a visit", desk.draw(), Draw::Go(visit));
         }
         for note in 1..=room {
             same(&rt, "claimed before", desk.claimed(), note - 1);

@@ -19,7 +19,7 @@ use worker_core::{Worker, work, work_until};
 #[test]
 fn one_worker_searches_to_each_end(rt: HostRuntime) -> Result<(), Fail> {
     let alloc = rt.alloc();
-    // A problem, the units and the room; how the worker ends, what is posted, and the units and the
+    // A problem, the visits and the room; how the worker ends, what is posted, and the visits and the
     // room that were taken.
     let rows = [
         (
@@ -43,9 +43,9 @@ fn one_worker_searches_to_each_end(rt: HostRuntime) -> Result<(), Fail> {
         (GOLD, 1, 100, WorkEnd::Spent, None, 1, 0),
         (GOLD, 1000, 1, WorkEnd::NoRoom, None, 2, 1),
     ];
-    for (text, units, room, end, conclusion, drawn, claimed) in rows {
+    for (text, visits, room, end, conclusion, drawn, claimed) in rows {
         let problem = problem(&rt, text);
-        let mut port = LonePort::make(alloc, &problem, &settings(&rt, 1, units, room))?;
+        let mut port = LonePort::make(alloc, &problem, &settings(&rt, 1, visits, room))?;
         let mut worker = Worker::make(alloc, &problem, 1);
         same(&rt, text, work(alloc, &mut worker, &mut port), end);
         same(&rt, text, (port.drawn(), port.claimed()), (drawn, claimed));

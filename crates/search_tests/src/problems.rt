@@ -19,7 +19,7 @@ pub(crate) fn problem(rt: &impl Abort, text: &str) -> Problem {
     accept_problem(position).expect(rt, text)
 }
 
-// Those of a search with so many workers, units and notes, and a small table in one part.
+// Those of a search with so many workers, visits and notes, and a small table in one part.
 pub(crate) fn settings(rt: &impl Abort, workers: u32, expansions: u64, room: u32) -> Settings {
     Settings::new(workers, expansions, room, 16, 1).expect(rt, "settings")
 }

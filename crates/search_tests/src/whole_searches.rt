@@ -38,7 +38,7 @@ fn a_search_alone_ends_as_it_should(rt: HostRuntime) -> Result<(), Fail> {
 #[test]
 fn a_stop_ends_a_search_where_it_is_signalled(rt: HostRuntime) -> Result<(), Fail> {
     let alloc = rt.alloc();
-    // The problem, its units, the poll at which the stop is signalled, and how that ends.
+    // The problem, its visits, the poll at which the stop is signalled, and how that ends.
     let rows = [
         (ROOKS, 1000, 1, (None, Some(Cause::Stopped(1)))),
         (ALONE, 1000, 2, (Some(Conclusion::Escape), None)),

@@ -11,7 +11,7 @@ pub(crate) fn alone(rt: &impl Abort) -> Problem {
     accept_problem(position).expect(rt, text)
 }
 
-// Those of a search with so many units and notes.
+// Those of a search with so many visits and notes.
 pub(crate) fn settings(rt: &impl Abort, expansions: u64, room: u32) -> Settings {
     Settings::new(64, expansions, room, 16, 1).expect(rt, "settings")
 }

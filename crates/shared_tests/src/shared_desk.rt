@@ -38,7 +38,7 @@ fn new_seats(
     Ok(seats)
 }
 
-// The unit that a seat draws, if it gets one.
+// The visit that a seat draws, if it gets one.
 fn drawn_by(desk: &WordDesk, seat: &mut DeskSeat) -> Option<u64>
     requires desk { seat.old.desk ≡ desk.now }
     requires goes_on { seat.old.draw_ends ≡ 0 }
@@ -47,7 +47,7 @@ fn drawn_by(desk: &WordDesk, seat: &mut DeskSeat) -> Option<u64>
     ensures goes_on { OnSome result (seat.new.draw_ends ≡ 0) }
 {
     match desk.draw(seat) {
-        Draw::Go(unit) => Some(unit),
+        Draw::Go(visit) => Some(visit),
         Draw::Done => None,
         Draw::Spent => None,
     }
@@ -65,13 +65,13 @@ fn draw_in_turn(
     ensures count { IfOk result (λ r. length r.0.items ≡ length waiting.items) }
 {
     let mut ended = VecDeque::new(alloc);
-    let mut units = Vec::new(alloc);
+    let mut visits = Vec::new(alloc);
     for _ in 0..1_000 {
         let Some(mut seat) = waiting.pop_front() else {
-            return Ok((ended, units));
+            return Ok((ended, visits));
         };
-        if let Some(unit) = drawn_by(desk, &mut seat) {
-            units.push(unit)?;
+        if let Some(visit) = drawn_by(desk, &mut seat) {
+            visits.push(visit)?;
             waiting.push_back(seat)?;
             continue;
         }
@@ -96,7 +96,7 @@ fn join_all(desk: &WordDesk, first: &mut DeskSeat, mut seats: VecDeque<DeskSeat>
 fn together(
     desk: &WordDesk,
     mut seats: VecDeque<DeskSeat>,
-    mut units: Vec<u64>,
+    mut visits: Vec<u64>,
     mut others: VecDeque<DeskSeat>,
     more: Vec<u64>,
 ) -> Result<(VecDeque<DeskSeat>, Vec<u64>), AllocError>
@@ -107,8 +107,8 @@ fn together(
     ensures count { IfOk result (λ r. length r.0.items ≡ length seats.items + length others.items) }
 {
     seats.append(&mut others)?;
-    units.extend_from_slice(more.as_slice())?;
-    Ok((seats, units))
+    visits.extend_from_slice(more.as_slice())?;
+    Ok((seats, visits))
 }
 
 // Two threads with seats of their own, which draw in turn in each: all seats, and what they got.
@@ -130,12 +130,12 @@ fn both_draw<R: Threads + Sync>(
         || draw_in_turn(alloc, desk, one),
         || draw_in_turn(alloc, desk, two),
     );
-    let (seats, units) = low?;
+    let (seats, visits) = low?;
     let (others, more) = high?;
-    together(desk, seats, units, others, more)
+    together(desk, seats, visits, others, more)
 }
 
-// A desk of so many units and so much room, and its first seat.
+// A desk of so many visits and so much room, and its first seat.
 fn desk_of(
     rt: &impl Abort,
     alloc: Global,
@@ -149,17 +149,17 @@ fn desk_of(
     WordDesk::make(alloc, problem, &settings(rt, expansions, room))
 }
 
-// Whether the units are those to 100, each once, and as many were drawn.
+// Whether the visits are those to 100, each once, and as many were drawn.
 fn each_once(
     rt: &impl Abort,
     alloc: Global,
     row: &str,
-    mut units: Vec<u64>,
+    mut visits: Vec<u64>,
     drawn: u64,
 ) -> Result<(), AllocError> {
     let wanted: Vec<u64> = (1..=100).collect(alloc)?;
-    units.sort_unstable();
-    same(rt, row, units, wanted);
+    visits.sort_unstable();
+    same(rt, row, visits, wanted);
     same(rt, row, drawn, 100);
     Ok(())
 }
@@ -169,10 +169,10 @@ fn sixty_four_seats_draw_each_unit_once(rt: HostRuntime) -> Result<(), Fail> {
     let alloc = rt.alloc();
     let (desk, mut first) = desk_of(&rt, alloc, &alone(&rt), 100, 10)?;
     let seats = new_seats(alloc, &desk, &mut first, 64)?;
-    let (ended, units) = draw_in_turn(alloc, &desk, seats)?;
+    let (ended, visits) = draw_in_turn(alloc, &desk, seats)?;
     join_all(&desk, &mut first, ended);
     let end = desk.close(first);
-    each_once(&rt, alloc, "in turn", units, end.drawn)?;
+    each_once(&rt, alloc, "in turn", visits, end.drawn)?;
     same(&rt, "claims", (end.claimed, end.note.is_some()), (0, false));
     Ok(())
 }
@@ -190,13 +190,13 @@ fn four_threads_draw_each_unit_once(rt: HostRuntime) -> Result<(), Fail> {
         || both_draw(&rt, alloc, &desk, one, two),
         || both_draw(&rt, alloc, &desk, three, four),
     );
-    let (seats, mut units) = low?;
+    let (seats, mut visits) = low?;
     let (others, more) = high?;
     join_all(&desk, &mut first, seats);
     join_all(&desk, &mut first, others);
-    units.extend_from_slice(more.as_slice())?;
+    visits.extend_from_slice(more.as_slice())?;
     let end = desk.close(first);
-    each_once(&rt, alloc, "by threads", units, end.drawn)?;
+    each_once(&rt, alloc, "by threads", visits, end.drawn)?;
     Ok(())
 }
 
@@ -245,8 +245,8 @@ fn a_posted_note_stays_and_ends_all_draws(rt: HostRuntime) -> Result<(), Fail> {
     let problem = alone(&rt);
     let (desk, mut first) = desk_of(&rt, alloc, &problem, 100, 1)?;
     let mut second = desk.make_seat(&mut first);
-    let unit = drawn_by(&desk, &mut second).ok_or("a unit")?;
-    same(&rt, "unit", unit, 1);
+    let visit = drawn_by(&desk, &mut second).ok_or("a visit")?;
+    same(&rt, "visit", visit, 1);
     let note = claimed_by(&desk, &mut second).ok_or("room")?;
     same(&rt, "room", note, 1);
     same(&rt, "no room", claimed_by(&desk, &mut first), None);

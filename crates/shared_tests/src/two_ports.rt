@@ -163,7 +163,7 @@ fn two_ports_see_what_the_other_leaves(rt: HostRuntime) -> Result<(), Fail> {
     Ok(())
 }
 
-// How a worker over a port ended, and how many units it was given.
+// How a worker over a port ended, and how many visits it was given.
 fn worked<R: Wait>(
     alloc: Global,
     problem: &Problem,

@@ -6,8 +6,8 @@
 //! search begins behind each of these moves; `search`, which solves these problems, at most ROUNDS
 //! milliseconds each; `world`, which solves them by ROUNDS workers in turn; `tables`, which looks
 //! and enters in a table of 16,384 rows that is full, and in one of 1,048,576, which takes a
-//! gigabyte; `words`, which steps ROUNDS times on words that threads share, and `units`, which
-//! draws ROUNDS units of a desk that they share, each on one thread and on two and four at once;
+//! gigabyte; `words`, which steps ROUNDS times on words that threads share, and `desk`, which
+//! draws ROUNDS visits of a desk that they share, each on one thread and on two and four at once;
 //! the word of a part, as [`parts::ROWS`] lists them; or `all`, every part. A part does its work
 //! ROUNDS times, 1 where no number is given, and a line says how many calls that were and a check
 //! sum of what they answered, the same on every machine. Of a problem that is searched it says the
@@ -51,11 +51,11 @@ fn main(rt: HostRuntime) -> io::Result<()> {
             tables::tables(&rt, &asked, 1_048_576)
         }
         "words" => shared::words(&rt, &rt, &asked),
-        "units" => {
+        "desk" => {
             let Some(boards) = Boards::set_up(rt.alloc())? else {
                 return Err(refused());
             };
-            shared::units(&rt, &rt, &asked, &boards.opening)
+            shared::desk(&rt, &rt, &asked, &boards.opening)
         }
         _ => measure(&rt, &asked),
     }

@@ -14,35 +14,35 @@ use std::time::Instant;
 use tsume_io::StdClock;
 use world_play::World;
 
-// The most units that a problem may take in a world.
-const MOST_UNITS: u64 = 300_000;
+// The most visits that a problem may take in a world.
+const MOST_VISITS: u64 = 300_000;
 
 // How often each worker makes a request before it is asked whether all have ended.
 const TURNS: u32 = 64;
 
-// A gate that counts the units that pass it.
+// A gate that counts the visits that pass it.
 #[derive(Drop)]
 struct Counter {
-    units: AtomicU64,
+    visits: AtomicU64,
 }
 
 impl Gate for Counter {
     fn pass(&self, _: u32, _: u64) {
-        self.units.fetch_add(1, Ordering::SeqCst);
+        self.visits.fetch_add(1, Ordering::SeqCst);
     }
 }
 
-// Prints what was found, how many units it took, and the height of what shows it.
+// Prints what was found, how many visits it took, and the height of what shows it.
 fn tell(
     rt: &HostRuntime,
     asked: &Asked,
     begun: Instant,
-    units: u64,
+    visits: u64,
     found: Option<&Note>,
 ) -> io::Result<()> {
     let Some(note) = found else {
         let done = Done {
-            calls: units,
+            calls: visits,
             sum: 0,
         };
         return print_done(rt, asked, "unknown", begun, done);
@@ -52,13 +52,13 @@ fn tell(
         Conclusion::Escape => "nomate",
     };
     let sum = u64::from(note.height());
-    print_done(rt, asked, verdict, begun, Done { calls: units, sum })
+    print_done(rt, asked, verdict, begun, Done { calls: visits, sum })
 }
 
-/// Those of a search by so many workers with so many units, and all room. Errors: a number is out
+/// Those of a search by so many workers with so many visits, and all room. Errors: a number is out
 /// of range.
-pub fn settings(workers: u32, units: u64) -> io::Result<Settings> {
-    match Settings::new(workers, units, 1_400_000, 65_536, 1) {
+pub fn settings(workers: u32, visits: u64) -> io::Result<Settings> {
+    match Settings::new(workers, visits, 1_400_000, 65_536, 1) {
         Ok(settings) => Ok(settings),
         Err(_) => Err(io::Error::from(io::ErrorKind::InvalidInput)),
     }
@@ -71,7 +71,7 @@ fn search(
     problem: &Problem,
 ) -> io::Result<()> {
     let gate = Counter {
-        units: AtomicU64::new(0),
+        visits: AtomicU64::new(0),
     };
     let mut stop = DeadlineStop::new(StdClock::new(rt));
     stop.arm(Some(asked.rounds));
@@ -81,11 +81,11 @@ fn search(
         SearchEnd::Solved(note) => Some(note),
         SearchEnd::Unknown(..) => None,
     };
-    tell(rt, asked, begun, gate.units.load(Ordering::SeqCst), found)
+    tell(rt, asked, begun, gate.visits.load(Ordering::SeqCst), found)
 }
 
 /// Searches each problem of the standard input with one worker, the default table and at most so
-/// many milliseconds, and prints a line for each: the verdict and the units. Before them a line
+/// many milliseconds, and prints a line for each: the verdict and the visits. Before them a line
 /// tells of the making of a table, which is a part of each search's time.
 pub fn searches(rt: &HostRuntime, asked: &Asked) -> io::Result<()> {
     let settings = settings(1, 1_000_000_000)?;
@@ -131,11 +131,11 @@ fn play(
 }
 
 /// Searches each problem of the standard input by so many workers that make their requests in turn,
-/// and prints a line for each: the verdict, and the units that all workers drew until they had
+/// and prints a line for each: the verdict, and the visits that all workers drew until they had
 /// ended.
 pub fn worlds(rt: &HostRuntime, asked: &Asked) -> io::Result<()> {
     let workers = u32::try_from(asked.rounds).unwrap_or(0);
-    let settings = settings(workers, MOST_UNITS)?;
+    let settings = settings(workers, MOST_VISITS)?;
     let events = in_turn(rt, workers)?;
     for problem in problems(rt)?.iter() {
         play(rt, asked, &settings, problem, &events)?;

@@ -1,4 +1,4 @@
-// What the threads of a search share: counts of workers, and the units of a desk.
+// What the threads of a search share: counts of workers, and the visits of a desk.
 ghost use Rattle.std.specs.Prelude.{◌≡◌, ◌<◌, ◌+◌, length};
 
 use crate::pace::{Done, print_done};
@@ -44,17 +44,17 @@ fn visits(counts: &WorkerCounts, mut seat: CountSeat, word: usize, rounds: u64) 
     }
 }
 
-// Draws until there is no unit left: how many units that were, and their sum.
+// Draws until there is no visit left: how many visits that were, and their sum.
 fn draws(desk: &WordDesk, mut seat: DeskSeat) -> Done
     requires desk { seat.desk ≡ desk.now }
     requires goes_on { seat.draw_ends ≡ 0 }
 {
     let mut done = Done::nothing();
     for _ in 0..u64::MAX {
-        let Draw::Go(unit) = desk.draw(&mut seat) else {
+        let Draw::Go(visit) = desk.draw(&mut seat) else {
             return done;
         };
-        done.add(unit);
+        done.add(visit);
     }
     done
 }
@@ -127,7 +127,7 @@ fn four_visit<R: Threads + Sync>(
     both(low, high)
 }
 
-// Draws by two threads until there is no unit left.
+// Draws by two threads until there is no visit left.
 fn two_draw<R: Threads + Sync>(rt: &R, desk: &WordDesk, one: DeskSeat, two: DeskSeat) -> Done
     requires one { (one.desk ≡ desk.now) × (one.draw_ends ≡ 0) }
     requires two { (two.desk ≡ desk.now) × (two.draw_ends ≡ 0) }
@@ -136,7 +136,7 @@ fn two_draw<R: Threads + Sync>(rt: &R, desk: &WordDesk, one: DeskSeat, two: Desk
     both(low, high)
 }
 
-// Draws by four threads until there is no unit left.
+// Draws by four threads until there is no visit left.
 fn four_draw<R: Threads + Sync>(
     rt: &R,
     desk: &WordDesk,
@@ -187,10 +187,10 @@ pub fn words<R: Threads + Sync>(rt: &HostRuntime, threads: &R, asked: &Asked) ->
     print_done(rt, asked, "four threads", begun, done)
 }
 
-/// Draws so many units, at most a billion, of a desk: by one thread, then by two and by four at
-/// once. The calls are the units; the sum is theirs, so that one which was handed out twice would
+/// Draws so many visits, at most a billion, of a desk: by one thread, then by two and by four at
+/// once. The calls are the visits; the sum is theirs, so that one which was handed out twice would
 /// show.
-pub fn units<R: Threads + Sync>(
+pub fn desk<R: Threads + Sync>(
     rt: &HostRuntime,
     threads: &R,
     asked: &Asked,
@@ -200,7 +200,7 @@ pub fn units<R: Threads + Sync>(
     let (desk, alone) = WordDesk::make(rt.alloc(), problem, &settings)?;
     let begun = Instant::now(rt)?;
     let done = draws(&desk, alone);
-    print_done(rt, asked, "units, one thread", begun, done)?;
+    print_done(rt, asked, "visits, one thread", begun, done)?;
     let (desk, mut one) = WordDesk::make(rt.alloc(), problem, &settings)?;
     let two = desk.make_seat(&mut one);
     let begun = Instant::now(rt)?;

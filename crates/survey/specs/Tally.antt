@@ -39,12 +39,12 @@ pub record ComesTo (problem : Board) (s : SettingsView) (tally : Tally) : Type 0
   pub told : tally ≡ tally_of end
   pub is_true : IsTrueOf problem tally
 
--- The settings of each search: one worker, so many units, all the room that there can be, and 1,024
+-- The settings of each search: one worker, so many visits, all the room that there can be, and 1,024
 -- rows in one part.
 abbrev pub survey_settings : ℕ → SettingsView
 survey_settings expansions = numbers_of 1 expansions MOST_ROOM 1024 1
 
--- The tally of a number, with so many units: that of the problem that the generator makes of the
+-- The tally of a number, with so many visits: that of the problem that the generator makes of the
 -- number.
 pub record IsTallied (expansions number : ℕ) (tally : Tally) : Type 0 where
   pub problem : Board

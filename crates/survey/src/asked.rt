@@ -9,7 +9,7 @@ use search_pool::{Table, Tally};
 use side_by_side::Jobs;
 use std::alloc::{AllocError, Global};
 
-/// The problems of a survey, those of a number and of the numbers behind it, and how many units
+/// The problems of a survey, those of a number and of the numbers behind it, and how many visits
 /// each may use.
 #[derive(Clone, Copy)]
 pub(crate) struct Asked {

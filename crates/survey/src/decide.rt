@@ -42,7 +42,7 @@ fn verdict(problem: &Problem, note: &Note) -> Tally
     }
 }
 
-/// What the search of a problem comes to with one worker and so many units, over a table that is
+/// What the search of a problem comes to with one worker and so many visits, over a table that is
 /// emptied for it; its first search makes it, of about 1 MB. Errors: want of memory alone.
 pub(crate) fn decide(
     alloc: Global,

@@ -13,7 +13,7 @@ use std::thread::Threads;
 /// What the searches of so many problems of the generator come to, those of the seed and the
 /// numbers behind it, in this order; the seed is at most [`MOST_SEED`](search_limits::MOST_SEED),
 /// and they are at most [`MOST_COUNT`](search_limits::MOST_COUNT). Each search has one worker, so
-/// many units (1 to [`MOST_EXPANSIONS`](search_limits::MOST_EXPANSIONS): visits of positions), all
+/// many visits (1 to [`MOST_EXPANSIONS`](search_limits::MOST_EXPANSIONS): visits of positions), all
 /// the room for notes that there can be, and a table of 1,024 rows. They are decided side by side
 /// by a [`Team`]: there is a thread for each processor that the system has, up to
 /// [`MOST_MEMBERS`](side_by_side::MOST_MEMBERS), with a table of about 1 MB, and each takes the

@@ -148,7 +148,7 @@ leave_books port shards seat key update site slot less shorter words may ran =
     let named : word_of (all_rows port.cut) key slot ≡ mine = words slot may.0 in
     record {
       problem = refl;
-      units = omega arith;
+      visits = omega arith;
       most = λ h. h;
       going = refl;
       words = refl;
@@ -167,14 +167,14 @@ leave_books port shards seat key update site slot less shorter words may ran =
 pub unused_suits : (port : TablePortView) (problem : Board) (number : ℕ) → port.desk.desk.position ≡ problem → IsUnused port.seat port.desk
     → Suits (worker_at_first problem number) (book_of port)
 unused_suits port problem number same unused =
-    let none : length port.desk.units ≡ 0 = ap length unused.units in
+    let none : length port.desk.visits ≡ 0 = ap length unused.visits in
     let empty : length port.seat.seat.view.added ≡ 0 = ap length unused.added in
     record {
       problem = sym same;
       going = inl (ap₂ (λ (d c : ℕ). (d == 0) && (c == 0)) unused.draws unused.claims);
       held = λ word. omega arith;
       some = omega arith;
-      units = omega arith;
+      visits = omega arith;
       size = omega (arith, empty, none);
       most = omega (arith, none);
     }

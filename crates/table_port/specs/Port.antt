@@ -44,11 +44,11 @@ pub record TablePortView : Type 0 where
 -- Seats that have added, drawn and claimed nothing.
 pub record IsUnused (seat : RowSeatView) (desk : DeskSeatView) : Type 0 where
   pub added : seat.seat.view.added ≡ []
-  pub units : desk.units ≡ []
+  pub visits : desk.visits ≡ []
   pub draws : desk.draw_ends ≡ 0
   pub claims : desk.claim_ends ≡ 0
 
--- It goes on: each draw got a unit, and each claim room.
+-- It goes on: each draw got a visit, and each claim room.
 abbrev pub is_going : DeskSeatView → Bool
 is_going desk = (desk.draw_ends == 0) && (desk.claim_ends == 0)
 
@@ -56,7 +56,7 @@ is_going desk = (desk.draw_ends == 0) && (desk.claim_ends == 0)
 abbrev pub book_of : TablePortView → Book
 book_of port = record {
   problem = port.desk.desk.position;
-  units = length port.desk.units;
+  visits = length port.desk.visits;
   going = is_going port.desk;
   words = word_of (all_rows port.cut);
   held = λ word. times word port.seat.seat.view.added;

@@ -28,7 +28,7 @@ pub struct Seats<'a> {
 pub struct Watch<'a, G: Gate, T: Stop> {
     /// The worker's number, from 1.
     pub number: u32,
-    /// What it passes behind each unit that it draws.
+    /// What it passes behind each visit that it draws.
     pub gate: &'a G,
     /// What each of its polls asks.
     pub stop: T,

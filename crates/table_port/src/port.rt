@@ -21,7 +21,7 @@ use worker_core::Port;
 use worker_counts::{CountSeat, view_laws};
 
 /// The shared table of positions and the shared desk of a search, for one worker; the gate that the
-/// worker passes behind each unit that it draws; and the stop that each of its polls asks.
+/// worker passes behind each visit that it draws; and the stop that each of its polls asks.
 ///
 /// It keeps that its seats are of the words and of the desk, each with one part; that there are as
 /// many shards as the cut says, and eight words for each row that it says; and that the desk's
@@ -138,8 +138,8 @@ impl<'a, J: Job, R: Rows<J>, G: Gate, T: Stop> Port for TablePort<'a, J, R, G, T
     fn draw(&mut self) -> Draw {
         let draw = self.seats.desk.draw(&mut self.seats.desk_seat);
         self.seats.desk_seat.laws();
-        if let Draw::Go(unit) = draw {
-            self.watch.gate.pass(self.watch.number, unit);
+        if let Draw::Go(visit) = draw {
+            self.watch.gate.pass(self.watch.number, visit);
         }
         draw
     }

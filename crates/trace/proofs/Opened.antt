@@ -7,4 +7,4 @@ use Rattle.world_play.specs.Crew.{IsCrew}
 pub opened_crew : (port ready : LonePortView) (stops : Bool) (workers : List WorkerView) → ready ≡ opened port stops → IsCrew (book_of port) workers → IsCrew (book_of ready) workers
 opened_crew port ready stops workers is crew =
     subst (λ (p : LonePortView). IsCrew (book_of p) workers) (sym is)
-    (record { held = crew.held; size = crew.size; units = crew.units; most = crew.most; members = crew.members })
+    (record { held = crew.held; size = crew.size; visits = crew.visits; most = crew.most; members = crew.members })

@@ -100,11 +100,11 @@ impl Lines {
         self.end_by(if stop { "yes" } else { "no" }, &[]);
     }
 
-    /// The next unit of work.
+    /// The next visit.
     pub fn draw(&mut self, draw: Draw) {
         self.begin("draw");
         match draw {
-            Draw::Go(unit) => self.end_by("go", &[unit]),
+            Draw::Go(visit) => self.end_by("go", &[visit]),
             Draw::Done => self.end_by("done", &[]),
             Draw::Spent => self.end_by("spent", &[]),
         }
@@ -175,7 +175,7 @@ impl Lines {
         self.end_by(word, &[]);
     }
 
-    /// The last line of a world: how many units were drawn, for how many notes room was claimed,
+    /// The last line of a world: how many visits were drawn, for how many notes room was claimed,
     /// whether a note is posted, how many workers have ended, and how many visits are below the
     /// slots of the table. Nothing where one worker is alone.
     pub fn total(&mut self, drawn: u64, claimed: u32, posted: bool, ended: u32, below: u64) {

@@ -17,7 +17,7 @@
 //! Where the settings begin with `workers N`, the lines behind them are a schedule: `step N`,
 //! `raise N` and `starve N`, N a worker's number, from 1. It happens in the world of these workers;
 //! each line that is printed begins with the number of its worker, and the last one is `drawn N
-//! claimed N posted yes ended N counts N`, or `posted no`: the units and the room that were given,
+//! claimed N posted yes ended N counts N`, or `posted no`: the visits and the room that were given,
 //! how many workers have ended, and how many visits are below the slots of the table.
 //!
 //! Where they begin with `ports N`, the same happens to workers each of which has a port of its own

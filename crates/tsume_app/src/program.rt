@@ -231,7 +231,7 @@ pub fn told_limit(words: &WordsRead) -> Result<Option<u64>, AllocError>
 /// [`MOST_CERTIFICATE_BYTES`](crate::MOST_CERTIFICATE_BYTES) of a certificate; a text that is no
 /// problem or no certificate, with its first fault; a source or a sink whose count of faults rose;
 /// want of memory. The whole text is made before the first write, but for a collection, whose
-/// reports are written one by one. `solve` passes the gate for each unit, one visit of a position,
+/// reports are written one by one. `solve` passes the gate for each visit of a position,
 /// as the worker that visits it (no clause says it), and no other command does. The stops, one for
 /// each worker that there may be, are armed once, with the deadline that the words give or with
 /// none, when `solve` has accepted its problem, and before that they aren't used; then each worker

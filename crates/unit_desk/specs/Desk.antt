@@ -10,7 +10,7 @@ use Rattle.search_limits.specs.Sizes.{IsFromTo}
 use Rattle.search_limits.specs.declared.expansions.TheConstants.{MOST_EXPANSIONS}
 use Rattle.search_limits.specs.declared.settings.TheConstants.{MOST_ROOM}
 
--- The problem's position, how many units and notes there may be, how many units were drawn and for
+-- The problem's position, how many visits and notes there may be, how many visits were drawn and for
 -- how many notes room was claimed, and the note that is posted.
 pub record DeskView : Type 0 where
   pub position : Board
@@ -27,7 +27,7 @@ pub record IsAnswerTo (position : Board) (note : Derivation) : Type 0 where
   pub about : position_of note ≡ position
   pub same_attacker : attacker_of note ≡ position.side
 
--- What is kept of a desk: its limits are those of settings, no more is drawn than there are units,
+-- What is kept of a desk: its limits are those of settings, no more is drawn than there are visits,
 -- no more is claimed than there is room, and what is posted answers the problem.
 pub record IsDesk (desk : DeskView) : Type 0 where
   pub expansions : IsFromTo 1 MOST_EXPANSIONS desk.expansions
@@ -44,12 +44,12 @@ fresh position expansions room = record { position = position; expansions = expa
 abbrev pub HasPosted : DeskView → Type 0
 HasPosted desk = IsSome desk.posted
 
--- What a draw answers, and the desk after it. Done: a note is posted. Spent: none is, and all units
--- were drawn. Go: none is, and the next unit is drawn. Nothing else changes.
+-- What a draw answers, and the desk after it. Done: a note is posted. Spent: none is, and all visits
+-- were drawn. Go: none is, and the next visit is drawn. Nothing else changes.
 abbrev pub Draws : DeskView → Draw → DeskView → Type 0
 Draws desk Done after = HasPosted desk × (after ≡ desk)
 Draws desk Spent after = (¬ HasPosted desk) × (desk.drawn ≡ desk.expansions) × (after ≡ desk)
-Draws desk (Go unit) after = (¬ HasPosted desk) × (desk.drawn < desk.expansions) × (unit ≡ desk.drawn + 1) × (after ≡ record desk { drawn = unit })
+Draws desk (Go number) after = (¬ HasPosted desk) × (desk.drawn < desk.expansions) × (number ≡ desk.drawn + 1) × (after ≡ record desk { drawn = number })
 
 -- What a claim answers, and the desk after it. NoRoom: all room was claimed. Room: that of the next
 -- note is claimed. Nothing else changes.

@@ -10,9 +10,9 @@ use search_limits::Settings;
 use shogi_rules::Problem;
 use std::marker::Model;
 
-/// Hands out the units and the room of a search, and keeps the note that answers its problem.
+/// Hands out the visits and the room of a search, and keeps the note that answers its problem.
 ///
-/// It keeps that no more units were drawn, and no more room claimed, than there are, and that the
+/// It keeps that no more visits were drawn, and no more room claimed, than there are, and that the
 /// note that is posted answers the problem: it holds on every path, is about the problem's
 /// position, and for its attacker. No call takes memory.
 #[derive(Drop)]
@@ -40,7 +40,7 @@ impl Model for Desk {
 }
 
 impl Desk {
-    /// The desk of a problem, with the units and the room of the settings: nothing is drawn,
+    /// The desk of a problem, with the visits and the room of the settings: nothing is drawn,
     /// claimed or posted.
     pub fn make(problem: &Problem, settings: &Settings) -> Desk
         ensures { result ≡ fresh problem.now.position settings.now.expansions settings.now.room }
@@ -55,8 +55,8 @@ impl Desk {
         }
     }
 
-    /// The next unit of work: Done exactly where a note is posted; else Spent exactly where all
-    /// units were drawn; else the number of the unit, from 1, which is drawn then. Nothing else
+    /// The next visit: Done exactly where a note is posted; else Spent exactly where all
+    /// visits were drawn; else the number of the visit, from 1, which is drawn then. Nothing else
     /// changes.
     pub fn draw(&mut self) -> Draw
         ensures draws { Draws self.old result self.new }
@@ -113,7 +113,7 @@ impl Desk {
         self.note
     }
 
-    /// How many units were drawn.
+    /// How many visits were drawn.
     pub fn drawn(&self) -> u64
         ensures { result ≡ self.now.drawn }
     {

@@ -1,8 +1,8 @@
-//! The desk of a search: it hands out the units of work and the room for notes, and keeps the note
+//! The desk of a search: it hands out the visits and the room for notes, and keeps the note
 //! that answers the problem.
 //!
-//! A unit is one visit of a position, as its worker draws it; room is claimed for each note that is
-//! made. Both are counted against the [`Settings`](search_limits::Settings) of the search. What is
+//! A worker draws each visit of a position here before it makes it, and claims room for each note
+//! that it makes. Both are counted against the [`Settings`](search_limits::Settings) of the search. What is
 //! posted first stays, and it is an answer: it holds on every path, and it is about the problem.
 //!
 //! Contracts see a desk as its counts, its limits, the problem's position and what is posted

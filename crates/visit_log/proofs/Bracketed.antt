@@ -52,11 +52,11 @@ leave_one held log f kept key update at of are =
     brackets_more [] ((kept, key) ∷ held) held log (leave f update) are (ap₂ (λ (one : Option Kept) (k : Key). (kept_by one, k) ∷ held) (sym at) (sym of))
 
 -- The visit enters its position.
-enter_brackets : (held : Entries) (log : List Exchange) (p : Place) (unit : ℕ) (kept : Kept) → AreBrackets [] log held
-    → AreBrackets [] (entered_on log unit p kept) ((kept, p.key) ∷ held)
-enter_brackets held log p unit kept are =
-    brackets_more [] held ((kept, p.key) ∷ held) (drawn_on log unit) (entered p kept)
-    (brackets_more [] held held (log ++ polled false ∷ []) (drew (Go unit)) (brackets_more [] held held log (polled false) are refl) refl) refl
+enter_brackets : (held : Entries) (log : List Exchange) (p : Place) (number : ℕ) (kept : Kept) → AreBrackets [] log held
+    → AreBrackets [] (entered_on log number p kept) ((kept, p.key) ∷ held)
+enter_brackets held log p number kept are =
+    brackets_more [] held ((kept, p.key) ∷ held) (drawn_on log number) (entered p kept)
+    (brackets_more [] held held (log ++ polled false ∷ []) (drew (Go number)) (brackets_more [] held held log (polled false) are refl) refl) refl
 
 -- What is entered and not left before a visit is so behind it.
 mutual
@@ -67,15 +67,15 @@ mutual
   visit_brackets task held log p Undrawn are = brackets_more [] held held log (polled false) are refl
   visit_brackets task held log p (Refused draw) are =
       brackets_more [] held held (log ++ polled false ∷ []) (drew draw) (brackets_more [] held held log (polled false) are refl) refl
-  visit_brackets task held log p (Unentered unit) are =
-      brackets_more [] held held (log ++ polled false ∷ []) (drew (Go unit)) (brackets_more [] held held log (polled false) are refl) refl
-  visit_brackets task held log p (Unlisted unit kept) are =
-      leave_one held (entered_on log unit p kept) (opened p kept []) kept p.key Nothing refl refl (enter_brackets held log p unit kept are)
-  visit_brackets task held log p (Visited unit kept children doings tail) are =
+  visit_brackets task held log p (Unentered number) are =
+      brackets_more [] held held (log ++ polled false ∷ []) (drew (Go number)) (brackets_more [] held held log (polled false) are refl) refl
+  visit_brackets task held log p (Unlisted number kept) are =
+      leave_one held (entered_on log number p kept) (opened p kept []) kept p.key Nothing refl refl (enter_brackets held log p number kept are)
+  visit_brackets task held log p (Visited number kept children doings tail) are =
       let f : FrameView = opened p kept children in
-      tail_brackets task held (doings_on task (entered_on log unit p kept) f doings) (known_after task f doings) kept p.key tail (kept_after task f doings)
+      tail_brackets task held (doings_on task (entered_on log number p kept) f doings) (known_after task f doings) kept p.key tail (kept_after task f doings)
       (ap (λ (q : Place). q.key) (place_after task f doings))
-      (doings_brackets task ((kept, p.key) ∷ held) (entered_on log unit p kept) f doings (enter_brackets held log p unit kept are))
+      (doings_brackets task ((kept, p.key) ∷ held) (entered_on log number p kept) f doings (enter_brackets held log p number kept are))
 
   doings_brackets : (task : Task) (held : Entries) (log : List Exchange) (f : FrameView) (doings : Doings) → AreBrackets [] log held
       → AreBrackets [] (doings_on task log f doings) held

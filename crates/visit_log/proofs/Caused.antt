@@ -32,9 +32,9 @@ old : (log : List Exchange) (event e : Exchange) → Contains log e → Contains
 old log event e there = Contains-append_left log (event ∷ []) e there
 
 -- And before its position was entered.
-enters_hold : (log : List Exchange) (unit : ℕ) (p : Place) (kept : Kept) (e : Exchange) → Contains log e → Contains (entered_on log unit p kept) e
-enters_hold log unit p kept e there =
-    old (drawn_on log unit) (entered p kept) e (old (log ++ polled false ∷ []) (drew (Go unit)) e (old log (polled false) e there))
+enters_hold : (log : List Exchange) (number : ℕ) (p : Place) (kept : Kept) (e : Exchange) → Contains log e → Contains (entered_on log number p kept) e
+enters_hold log number p kept e there =
+    old (drawn_on log number) (entered p kept) e (old (log ++ polled false ∷ []) (drew (Go number)) e (old log (polled false) e there))
 
 -- What stood in the log before a visit, or what is done in it, stands there still.
 mutual
@@ -43,13 +43,13 @@ mutual
   visit_holds task log p Halted e there = old log (polled true) e there
   visit_holds task log p Undrawn e there = old log (polled false) e there
   visit_holds task log p (Refused draw) e there = old (log ++ polled false ∷ []) (drew draw) e (old log (polled false) e there)
-  visit_holds task log p (Unentered unit) e there = old (log ++ polled false ∷ []) (drew (Go unit)) e (old log (polled false) e there)
-  visit_holds task log p (Unlisted unit kept) e there =
-      old (entered_on log unit p kept) (leave (opened p kept []) Nothing) e (enters_hold log unit p kept e there)
-  visit_holds task log p (Visited unit kept children doings tail) e there =
+  visit_holds task log p (Unentered number) e there = old (log ++ polled false ∷ []) (drew (Go number)) e (old log (polled false) e there)
+  visit_holds task log p (Unlisted number kept) e there =
+      old (entered_on log number p kept) (leave (opened p kept []) Nothing) e (enters_hold log number p kept e there)
+  visit_holds task log p (Visited number kept children doings tail) e there =
       let f : FrameView = opened p kept children in
-      tail_holds task (doings_on task (entered_on log unit p kept) f doings) (known_after task f doings) tail e
-      (doings_hold task (entered_on log unit p kept) f doings e (enters_hold log unit p kept e there))
+      tail_holds task (doings_on task (entered_on log number p kept) f doings) (known_after task f doings) tail e
+      (doings_hold task (entered_on log number p kept) f doings e (enters_hold log number p kept e there))
 
   doings_hold : (task : Task) (log : List Exchange) (f : FrameView) (doings : Doings) (e : Exchange) → Contains log e → Contains (doings_on task log f doings) e
   doings_hold task log f nothing_yet e there = there
@@ -150,17 +150,17 @@ mutual
   visit_why task path log p Unpolled is = tt
   visit_why task path log p Halted is = last log (polled true)
   visit_why task path log p Undrawn is = tt
-  visit_why task path log p (Refused (Go unit)) is = absurd is
+  visit_why task path log p (Refused (Go number)) is = absurd is
   visit_why task path log p (Refused Done) is = inr (last (log ++ polled false ∷ []) (drew Done))
   visit_why task path log p (Refused AllDrawn) is = last (log ++ polled false ∷ []) (drew AllDrawn)
-  visit_why task path log p (Unentered unit) is = tt
-  visit_why task path log p (Unlisted unit kept) is = tt
-  visit_why task path log p (Visited unit kept children doings tail) is =
+  visit_why task path log p (Unentered number) is = tt
+  visit_why task path log p (Unlisted number kept) is = tt
+  visit_why task path log p (Visited number kept children doings tail) is =
       let f : FrameView = opened p kept children in
       let same : (known_after task f doings).place ≡ p = place_after task f doings in
-      tail_why task (path_at task p path) (doings_on task (entered_on log unit p kept) f doings) (known_after task f doings) kept tail is.2
-      (subst (λ (q : Place). Contains (doings_on task (entered_on log unit p kept) f doings) (entered q kept)) (sym same)
-      (doings_hold task (entered_on log unit p kept) f doings (entered p kept) (last (drawn_on log unit) (entered p kept))))
+      tail_why task (path_at task p path) (doings_on task (entered_on log number p kept) f doings) (known_after task f doings) kept tail is.2
+      (subst (λ (q : Place). Contains (doings_on task (entered_on log number p kept) f doings) (entered q kept)) (sym same)
+      (doings_hold task (entered_on log number p kept) f doings (entered p kept) (last (drawn_on log number) (entered p kept))))
 
   tail_why : (task : Task) (path : List Key) (log : List Exchange) (f : FrameView) (kept : Kept) (tail : Tail) → IsTail task path f tail
       → Contains log (entered f.place kept) → WindsWhy task (λ g room. IsUnmadeBy task f tail g room) (tail_ending task f tail) (tail_on task log f tail)

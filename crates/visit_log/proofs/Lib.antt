@@ -7,7 +7,7 @@ pub mod SoundChildren
 pub mod SoundNotes
 pub mod SoundSteps
 pub mod Slots
-pub mod Units
+pub mod Drawn
 pub mod ToCome
 pub mod Caused
 pub mod Ended

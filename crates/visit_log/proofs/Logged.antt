@@ -1,4 +1,4 @@
--- Units and room are those that the log gives.
+-- Visits and room are those that the log gives.
 use Rattle.std.proofs.Common.{◌≡◌, ◌+◌, ℕ, true, false, cond, List, [], ◌∷◌, arith, refl, sym, ap, inl, inr}
 use Rattle.std.specs.Prelude.{Some, count_by}
 use Rattle.std.proofs.lemmas.List.Sums.{sum_by-append}
@@ -18,18 +18,18 @@ use Rattle.visit_log.specs.Frame.{Task, FrameView}
 use Rattle.visit_log.specs.Visit.{Exchange}
 use Rattle.visit_log.specs.Machine.{State, start, starve, GoesOn, Opens, Sees, Makes, Returns, Begins, rest_of, LeadsAt}
 use Rattle.visit_log.specs.Run.{Happening, Told, Dark, Starved, Happens, Runs, event, events}
-use Rattle.visit_log.specs.Counts.{units_in, rooms_in, gives_unit, gives_room}
+use Rattle.visit_log.specs.Counts.{visits_in, rooms_in, gives_visit, gives_room}
 use Rattle.visit_log.specs.Laws.{CountsOfLogs}
 use Rattle.visit_log.proofs.Slots.{starving_alone}
 
--- The state has so many more units and so much more room.
-record Counts (s t : State) (units rooms : ℕ) : Type 0 where
-  pub visits : t.visits ≡ s.visits + units
+-- The state has so many more visits and so much more room.
+record Counts (s t : State) (more rooms : ℕ) : Type 0 where
+  pub visits : t.visits ≡ s.visits + more
   pub claims : t.claims ≡ s.claims + rooms
 
 -- What another state counts that is this one but for its stage and its visits.
-counts_as : (s t u : State) (units rooms : ℕ) → t ≡ u → u.visits ≡ s.visits + units → u.claims ≡ s.claims + rooms → Counts s t units rooms
-counts_as s t u units rooms e visits claims =
+counts_as : (s t u : State) (more rooms : ℕ) → t ≡ u → u.visits ≡ s.visits + more → u.claims ≡ s.claims + rooms → Counts s t more rooms
+counts_as s t u more rooms e visits claims =
     let v = ap (λ (z : State). z.visits) e in
     let c = ap (λ (z : State). z.claims) e in
     record { visits = omega (arith, v, visits); claims = omega (arith, c, claims) }
@@ -62,12 +62,12 @@ returns_counts task s t [] (Open numbers) h = absurd h
 returns_counts task s t (g ∷ gs) (Solved note) h = goes_counts task s t _ gs h.2
 returns_counts task s t (g ∷ gs) (Open numbers) h = goes_counts task s t _ gs h.2
 
--- Each answer adds the units and the room that it gives.
+-- Each answer adds the visits and the room that it gives.
 answers_count : (task : Task) (s t : State) (stage : Stage) (answer : Reply) → LeadsAt task s stage answer t
-    → Counts s t (units_in answer) (rooms_in answer)
+    → Counts s t (visits_in answer) (rooms_in answer)
 answers_count task s t (Polling entry) (Polled true) h = counts_as s t _ 0 0 h (omega arith) (omega arith)
 answers_count task s t (Polling entry) (Polled false) h = counts_as s t _ 0 0 h (omega arith) (omega arith)
-answers_count task s t (Drawing entry) (Drew (Go unit)) h = begins_counts task s t entry h
+answers_count task s t (Drawing entry) (Drew (Go number)) h = begins_counts task s t entry h
 answers_count task s t (Drawing entry) (Drew Done) h = counts_as s t _ 0 0 h (omega arith) (omega arith)
 answers_count task s t (Drawing entry) (Drew AllDrawn) h = counts_as s t _ 0 0 h (omega arith) (omega arith)
 answers_count task s t Entering (Entered kept) h = opens_counts task s t s.frames kept h
@@ -81,8 +81,8 @@ answers_count task s t stage answer h = absurd h
 
 -- What an answer gives is what its event is counted as.
 gives_one : (request : Request) (answer : Reply)
-    → (count_by gives_unit ((request, Some answer) ∷ []) ≡ units_in answer) × (count_by gives_room ((request, Some answer) ∷ []) ≡ rooms_in answer)
-gives_one request (Drew (Go unit)) = (refl, refl)
+    → (count_by gives_visit ((request, Some answer) ∷ []) ≡ visits_in answer) × (count_by gives_room ((request, Some answer) ∷ []) ≡ rooms_in answer)
+gives_one request (Drew (Go number)) = (refl, refl)
 gives_one request (Drew Done) = (refl, refl)
 gives_one request (Drew AllDrawn) = (refl, refl)
 gives_one request (Claimed (Room room)) = (refl, refl)
@@ -95,7 +95,7 @@ gives_one request PostedIt = (refl, refl)
 
 -- Whatever happens adds what its event gives.
 happens_counts : (task : Task) (s t : State) (happening : Happening) → Happens task s happening t
-    → Counts s t (count_by gives_unit (event happening)) (count_by gives_room (event happening))
+    → Counts s t (count_by gives_visit (event happening)) (count_by gives_room (event happening))
 happens_counts task s t (Told request answer) h =
     let c = answers_count task s t s.stage answer h.2 in
     let g = gives_one request answer in
@@ -107,16 +107,16 @@ happens_counts task s t Starved h =
 
 -- Things that happen one after the other add what their events give.
 runs_count : (task : Task) (s t : State) (happenings : List Happening) → Runs task s happenings t
-    → Counts s t (count_by gives_unit (events happenings)) (count_by gives_room (events happenings))
+    → Counts s t (count_by gives_visit (events happenings)) (count_by gives_room (events happenings))
 runs_count task s t [] runs = counts_as s t s 0 0 (sym runs) (omega arith) (omega arith)
 runs_count task s t (happening ∷ happenings) (u, happens, runs) =
     let first = happens_counts task s u happening happens in
     let later = runs_count task u t happenings runs in
-    let units = sum_by-append (λ (z : Exchange). cond (gives_unit z) 1 0) (event happening) (events happenings) in
+    let given = sum_by-append (λ (z : Exchange). cond (gives_visit z) 1 0) (event happening) (events happenings) in
     let rooms = sum_by-append (λ (z : Exchange). cond (gives_room z) 1 0) (event happening) (events happenings) in
-    record { visits = omega (arith, first.visits, later.visits, units); claims = omega (arith, first.claims, later.claims, rooms) }
+    record { visits = omega (arith, first.visits, later.visits, given); claims = omega (arith, first.claims, later.claims, rooms) }
 
--- Units and room are those of the log.
+-- Visits and room are those of the log.
 pub counts_logged : CountsOfLogs
 counts_logged task happenings s runs =
     let c = runs_count task (start task) s happenings runs in

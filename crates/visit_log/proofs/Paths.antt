@@ -27,7 +27,7 @@ use Rattle.visit_log.specs.declared.words.Reply.{Reply}
 use Rattle.visit_log.specs.declared.words.Reply.TheVariants.{Poll as Polled, Draw as Drew, Claim as Claimed, Look as Looked, Enter as Entered, Leave as LeftIt, Post as PostedIt}
 use Rattle.visit_log.specs.Frame.{Task, attacker_in, node_at, node_of, Place, FrameView}
 use Rattle.visit_log.specs.Visit.{path_at, path_with}
-use Rattle.visit_log.specs.Machine.{State, path_of, place_by, at_stage, start, bare, entered_ones, wind, starve, starve_at, starve_winding, GoesOn, Opens, Sees, Makes, Returns, Begins, keep, one_unit, one_claim, rest_of, LeadsAt}
+use Rattle.visit_log.specs.Machine.{State, path_of, place_by, at_stage, start, bare, entered_ones, wind, starve, starve_at, starve_winding, GoesOn, Opens, Sees, Makes, Returns, Begins, keep, one_visit, one_claim, rest_of, LeadsAt}
 use Rattle.visit_log.specs.Run.{Happening, Told, Dark, Starved, Happens, Runs}
 use Rattle.visit_log.specs.Sound.{AreSound, IsPlaced, IsSound, IsSoundAt, IsSoundChild, IsSoundEntry}
 use Rattle.visit_log.specs.Laws.{NoRepeats, PathsHaveNoRepeats}
@@ -159,7 +159,7 @@ begins_once task s t entry are entry_is once (inl begun) =
     let p : Place = place_by task s.frames entry in
     subst (Once task) (sym begun.1)
     (behind_node (node_at (attacker_in task) p.position) p.key (path_of task s.frames) (new_key task s.frames p are entry_is.placed) once)
-begins_once task s t entry are entry_is once (inr lost) = winds_once task (one_unit s) t _ once lost
+begins_once task s t entry are entry_is once (inr lost) = winds_once task (one_visit s) t _ once lost
 
 opens_once : (task : Task) (s t : State) (fs : List FrameView) (kept : Kept) → NoRepeats (path_of task fs) → Opens task s fs kept t → Once task t
 opens_once task s t [] kept once h = absurd h
@@ -187,7 +187,7 @@ leads_once : (task : Task) (s t : State) (stage : Stage) (answer : Reply) → Is
     → LeadsAt task s stage answer t → Once task t
 leads_once task s t (Polling entry) (Polled true) sound once h = winds_once task s t _ once h
 leads_once task s t (Polling entry) (Polled false) sound once h = subst (Once task) (sym h) once
-leads_once task s t (Drawing entry) (Drew (Go unit)) sound once h = begins_once task s t entry sound.0 sound.1 once h
+leads_once task s t (Drawing entry) (Drew (Go number)) sound once h = begins_once task s t entry sound.0 sound.1 once h
 leads_once task s t (Drawing entry) (Drew Done) sound once h = winds_once task s t _ once h
 leads_once task s t (Drawing entry) (Drew AllDrawn) sound once h = winds_once task s t _ once h
 leads_once task s t Entering (Entered kept) sound once h = opens_once task s t s.frames kept once h

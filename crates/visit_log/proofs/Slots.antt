@@ -23,7 +23,7 @@ use Rattle.visit_log.specs.declared.words.Reply.{Reply}
 use Rattle.visit_log.specs.declared.words.Reply.TheVariants.{Poll as Polled, Draw as Drew, Claim as Claimed, Look as Looked, Enter as Entered, Leave as LeftIt, Post as PostedIt}
 use Rattle.visit_log.specs.Frame.{Task, Place, FrameView, opened}
 use Rattle.visit_log.specs.Visit.{Exchange, kept_by}
-use Rattle.visit_log.specs.Machine.{State, at_stage, bare, entered_ones, wind, starve, starve_at, starve_winding, Settles, GoesOn, Opens, Sees, Makes, Returns, Begins, keep, update_by, one_unit, one_claim, rest_of, LeadsAt, LeadsTo, ask_enter, ask_look, ask_look_in, ask_leave, ask_post, asks_at, asks}
+use Rattle.visit_log.specs.Machine.{State, at_stage, bare, entered_ones, wind, starve, starve_at, starve_winding, Settles, GoesOn, Opens, Sees, Makes, Returns, Begins, keep, update_by, one_visit, one_claim, rest_of, LeadsAt, LeadsTo, ask_enter, ask_look, ask_look_in, ask_leave, ask_post, asks_at, asks}
 use Rattle.visit_log.specs.Sound.{IsSoundAt, IsSound}
 use Rattle.visit_log.specs.Counts.{Words, slot_once, kept_once, slot_of, slots_in, own_slots, own_size, enters, leaves, enters_some, leaves_some}
 use Rattle.visit_log.specs.Laws.{SlotsMove, SizesMove, StarvingMovesNothing}
@@ -138,7 +138,7 @@ makes_total w task s (f ∷ fs) t h = elim h [
 begins_total : (w : Weight) (task : Task) (s : State) (entry : Entry) (t : State) → Begins task s entry t → total w t.frames ≡ total w s.frames
 begins_total w task s entry t h = elim h [
   | inl begun ↦ (let e = ap (λ (z : State). total w z.frames) begun.1 in omega (arith, e))
-  | inr lost ↦ winds_total w (one_unit s) NoMemory t lost
+  | inr lost ↦ winds_total w (one_visit s) NoMemory t lost
 ]
 
 returns_total : (w : Weight) (task : Task) (s : State) (fs : List FrameView) (left : Left) (t : State) → Returns task s fs left t
@@ -187,7 +187,7 @@ moves_at : (w : Weight) (task : Task) (s t : State) (st : Stage) (answer : Reply
     → total w t.frames + given w (asks_at st s.frames, Some answer) ≡ total w s.frames + taken w (asks_at st s.frames, Some answer)
 moves_at w task s t (Polling entry) (Polled true) new h = omega (arith, winds_total w s Stopped t h)
 moves_at w task s t (Polling entry) (Polled false) new h = omega (arith, ap (λ (z : State). total w z.frames) h)
-moves_at w task s t (Drawing entry) (Drew (Go unit)) new h = omega (arith, begins_total w task s entry t h)
+moves_at w task s t (Drawing entry) (Drew (Go number)) new h = omega (arith, begins_total w task s entry t h)
 moves_at w task s t (Drawing entry) (Drew Done) new h = omega (arith, winds_total w s Posted t h)
 moves_at w task s t (Drawing entry) (Drew AllDrawn) new h = omega (arith, winds_total w s Spent t h)
 moves_at w task s t Entering (Entered kept) new h =
@@ -309,7 +309,7 @@ starve_counts s = by_stage s.stage
     by_stage (Leaving left) = (refl, refl)
     by_stage (Posting posted) = (refl, refl)
 
--- Want of memory changes no slots, units or room.
+-- Want of memory changes no slots, drawn visits or room.
 pub starving_alone : StarvingMovesNothing
 starving_alone s = record {
   slots = λ words word. own_total words (starve s).frames word ∙ (starve_total (one_word words word) s ∙ sym (own_total words s.frames word));

@@ -19,7 +19,7 @@ use Rattle.visit_log.proofs.SoundChildren.{moves_set, moves_staled, new_sound, n
 use Rattle.visit_log.proofs.SoundNotes.{made_holds, tag_empty}
 use Rattle.visit_log.specs.Children.{AreChildren, AreMoves, IsNewChild, move_to, reaches}
 use Rattle.visit_log.specs.Frame.{Place, Task, FrameView, attacker_in, choose, no_limits, opened, root, with_children, one_and_one}
-use Rattle.visit_log.specs.Machine.{Begins, GoesOn, IsPlayed, Makes, MayShowAt, Opens, Returns, Sees, Settles, State, at_stage, entry_of, keep, one_claim, one_unit, path_of, place_by, position_by, rest_of, start, wind, FitsAt, LeadsAt, ask_leave, ask_look, asks_at, root_entry, starve, starve_at, starve_winding}
+use Rattle.visit_log.specs.Machine.{Begins, GoesOn, IsPlayed, Makes, MayShowAt, Opens, Returns, Sees, Settles, State, at_stage, entry_of, keep, one_claim, one_visit, path_of, place_by, position_by, rest_of, start, wind, FitsAt, LeadsAt, ask_leave, ask_look, asks_at, root_entry, starve, starve_at, starve_winding}
 use Rattle.visit_log.specs.Round.{Solves, Choice, GivesUp, GoesDown, MayShow, Sight, Tells, came_back, looked, node_in, own, staled, told, visited}
 use Rattle.visit_log.specs.Sound.{AreSound, IsAnswer, IsLookedAt, IsNoteOf, IsPlaced, IsSound, IsSoundAt, IsSoundChild, IsSoundEntry, IsSoundPlace, IsSoundVisit, IsSoundRequest}
 use Rattle.visit_log.specs.declared.parts.Child.{Child}
@@ -123,12 +123,12 @@ place_sound task fs entry sound begins played =
         let known = of_child P g.children g.chosen placed.0 are.0.listed.children placed.1 in
         ap (λ (k : Key). k.0) placed.3 ∙ (known.key ∙ ap key_of (sym placed.2))
 
--- A worker that has drawn a unit is sound.
+-- A worker that has drawn a visit is sound.
 begins_sound : (task : Task) (s : State) (entry : Entry) (t : State) → AreSound task s.frames → IsSoundEntry task s.frames entry
     → Begins task s entry t → IsSound task t
 begins_sound task s entry t sound entry_is (inl begins) =
     subst (IsSound task) (sym begins.1) (place_sound task s.frames entry sound entry_is begins.0, refl, sound)
-begins_sound task s entry t sound entry_is (inr lost) = winds task (one_unit s) t NoMemory lost
+begins_sound task s entry t sound entry_is (inr lost) = winds task (one_visit s) t NoMemory lost
 
 -- A visit whose successors are listed is sound.
 pub opened_sound : (task : Task) (f : FrameView) (fs : List FrameView) (kept : Kept) (children : List Child) → IsSoundPlace task fs f.place
@@ -276,7 +276,7 @@ leads_sound : (task : Task) (s : State) (stage : Stage) (answer : Reply) (t : St
     → LeadsAt task s stage answer t → IsSound task t
 leads_sound task s (Polling entry) (Polled true) t sound fits leads = winds task s t Stopped leads
 leads_sound task s (Polling entry) (Polled false) t sound fits leads = subst (IsSound task) (sym leads) sound
-leads_sound task s (Drawing entry) (Drew (Go unit)) t sound fits leads = begins_sound task s entry t sound.0 sound.1 leads
+leads_sound task s (Drawing entry) (Drew (Go number)) t sound fits leads = begins_sound task s entry t sound.0 sound.1 leads
 leads_sound task s (Drawing entry) (Drew Done) t sound fits leads = winds task s t Posted leads
 leads_sound task s (Drawing entry) (Drew AllDrawn) t sound fits leads = winds task s t Spent leads
 leads_sound task s Entering (Entered kept) t sound fits leads = opens_sound task s s.frames kept t sound leads

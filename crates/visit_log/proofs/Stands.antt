@@ -27,7 +27,7 @@ use Rattle.visit_log.specs.Frame.{Task, attacker_in, Place, FrameView, root, beg
 use Rattle.visit_log.specs.Children.{notes_under}
 use Rattle.visit_log.specs.Round.{node_in, own, Solves, GivesUp, LooksNext, GoesDown, child_place, Sight, looked, IsMade, MayShow, Tells, IsSight, came_back}
 use Rattle.visit_log.specs.Visit.{Exchange, Visit, Unpolled, Halted, Undrawn, Refused, Unentered, Unlisted, nothing_yet, and_look, and_visit, Tail, Cut, Blind, Unclaimed, Unmade, Made, Passed, Ending, Winds, Ends, ending, after_child, known_after, polled, drew, entered, claimed, leave, drawn_on, entered_on, visit_on, tail_on, doings_on, tail_ending, EndsOpen, IsVisit, IsTail, EndsLog, IsVisitLog}
-use Rattle.visit_log.specs.Machine.{State, at_stage, one_unit, one_claim, MayShowAt, Begins, path_of, place_by, start, entered_ones, wind, starve, starve_at, starve_winding, Settles, GoesOn, Opens, Makes, Returns, LeadsAt, FitsAt, keep, asks, asks_at, ask_look, update_by, end_at}
+use Rattle.visit_log.specs.Machine.{State, at_stage, one_visit, one_claim, MayShowAt, Begins, path_of, place_by, start, entered_ones, wind, starve, starve_at, starve_winding, Settles, GoesOn, Opens, Makes, Returns, LeadsAt, FitsAt, keep, asks, asks_at, ask_look, update_by, end_at}
 use Rattle.visit_log.specs.Run.{Happening, Told, Dark, Starved, IsLooking, Happens, Runs, event, events, IsBegunLog}
 use Rattle.visit_log.specs.Laws.{LogsBegin, LogsAreWhole}
 use Rattle.visit_log.proofs.Waiting.{Below, Here, Over, over_by, over_as, over_root, leaves, close, leaves_here, leaves_below, leaves_begun, leaves_unlisted}
@@ -45,7 +45,7 @@ StandsAt task (Polling entry) fs log = Below task fs (place_by task fs entry) lo
 StandsAt task (Drawing entry) fs log = (before : List Exchange) × Below task fs (place_by task fs entry) before × (log ≡ before ++ polled false ∷ [])
 StandsAt task Entering [] log = ⊥
 StandsAt task Entering (f ∷ fs) log =
-    (before : List Exchange) × (unit : ℕ) × Below task fs f.place before × (f ≡ begun f.place) × (log ≡ drawn_on before unit)
+    (before : List Exchange) × (number : ℕ) × Below task fs f.place before × (f ≡ begun f.place) × (log ≡ drawn_on before number)
 StandsAt task (Looking place) [] log = ⊥
 StandsAt task (Looking place) (f ∷ fs) log = Here task f fs log × ((child : Child) × LooksNext task f place child)
 StandsAt task Claiming [] log = ⊥
@@ -137,7 +137,7 @@ comes_back task g gs p before left child log (h, choice, a, goes, at, is) over t
     let v : Visit = over.visit in
     let q : Place = child_place task h choice in
     let now : FrameView = known_after task (opened g.place a.kept a.children) a.doings in
-    let so_far : List Exchange = doings_on task (entered_on a.before a.unit g.place a.kept) (opened g.place a.kept a.children) a.doings in
+    let so_far : List Exchange = doings_on task (entered_on a.before a.number g.place a.kept) (opened g.place a.kept a.children) a.doings in
     let visit : IsVisit task path q v = subst (λ (z : Place). IsVisit task path z v) at over.is in
     let ends : ending task q v ≡ Ends left = subst (λ (z : Place). ending task z v ≡ Ends left) at over.end in
     let next = subst (λ (z : FrameView). GoesDown task z choice × IsVisit task path (child_place task z choice) v × EndsOpen (ending task (child_place task z choice) v))
@@ -148,7 +148,7 @@ comes_back task g gs p before left child log (h, choice, a, goes, at, is) over t
     record {
       before = a.before;
       below = a.below;
-      unit = a.unit;
+      number = a.number;
       kept = a.kept;
       children = a.children;
       doings = and_visit a.doings choice v;
@@ -180,7 +180,7 @@ looks_on task f fs place seen log sight a (child, looks) may at told there tells
     record {
       before = a.before;
       below = a.below;
-      unit = a.unit;
+      number = a.number;
       kept = a.kept;
       children = a.children;
       doings = and_look a.doings sight;
@@ -205,18 +205,18 @@ as_state task s t log e h = subst (λ (z : State). Stands task z log) (sym e) h
 as_log : (task : Task) (s : State) (log written : List Exchange) → log ≡ written → Stands task s log → Stands task s written
 as_log task s log written e h = subst (λ (z : List Exchange). Stands task s z) e h
 
--- A unit is drawn: the visit begins, or there is no memory for it.
-begins : (task : Task) (s t : State) (entry : Entry) (unit : ℕ) (log : List Exchange) → StandsAt task (Drawing entry) s.frames log → Begins task s entry t
-    → Stands task t (log ++ drew (Go unit) ∷ [])
-begins task s t entry unit log (before, below, same) (inl (played, is)) =
-    as_state task (at_stage (one_unit s) Entering (begun (place_by task s.frames entry) ∷ s.frames)) t (log ++ drew (Go unit) ∷ []) is
-    (before, unit, below, refl, ap (λ (z : List Exchange). z ++ drew (Go unit) ∷ []) same)
-begins task s t entry unit log (before, below, same) (inr is) =
-    as_state task (wind (one_unit s) NoMemory) t (log ++ drew (Go unit) ∷ []) is
-    (as_log task (wind (one_unit s) NoMemory) (drawn_on before unit) (log ++ drew (Go unit) ∷ []) (ap (λ (z : List Exchange). z ++ drew (Go unit) ∷ []) (sym same))
-    (wound_early task s.frames (place_by task s.frames entry) before NoMemory (Unentered unit) below tt refl))
+-- A visit is drawn: the visit begins, or there is no memory for it.
+begins : (task : Task) (s t : State) (entry : Entry) (number : ℕ) (log : List Exchange) → StandsAt task (Drawing entry) s.frames log → Begins task s entry t
+    → Stands task t (log ++ drew (Go number) ∷ [])
+begins task s t entry number log (before, below, same) (inl (played, is)) =
+    as_state task (at_stage (one_visit s) Entering (begun (place_by task s.frames entry) ∷ s.frames)) t (log ++ drew (Go number) ∷ []) is
+    (before, number, below, refl, ap (λ (z : List Exchange). z ++ drew (Go number) ∷ []) same)
+begins task s t entry number log (before, below, same) (inr is) =
+    as_state task (wind (one_visit s) NoMemory) t (log ++ drew (Go number) ∷ []) is
+    (as_log task (wind (one_visit s) NoMemory) (drawn_on before number) (log ++ drew (Go number) ∷ []) (ap (λ (z : List Exchange). z ++ drew (Go number) ∷ []) (sym same))
+    (wound_early task s.frames (place_by task s.frames entry) before NoMemory (Unentered number) below tt refl))
 
--- No unit is drawn.
+-- No visit is drawn.
 refused : (task : Task) (s t : State) (entry : Entry) (draw : Draw) (end : WorkEnd) (log : List Exchange) → StandsAt task (Drawing entry) s.frames log
     → IsVisit task (path_of task s.frames) (place_by task s.frames entry) (Refused draw)
     → ending task (place_by task s.frames entry) (Refused draw) ≡ Winds end → t ≡ wind s end → Stands task t (log ++ drew draw ∷ [])
@@ -228,11 +228,11 @@ refused task s t entry draw end log (before, below, same) visit ends is =
 -- The innermost position is entered: its successors are listed, or there is no memory for them.
 opens : (task : Task) (s t : State) (f : FrameView) (fs : List FrameView) (kept : Kept) (log : List Exchange) → StandsAt task Entering (f ∷ fs) log
     → Opens task s (f ∷ fs) kept t → Stands task t (log ++ entered f.place kept ∷ [])
-opens task s t f fs kept log (before, unit, below, is, same) (inl (children, listed, on)) =
+opens task s t f fs kept log (before, number, below, is, same) (inl (children, listed, on)) =
     goes_on task s (opened f.place kept children) fs t (log ++ entered f.place kept ∷ []) (record {
       before = before;
       below = below;
-      unit = unit;
+      number = number;
       kept = kept;
       children = children;
       doings = nothing_yet;
@@ -241,11 +241,11 @@ opens task s t f fs kept log (before, unit, below, is, same) (inl (children, lis
       is = refl;
       log_is = ap (λ (z : List Exchange). z ++ entered f.place kept ∷ []) same;
     }) on
-opens task s t f fs kept log (before, unit, below, is, same) (inr winds) =
+opens task s t f fs kept log (before, number, below, is, same) (inr winds) =
     let one : List Exchange = leave (opened f.place kept []) Nothing ∷ [] in
-    let behind : List Exchange = entered_on before unit f.place kept in
+    let behind : List Exchange = entered_on before number f.place kept in
     as_state task (wind (at_stage s Entering (keep f kept ∷ fs)) NoMemory) t (log ++ entered f.place kept ∷ []) winds
-    (wound task fs f.place before (behind ++ one) NoMemory below (record { visit = Unlisted unit kept; is = tt; end = refl; log_is = refl })
+    (wound task fs f.place before (behind ++ one) NoMemory below (record { visit = Unlisted number kept; is = tt; end = refl; log_is = refl })
     (entered_ones (keep f kept ∷ fs)) (log ++ entered f.place kept ∷ [])
     (append_assoc behind one (leaves fs)
     ∙ ap₂ (λ (z more : List Exchange). (z ++ entered f.place kept ∷ []) ++ more) (sym same) (sym (leaves_unlisted f.place kept fs))))
@@ -332,7 +332,7 @@ told_of task (Polling entry) fs visits claims (Polled true) t log h fits leads =
     (wound_early task fs (place_by task fs entry) log Stopped Halted h tt refl)
 told_of task (Polling entry) fs visits claims (Polled false) t log h fits leads =
     as_state task (at_stage (the_state (Polling entry) fs visits claims) (Drawing entry) fs) t (log ++ polled false ∷ []) leads (log, h, refl)
-told_of task (Drawing entry) fs visits claims (Drew (Go unit)) t log h fits leads = begins task (the_state (Drawing entry) fs visits claims) t entry unit log h leads
+told_of task (Drawing entry) fs visits claims (Drew (Go number)) t log h fits leads = begins task (the_state (Drawing entry) fs visits claims) t entry number log h leads
 told_of task (Drawing entry) fs visits claims (Drew Done) t log h fits leads =
     refused task (the_state (Drawing entry) fs visits claims) t entry Done Posted log h tt refl leads
 told_of task (Drawing entry) fs visits claims (Drew AllDrawn) t log h fits leads =
@@ -375,9 +375,9 @@ starving task (Drawing entry) fs visits claims log (before, below, same) =
     subst (λ (z : List Exchange). StandsAt task (Winding NoMemory) (entered_ones fs) z) (sym same)
     (wound_early task fs (place_by task fs entry) before NoMemory Undrawn below tt refl)
 starving task Entering [] visits claims log h = absurd h
-starving task Entering (f ∷ fs) visits claims log (before, unit, below, is, same) =
+starving task Entering (f ∷ fs) visits claims log (before, number, below, is, same) =
     subst (λ (z : FrameView). StandsAt task (Winding NoMemory) (entered_ones (z ∷ fs)) log) (sym is)
-    (wound task fs f.place before (drawn_on before unit) NoMemory below (record { visit = Unentered unit; is = tt; end = refl; log_is = refl })
+    (wound task fs f.place before (drawn_on before number) NoMemory below (record { visit = Unentered number; is = tt; end = refl; log_is = refl })
     (entered_ones (begun f.place ∷ fs)) log (ap₂ (λ (z more : List Exchange). z ++ more) (sym same) (sym (leaves_begun f.place fs))))
 starving task (Looking place) [] visits claims log h = absurd h
 starving task (Looking place) (f ∷ fs) visits claims log (here, looks) = cut_here task f fs log here

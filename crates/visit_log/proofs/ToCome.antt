@@ -30,12 +30,12 @@ use Rattle.visit_log.specs.declared.words.Reply.TheVariants.{Poll as Polled, Dra
 use Rattle.visit_log.specs.Frame.{Task, attacker_in, FrameView, opened}
 use Rattle.visit_log.specs.Children.{AreMoves, move_to, is_fresh}
 use Rattle.visit_log.specs.Round.{Sight, told, looked, staled, visited, came_back, node_in}
-use Rattle.visit_log.specs.Machine.{State, at_stage, wind, starve_at, Settles, GoesOn, Begins, Opens, Sees, Makes, Returns, keep, one_unit, one_claim, rest_of, IsMore, LeadsAt, FitsAt}
+use Rattle.visit_log.specs.Machine.{State, at_stage, wind, starve_at, Settles, GoesOn, Begins, Opens, Sees, Makes, Returns, keep, one_visit, one_claim, rest_of, IsMore, LeadsAt, FitsAt}
 use Rattle.visit_log.specs.Run.{Told, Dark, Starved, IsLooking}
 use Rattle.visit_log.specs.Sound.{IsLookedAt, IsSoundVisit, IsSoundAt}
 use Rattle.visit_log.specs.Counts.{unseen, cost, to_come}
 use Rattle.visit_log.specs.Laws.{LessToCome}
-use Rattle.visit_log.proofs.Units.{length-entered}
+use Rattle.visit_log.proofs.Drawn.{length-entered}
 
 -- 1. HOW MANY CHILDREN THERE ARE.
 
@@ -89,7 +89,7 @@ back_length g place child left = length-set (map staled g.children) place (visit
 
 -- 3. WHAT AN ANSWER LEAVES TO COME.
 
--- what is still to come at a stage, with these visits going on, after so many units
+-- what is still to come at a stage, with these visits going on, after so many drawn
 abbrev comes : Stage → List FrameView → ℕ → ℕ
 comes st fs visits = 30000 * (MOST_EXPANSIONS - visits) + 13776 * length fs + cost st fs
 
@@ -116,7 +116,7 @@ begins : (task : Task) (s t : State) (entry : Entry) → s.visits < MOST_EXPANSI
     → to_come t < comes (Drawing entry) s.frames s.visits
 begins task s t entry under h = elim h [
   | inl begun ↦ (let e = ap to_come begun.1 in omega (arith, e, under))
-  | inr lost ↦ (let w = winds (one_unit s) t NoMemory lost in omega (arith, w, under))
+  | inr lost ↦ (let w = winds (one_visit s) t NoMemory lost in omega (arith, w, under))
 ]
 
 opens : OrdersWithin → (task : Task) (s t : State) (fs : List FrameView) (kept : Kept) → Opens task s fs kept t → to_come t < comes Entering fs s.visits
@@ -170,7 +170,7 @@ answers : OrdersWithin → (task : Task) (s t : State) (st : Stage) (answer : Re
     → LeadsAt task s st answer t → to_come t < comes st s.frames s.visits
 answers within task s t (Polling entry) (Polled true) sound fits h = let w = winds s t _ h in omega (arith, w)
 answers within task s t (Polling entry) (Polled false) sound fits h = let e = ap to_come h in omega (arith, e)
-answers within task s t (Drawing entry) (Drew (Go unit)) sound fits h = begins task s t entry fits h
+answers within task s t (Drawing entry) (Drew (Go number)) sound fits h = begins task s t entry fits h
 answers within task s t (Drawing entry) (Drew Done) sound fits h = let w = winds s t _ h in omega (arith, w)
 answers within task s t (Drawing entry) (Drew AllDrawn) sound fits h = let w = winds s t _ h in omega (arith, w)
 answers within task s t Entering (Entered kept) sound fits h = opens within task s t s.frames kept h

@@ -20,14 +20,14 @@ use Rattle.visit_log.specs.Machine.{path_of, bare, entered_ones}
 pub record Amid (B : List Exchange → Type 0) (task : Task) (p : Place) (path : List Key) (f : FrameView) (log : List Exchange) : Type 0 where
   pub before : List Exchange
   pub below : B before
-  pub unit : ℕ
+  pub number : ℕ
   pub kept : Kept
   pub children : List Child
   pub doings : Doings
   pub listed : AreChildren (attacker_in task) p.position (path_at task p path) children
   pub done : AreDone task (path_at task p path) (opened p kept children) doings
   pub is : f ≡ known_after task (opened p kept children) doings
-  pub log_is : log ≡ doings_on task (entered_on before unit p kept) (opened p kept children) doings
+  pub log_is : log ≡ doings_on task (entered_on before number p kept) (opened p kept children) doings
 
 -- The visits that wait for that of a place, the innermost first, with the log before it begins.
 abbrev pub Below : Task → List FrameView → Place → List Exchange → Type 0
@@ -52,7 +52,7 @@ pub over_by : (B : List Exchange → Type 0) (task : Task) (p : Place) (path : L
     → (a : Amid B task p path f log) (tail : Tail) → IsTail task (path_at task p path) f tail
     → Over task path p a.before (tail_ending task f tail) (tail_on task log f tail)
 over_by B task p path f log a tail is = record {
-  visit = Visited a.unit a.kept a.children a.doings tail;
+  visit = Visited a.number a.kept a.children a.doings tail;
   is = (a.listed, a.done, subst (λ (g : FrameView). IsTail task (path_at task p path) g tail) a.is is);
   end = ap (λ (g : FrameView). tail_ending task g tail) (sym a.is);
   log_is = ap₂ (λ (events : List Exchange) (g : FrameView). tail_on task events g tail) (sym a.log_is) (sym a.is);
@@ -147,7 +147,7 @@ leaves_below task [] p log below = refl
 leaves_below task (f ∷ fs) p log (g, choice, a, goes, at, is) =
     leaves_kept f fs a.kept (ap (λ (h : FrameView). h.kept) is ∙ amid_kept (Below task fs f.place) task f.place (path_of task fs) g log a)
 
--- And where it has drawn its unit, and not entered its position.
+-- And where it was drawn, and hasn't entered its position.
 pub leaves_begun : (p : Place) (fs : List FrameView) → leaves (entered_ones (begun p ∷ fs)) ≡ leaves fs
 leaves_begun p fs = leaves_bare fs
 

@@ -1,4 +1,4 @@
--- What a worker counts: the slots that it has entered and not left, by their words, its units and
+-- What a worker counts: the slots that it has entered and not left, by their words, its visits and
 -- its room; and what is still to come.
 use Rattle.std.specs.Prelude.{◌≡◌, ◌+◌, ◌-◌, ◌*◌, ◌==◌, ℕ, Bool, true, false, List, [], ◌∷◌, Option, Some, None, length, count_by, not, if◌then◌else◌}
 use Rattle.search_limits.specs.declared.expansions.TheConstants.{MOST_EXPANSIONS}
@@ -78,33 +78,33 @@ abbrev pub leaves_some : Exchange → ℕ
 leaves_some (Leave kept of update, Some LeftIt) = kept_once kept
 leaves_some event = 0
 
--- 2. UNITS AND ROOM.
+-- 2. VISITS AND ROOM.
 
--- How many units a draw gives.
-abbrev pub unit_of : Draw → ℕ
-unit_of (Go unit) = 1
-unit_of Done = 0
-unit_of AllDrawn = 0
+-- How many visits a draw gives.
+abbrev pub visit_of : Draw → ℕ
+visit_of (Go number) = 1
+visit_of Done = 0
+visit_of AllDrawn = 0
 
 -- How much room a claim gives.
 abbrev pub room_of : RoomAnswer → ℕ
 room_of (Room room) = 1
 room_of Full = 0
 
--- How many units an answer gives, and how much room.
-abbrev pub units_in : Reply → ℕ
-units_in (Drew draw) = unit_of draw
-units_in answer = 0
+-- How many visits an answer gives, and how much room.
+abbrev pub visits_in : Reply → ℕ
+visits_in (Drew draw) = visit_of draw
+visits_in answer = 0
 
 -- How much room an answer gives.
 abbrev pub rooms_in : Reply → ℕ
 rooms_in (Claimed claim) = room_of claim
 rooms_in answer = 0
 
--- Whether an event gives a unit, and whether it asks for room.
-abbrev pub gives_unit : Exchange → Bool
-gives_unit (request, Some (Drew (Go unit))) = true
-gives_unit event = false
+-- Whether an event gives a visit, and whether it asks for room.
+abbrev pub gives_visit : Exchange → Bool
+gives_visit (request, Some (Drew (Go number))) = true
+gives_visit event = false
 
 -- Whether it asks for room.
 abbrev pub asks_room : Exchange → Bool
@@ -131,7 +131,7 @@ abbrev pub unseen_in : List FrameView → ℕ
 unseen_in [] = 0
 unseen_in (f ∷ fs) = unseen f.children
 
--- How many requests are to come, at most, until the stage is another, beside what the units and the
+-- How many requests are to come, at most, until the stage is another, beside what the visits and the
 -- visits that go on allow.
 abbrev pub cost : Stage → List FrameView → ℕ
 cost (Polling entry) fs = 2

@@ -22,7 +22,7 @@ use Rattle.visit_log.specs.Unmade.{EndsTooHigh}
 use Rattle.visit_log.specs.Machine.{State, start, asks, starve, end_of, path_of, Fits, LeadsTo}
 use Rattle.visit_log.specs.Run.{Happening, Runs, Happens, event, events, IsBegunLog}
 use Rattle.visit_log.specs.Sound.{IsTask, IsSound, IsSoundRequest, IsSoundPlace, IsSoundVisit, IsLookedAt, IsNoteOf}
-use Rattle.visit_log.specs.Counts.{Words, own_slots, own_size, enters, leaves, enters_some, leaves_some, units_in, rooms_in, gives_unit, gives_room, asks_room, to_come, AreBrackets}
+use Rattle.visit_log.specs.Counts.{Words, own_slots, own_size, enters, leaves, enters_some, leaves_some, visits_in, rooms_in, gives_visit, gives_room, asks_room, to_come, AreBrackets}
 
 -- A law: whatever happens to a worker, its log is the beginning of a visit log.
 abbrev pub LogsBegin : Type 0
@@ -38,10 +38,10 @@ LogsAreWhole = (task : Task) (happenings : List Happening) (s : State) (end : Wo
 abbrev pub LogsAreBrackets : Type 0
 LogsAreBrackets = (task : Task) (log : List Exchange) (end : WorkEnd) → IsVisitLog task log end → AreBrackets [] log []
 
--- A law: room is asked for at most once a visit; so no more often in a visit log than units are
+-- A law: room is asked for at most once a visit; so no more often in a visit log than visits are
 -- given.
 abbrev pub OneClaimAVisit : Type 0
-OneClaimAVisit = (task : Task) (log : List Exchange) (end : WorkEnd) → IsVisitLog task log end → count_by asks_room log ≤ count_by gives_unit log
+OneClaimAVisit = (task : Task) (log : List Exchange) (end : WorkEnd) → IsVisitLog task log end → count_by asks_room log ≤ count_by gives_visit log
 
 -- A law: wherever a worker stands, what it knows is sound.
 abbrev pub WorkersAreSound : Type 0
@@ -75,7 +75,7 @@ LeavesOwn = (words : Words) (s : State) (answer : Reply) (word : ℕ) → leaves
 abbrev pub LeavesSome : Type 0
 LeavesSome = (s : State) (answer : Reply) → leaves_some (asks s, Some answer) ≤ own_size s.frames
 
--- A law: starving changes no slots, units or room.
+-- A law: starving changes no slots, drawn visits or room.
 pub record IsLeftAlone (s t : State) : Type 0 where
   pub slots : (words : Words) (word : ℕ) → own_slots words t.frames word ≡ own_slots words s.frames word
   pub size : own_size t.frames ≡ own_size s.frames
@@ -86,13 +86,13 @@ pub record IsLeftAlone (s t : State) : Type 0 where
 abbrev pub StarvingMovesNothing : Type 0
 StarvingMovesNothing = (s : State) → IsLeftAlone s (starve s)
 
--- A law: units and room are counted by the answers that give them.
-abbrev pub UnitsMove : Type 0
-UnitsMove = (task : Task) (s t : State) (answer : Reply) → Fits task s answer → LeadsTo task s answer t
-    → (t.visits ≡ s.visits + units_in answer) × (t.claims ≡ s.claims + rooms_in answer)
+-- A law: visits and room are counted by the answers that give them.
+abbrev pub VisitsMove : Type 0
+VisitsMove = (task : Task) (s t : State) (answer : Reply) → Fits task s answer → LeadsTo task s answer t
+    → (t.visits ≡ s.visits + visits_in answer) × (t.claims ≡ s.claims + rooms_in answer)
 
--- What is counted of a worker: it has no more visits going on, and no more slots, than units, and
--- no more room than units, of which there are at most a billion.
+-- What is counted of a worker: it has no more visits going on, no more slots and no more room
+-- than it has drawn visits, of which there are at most a billion.
 pub record IsCounted (s : State) : Type 0 where
   pub slots : own_size s.frames ≤ length s.frames
   pub frames : length s.frames ≤ s.visits
@@ -126,10 +126,10 @@ BackIsSound = (task : Task) (f g : FrameView) (gs : List FrameView) (child : Chi
     → ((note : Derivation) → left ≡ Solved note → IsNoteOf task f.place.position (path_of task (g ∷ gs)) note)
     → IsSoundVisit task (came_back g g.chosen child left) gs
 
--- A law: units and room are those of the log.
+-- A law: visits and room are those of the log.
 abbrev pub CountsOfLogs : Type 0
 CountsOfLogs = (task : Task) (happenings : List Happening) (s : State) → Runs task (start task) happenings s
-    → (s.visits ≡ count_by gives_unit (events happenings)) × (s.claims ≡ count_by gives_room (events happenings))
+    → (s.visits ≡ count_by gives_visit (events happenings)) × (s.claims ≡ count_by gives_room (events happenings))
 
 -- A law: a worker that a log leads to asks for its end exactly where it has ended so.
 abbrev pub AsksItsEnd : Type 0

@@ -35,7 +35,7 @@ use Rattle.visit_log.specs.Children.{AreChildren}
 use Rattle.visit_log.specs.Round.{own, Solves, GivesUp, LooksNext, Choice, GoesDown, child_place, Sight, looked, MayShow, Tells, came_back, IsMade, IsRefusal}
 use Rattle.visit_log.specs.Visit.{path_at, kept_by}
 
--- What it does next, the visits that are going on, the innermost first, and how many units and how
+-- What it does next, the visits that are going on, the innermost first, and how many were drawn and how
 -- much room it got.
 pub record State : Type 0 where
   pub stage : Stage
@@ -137,9 +137,9 @@ pub record GoesOn (task : Task) (s : State) (f : FrameView) (fs : List FrameView
   pub settles : Settles task f t.stage next
   pub is : t ≡ at_stage s t.stage (next ∷ fs)
 
--- With a unit more.
-abbrev pub one_unit : State → State
-one_unit s = record { stage = s.stage; frames = s.frames; visits = s.visits + 1; claims = s.claims }
+-- With a visit more.
+abbrev pub one_visit : State → State
+one_visit s = record { stage = s.stage; frames = s.frames; visits = s.visits + 1; claims = s.claims }
 
 -- With room for a note more.
 abbrev pub one_claim : State → State
@@ -151,13 +151,13 @@ pub record IsPlayed (attacker : Side) (b : Board) : Type 0 where
   pub play : IsInPlay attacker b
   pub checked : node_at attacker b ≡ Defender → IsInCheck b.cells (other attacker)
 
--- A unit is drawn: the visit begins, of a position as play leads to it (whoever makes the step
+-- A visit is drawn: the visit begins, of a position as play leads to it (whoever makes the step
 -- shows this); or there is no memory for it.
 abbrev pub Begins : Task → State → Entry → State → Type 0
 Begins task s entry t =
     (IsPlayed (attacker_in task) (position_by task s.frames entry.by)
-    × (t ≡ at_stage (one_unit s) Entering (begun (place_by task s.frames entry) ∷ s.frames)))
-    ⊎ (t ≡ wind (one_unit s) NoMemory)
+    × (t ≡ at_stage (one_visit s) Entering (begun (place_by task s.frames entry) ∷ s.frames)))
+    ⊎ (t ≡ wind (one_visit s) NoMemory)
 
 -- The visit, once entering its position was answered so.
 abbrev pub keep : FrameView → Kept → FrameView
@@ -200,7 +200,7 @@ rest_of (f ∷ fs) = fs
 abbrev pub LeadsAt : Task → State → Stage → Reply → State → Type 0
 LeadsAt task s (Polling entry) (Polled true) t = t ≡ wind s Stopped
 LeadsAt task s (Polling entry) (Polled false) t = t ≡ at_stage s (Drawing entry) s.frames
-LeadsAt task s (Drawing entry) (Drew (Go unit)) t = Begins task s entry t
+LeadsAt task s (Drawing entry) (Drew (Go number)) t = Begins task s entry t
 LeadsAt task s (Drawing entry) (Drew Done) t = t ≡ wind s Posted
 LeadsAt task s (Drawing entry) (Drew AllDrawn) t = t ≡ wind s Spent
 LeadsAt task s Entering (Entered kept) t = Opens task s s.frames kept t
@@ -229,11 +229,11 @@ MayShowAt task [] place seen = ⊥
 MayShowAt task (f ∷ fs) place seen =
     (child : Child) → slice_get f.children place ≡ Some child → MayShow (attacker_in task) child.key (path_of task (f ∷ fs)) seen
 
--- The answer is of the kind that was asked for, and may come. A unit comes only where fewer than a
+-- The answer is of the kind that was asked for, and may come. A visit comes only where fewer than a
 -- billion came before. Nothing answers an End.
 abbrev pub FitsAt : Task → State → Stage → Reply → Type 0
 FitsAt task s (Polling entry) (Polled stop) = Unit {0}
-FitsAt task s (Drawing entry) (Drew (Go unit)) = s.visits < MOST_EXPANSIONS
+FitsAt task s (Drawing entry) (Drew (Go number)) = s.visits < MOST_EXPANSIONS
 FitsAt task s (Drawing entry) (Drew Done) = Unit {0}
 FitsAt task s (Drawing entry) (Drew AllDrawn) = Unit {0}
 FitsAt task s Entering (Entered kept) = Unit {0}

@@ -14,7 +14,7 @@ use Rattle.visit_log.specs.Visit.{Exchange, Visit, Visited, Tail, Unmade, Under,
 -- winds up. So much was known in the one whose note it was, and this room was given for the note.
 abbrev mutual
   pub IsUnmadeIn : Task → Place → Visit → FrameView → ℕ → Type 0
-  IsUnmadeIn task p (Visited unit kept children doings tail) f room =
+  IsUnmadeIn task p (Visited number kept children doings tail) f room =
       IsUnmadeBy task (known_after task (opened p kept children) doings) tail f room
   IsUnmadeIn task p visit f room = ⊥
 

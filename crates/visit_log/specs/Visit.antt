@@ -35,10 +35,10 @@ mutual
     Unpolled : Visit  -- cut off before the poll
     Halted : Visit  -- the poll said to stop
     Undrawn : Visit  -- polled, and cut off before the draw
-    Refused : Draw → Visit  -- no unit was drawn: done, or spent
-    Unentered : ℕ → Visit  -- the unit was drawn, and then it was cut off
+    Refused : Draw → Visit  -- no number was drawn: done, or spent
+    Unentered : ℕ → Visit  -- the number was drawn, and then it was cut off
     Unlisted : ℕ → Kept → Visit  -- entered, and cut off before the successors were listed
-    Visited : ℕ → Kept → List Child → Doings → Tail → Visit  -- the unit; entered; the successors; what was done; how it ended
+    Visited : ℕ → Kept → List Child → Doings → Tail → Visit  -- the number; entered; the successors; what was done; how it ended
 
   -- What is done in a visit: looks at children, and visits of them, one after the other.
   pub data Doings : Type 0 where
@@ -75,12 +75,12 @@ abbrev mutual
   ending task p Unpolled = Winds NoMemory
   ending task p Halted = Winds Stopped
   ending task p Undrawn = Winds NoMemory
-  ending task p (Refused (Go unit)) = Winds NoMemory
+  ending task p (Refused (Go number)) = Winds NoMemory
   ending task p (Refused Done) = Winds Posted
   ending task p (Refused AllDrawn) = Winds Spent
-  ending task p (Unentered unit) = Winds NoMemory
-  ending task p (Unlisted unit kept) = Winds NoMemory
-  ending task p (Visited unit kept children doings tail) = tail_ending task (known_after task (opened p kept children) doings) tail
+  ending task p (Unentered number) = Winds NoMemory
+  ending task p (Unlisted number kept) = Winds NoMemory
+  ending task p (Visited number kept children doings tail) = tail_ending task (known_after task (opened p kept children) doings) tail
 
   -- What is known after these doings.
   pub known_after : Task → FrameView → Doings → FrameView
@@ -130,13 +130,13 @@ kept_by (Some kept) = kept
 abbrev pub leave : FrameView → Update → Exchange
 leave f update = (Leave (kept_by f.kept) f.place.key update, Some LeftIt)
 
--- The log when a visit has drawn its unit.
+-- The log when a visit was drawn.
 abbrev pub drawn_on : List Exchange → ℕ → List Exchange
-drawn_on log unit = (log ++ polled false ∷ []) ++ drew (Go unit) ∷ []
+drawn_on log number = (log ++ polled false ∷ []) ++ drew (Go number) ∷ []
 
 -- The log when its position is entered.
 abbrev pub entered_on : List Exchange → ℕ → Place → Kept → List Exchange
-entered_on log unit p kept = drawn_on log unit ++ entered p kept ∷ []
+entered_on log number p kept = drawn_on log number ++ entered p kept ∷ []
 
 -- The log behind a visit, behind what was done in it, and behind its ending.
 abbrev mutual
@@ -146,10 +146,10 @@ abbrev mutual
   visit_on task log p Halted = log ++ polled true ∷ []
   visit_on task log p Undrawn = log ++ polled false ∷ []
   visit_on task log p (Refused draw) = (log ++ polled false ∷ []) ++ drew draw ∷ []
-  visit_on task log p (Unentered unit) = drawn_on log unit
-  visit_on task log p (Unlisted unit kept) = entered_on log unit p kept ++ leave (opened p kept []) Nothing ∷ []
-  visit_on task log p (Visited unit kept children doings tail) =
-      tail_on task (doings_on task (entered_on log unit p kept) (opened p kept children) doings)
+  visit_on task log p (Unentered number) = drawn_on log number
+  visit_on task log p (Unlisted number kept) = entered_on log number p kept ++ leave (opened p kept []) Nothing ∷ []
+  visit_on task log p (Visited number kept children doings tail) =
+      tail_on task (doings_on task (entered_on log number p kept) (opened p kept children) doings)
       (known_after task (opened p kept children) doings) tail
 
   pub doings_on : Task → List Exchange → FrameView → Doings → List Exchange
@@ -195,12 +195,12 @@ abbrev mutual
   IsVisit task path p Unpolled = Unit {0}
   IsVisit task path p Halted = Unit {0}
   IsVisit task path p Undrawn = Unit {0}
-  IsVisit task path p (Refused (Go unit)) = ⊥
+  IsVisit task path p (Refused (Go number)) = ⊥
   IsVisit task path p (Refused Done) = Unit {0}
   IsVisit task path p (Refused AllDrawn) = Unit {0}
-  IsVisit task path p (Unentered unit) = Unit {0}
-  IsVisit task path p (Unlisted unit kept) = Unit {0}
-  IsVisit task path p (Visited unit kept children doings tail) =
+  IsVisit task path p (Unentered number) = Unit {0}
+  IsVisit task path p (Unlisted number kept) = Unit {0}
+  IsVisit task path p (Visited number kept children doings tail) =
       AreChildren (attacker_in task) p.position (path_at task p path) children
       × AreDone task (path_at task p path) (opened p kept children) doings
       × IsTail task (path_at task p path) (known_after task (opened p kept children) doings) tail

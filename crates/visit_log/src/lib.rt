@@ -1,7 +1,7 @@
 //! What a search by proof numbers asks and is told, as a grammar: a *visit log* (df-pn: Nagai
 //! 2002).
 //!
-//! A visit of a position draws a unit of work, enters the position in the table, lists its
+//! A visit of a position is drawn at the desk, enters the position in the table, lists its
 //! successors, looks at them, and visits one after the other, until the position is solved, its
 //! numbers have come to the thresholds of the visit, or there is a reason to wind up.
 //! `specs/Visit.antt` says this as a tree of visits, each with what is done in it, and as the log

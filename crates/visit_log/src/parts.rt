@@ -61,7 +61,7 @@ pub enum Left {
 pub enum Stage {
     /// It polls, before this visit.
     Polling(Entry),
-    /// It draws a unit, for this visit.
+    /// It draws this visit.
     Drawing(Entry),
     /// It enters the innermost position.
     Entering,

@@ -8,7 +8,7 @@ use pn_numbers::Numbers;
 pub enum WorkEnd {
     /// A note about the problem is posted, by it or by another.
     Posted,
-    /// All units were drawn.
+    /// All visits were drawn.
     Spent,
     /// All room for notes was claimed.
     NoRoom,
@@ -25,7 +25,7 @@ pub enum WorkEnd {
 pub enum Request {
     /// Whether it is to stop.
     Poll,
-    /// The next unit of work.
+    /// The next visit.
     Draw,
     /// Room for a note.
     Claim,
@@ -58,7 +58,7 @@ pub enum Request {
 pub enum Reply {
     /// Whether it is to stop.
     Poll(bool),
-    /// The unit, or that there is none for it.
+    /// The visit, or that there is none for it.
     Draw(Draw),
     /// The room, or that there is none.
     Claim(RoomAnswer),

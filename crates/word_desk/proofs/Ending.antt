@@ -126,11 +126,11 @@ ends desk words v its_drawn its_claimed its_note all answer counter claimed_is w
       answer = answer;
       met = λ m. won_some v.won all.winners its_note won all.wins (all.met m);
       apart = kept_apart expansions all.tickets v.drawn v.missed all.draws;
-      units = λ none unit.
+      visits = λ none number.
           let gone : length v.missed ≡ 0 = ap length (none_missed none) in
           let same : count_above expansions v.drawn + length v.missed ≡ count_above expansions v.drawn = omega (arith, gone) in
-          kept_each expansions all.tickets v.drawn (open_draws none) unit
-          ∙ ap (λ z. once_to (min (length (numbers_to expansions v.drawn) + z) expansions) unit) (sym same);
+          kept_each expansions all.tickets v.drawn (open_draws none) number
+          ∙ ap (λ z. once_to (min (length (numbers_to expansions v.drawn) + z) expansions) number) (sym same);
       claims = kept_each room claims v.claimed all.claims;
       all_drawn = λ none more.
           let gone : length v.missed ≡ 0 = ap length (none_missed none) in

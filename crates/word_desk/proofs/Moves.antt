@@ -121,7 +121,7 @@ draws slots id me some_part none_late s k homes at word =
     let m : ℕ = (n + 1) % 2 ^ 64 in
     let w : View = after_draw v n in
     let small = few_tickets s.words s.views k in
-    let u = k.units in
+    let u = k.visits in
     let once = k.once in
     let next : m ≡ n + 1 = mod-eq_of_lt (omega (arith, u, once, small)) in
     let fit = All-at (IsFit k.winners) s.views id v k.fit at in
@@ -134,7 +134,7 @@ draws slots id me some_part none_late s k homes at word =
       tickets = suc k.tickets;
       winners = k.winners;
       sized = length-set s.words 0 m ∙ k.sized;
-      units = omega (arith, set_is, next, u);
+      visits = omega (arith, set_is, next, u);
       draws = λ weight. let t = sum_by-set_at (drawn_weight weight) s.views id v w at in let a = k.draws weight in let b = d.weighs weight in omega (arith, t, a, b);
       claims = λ weight.
           let t = sum_by-set_at (claimed_weight weight) s.views id v w at in
@@ -174,7 +174,7 @@ claims slots id me some_part none_late s k homes at word =
       tickets = k.tickets;
       winners = k.winners;
       sized = length-set s.words 1 m ∙ k.sized;
-      units = other_is ∙ k.units;
+      visits = other_is ∙ k.visits;
       draws = λ weight. let t = sum_by-set_at (drawn_weight weight) s.views id v w at in let a = k.draws weight in omega (arith, t, a);
       claims = λ weight.
           let t = sum_by-set_at (claimed_weight weight) s.views id v w at in
@@ -223,7 +223,7 @@ posts slots id me some_part s k homes at word =
     let w : View = after_post v n in
     let small = few_tickets s.words s.views k in
     let m : ℕ = bit_or n POSTED in
-    let is_m : m ≡ 1 * POSTED + k.tickets = orred k.winners k.tickets n k.units small k.once in
+    let is_m : m ≡ 1 * POSTED + k.tickets = orred k.winners k.tickets n k.visits small k.once in
     let fit = All-at (IsFit k.winners) s.views id v k.fit at in
     let fits : IsFit 1 w = record {
       draws = fit.draws;
@@ -238,12 +238,12 @@ posts slots id me some_part s k homes at word =
     let t_won = sum_by-set_at won_of s.views id v w at in
     let a_won = sum_by-at won_of s.views id v at in
     let kw = k.wins in
-    let now = won_now v.won k.winners n (sum_by won_of s.views - won_of v) k.tickets k.units small k.once (omega (arith, a_won, kw)) in
+    let now = won_now v.won k.winners n (sum_by won_of s.views - won_of v) k.tickets k.visits small k.once (omega (arith, a_won, kw)) in
     let kept : IsKept (slice_set s.words 0 m) (set s.views id w) = record {
       tickets = k.tickets;
       winners = 1;
       sized = length-set s.words 0 m ∙ k.sized;
-      units = set_is ∙ is_m;
+      visits = set_is ∙ is_m;
       draws = λ weight. let t = sum_by-set_at (drawn_weight weight) s.views id v w at in let a = k.draws weight in omega (arith, t, a);
       claims = λ weight.
           let t = sum_by-set_at (claimed_weight weight) s.views id v w at in
@@ -254,7 +254,7 @@ posts slots id me some_part s k homes at word =
       parts = let t = sum_by-set_at parts_of s.views id v w at in let a = k.parts in omega (arith, t, a);
       fit = All-set (IsFit 1) s.views id w fits (fit_more k.winners s.views k.fit);
     } in
-    let u = k.units in
+    let u = k.visits in
     let met_posted : IsTrue v.met → POSTED ≤ n = λ met. let one = fit.met met in omega (arith, one, u) in
     (w, keeps, tt, kept, (refl, met_posted))
 
@@ -294,7 +294,7 @@ splits id v many none_late none_later s k at =
       tickets = k.tickets;
       winners = k.winners;
       sized = k.sized;
-      units = k.units;
+      visits = k.visits;
       draws = λ weight.
           let a = k.draws weight in
           let t = sum_by-set_at (drawn_weight weight) s.views id v w at in
@@ -346,7 +346,7 @@ joins id other v u some_part s k at two at' =
       tickets = k.tickets;
       winners = k.winners;
       sized = k.sized;
-      units = k.units;
+      visits = k.visits;
       draws = λ weight.
           let a = k.draws weight in
           let t = sum_by-set_at (drawn_weight weight) s.views id v w at in

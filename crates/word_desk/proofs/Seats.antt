@@ -33,9 +33,9 @@ drew_seat desk words v w its_note found its_drawn kept is few open_ low counter 
     let now : w ≡ record v { drawn = (found + 1) ∷ v.drawn } = is ∙ drawn_draw v found open_ in
     let parts : w.parts ≡ v.parts = ap (λ (u : View). u.parts) now in
     let claimed : w.claimed ≡ v.claimed = ap (λ (u : View). u.claimed) now in
-    let units : numbers_to desk.expansions w.drawn ≡ (found + 1) ∷ numbers_to desk.expansions v.drawn =
+    let visits : numbers_to desk.expansions w.drawn ≡ (found + 1) ∷ numbers_to desk.expansions v.drawn =
     ap (λ (u : View). numbers_to desk.expansions u.drawn) now ∙ one_more desk.expansions (found + 1) v.drawn (omega (arith, low)) in
-    let more = ap length units in
+    let more = ap length visits in
     let part = kept.part in
     let same = ap (λ xs. length (numbers_to desk.room xs)) claimed in
     let within = kept.claims in (
@@ -43,7 +43,7 @@ drew_seat desk words v w its_note found its_drawn kept is few open_ low counter 
         expansions = kept.expansions;
         room = kept.room;
         part = omega (arith, parts, part);
-        units = few_to desk.expansions w.drawn few;
+        visits = few_to desk.expansions w.drawn few;
         claims = omega (arith, same, within);
         note = kept.note;
       },
@@ -59,12 +59,12 @@ claimed_seat desk words v w its_note found kept is few =
     let drawn : w.drawn ≡ v.drawn = ap (λ (u : View). u.drawn) is in
     let part = kept.part in
     let same = ap (λ xs. length (numbers_to desk.expansions xs)) drawn in
-    let within = kept.units in (
+    let within = kept.visits in (
       record {
         expansions = kept.expansions;
         room = kept.room;
         part = omega (arith, parts, part);
-        units = omega (arith, same, within);
+        visits = omega (arith, same, within);
         claims = few_to desk.room w.claimed few;
         note = kept.note;
       },
@@ -88,16 +88,16 @@ pub joined_seat : (desk : WordDeskView) (words : TableId) (v u w : View) (its_no
     × (w.won ≡ is_some (option_or its_note other_note))
 joined_seat desk words v u w its_note other_note its_drawn other_drawn kept other_kept is few fewer counter other_counter won other_won =
     let parts : w.parts ≡ v.parts + u.parts = ap (λ (z : View). z.parts) is in
-    let units : numbers_to desk.expansions w.drawn ≡ numbers_to desk.expansions u.drawn ++ numbers_to desk.expansions v.drawn =
+    let visits : numbers_to desk.expansions w.drawn ≡ numbers_to desk.expansions u.drawn ++ numbers_to desk.expansions v.drawn =
     ap (λ (z : View). numbers_to desk.expansions z.drawn) is ∙ filter-append (λ number. nat_le number desk.expansions) u.drawn v.drawn in
-    let more = ap length units in
+    let more = ap length visits in
     let both = length-append (numbers_to desk.expansions u.drawn) (numbers_to desk.expansions v.drawn) in
     let part = kept.part in (
       record {
         expansions = kept.expansions;
         room = kept.room;
         part = omega (arith, parts, part);
-        units = few_to desk.expansions w.drawn few;
+        visits = few_to desk.expansions w.drawn few;
         claims = few_to desk.room w.claimed fewer;
         note = either_answers desk.position its_note other_note kept.note other_kept.note;
       },
@@ -109,7 +109,7 @@ joined_seat desk words v u w its_note other_note its_drawn other_drawn kept othe
 pub seat_of-after_join : (desk : WordDeskView) (v u : View) (its_note other_note : Option Derivation)
     → seat_of desk (after_join v u) (option_or its_note other_note) ≡ joined (seat_of desk v its_note) (seat_of desk u other_note)
 seat_of-after_join desk v u its_note other_note =
-    let units = filter-append (λ number. nat_le number desk.expansions) u.drawn v.drawn in
+    let visits = filter-append (λ number. nat_le number desk.expansions) u.drawn v.drawn in
     let claims = filter-append (λ number. nat_le number desk.room) u.claimed v.claimed in
     let draw_ends : count_above desk.expansions (u.drawn ++ v.drawn) + length (u.missed ++ v.missed) ≡ (count_above desk.expansions v.drawn + length v.missed) + (count_above desk.expansions u.drawn + length u.missed) =
     omega (arith, sum_by-append (above desk.expansions) u.drawn v.drawn, length-append u.missed v.missed) in
@@ -118,7 +118,7 @@ seat_of-after_join desk v u its_note other_note =
     λ k. record {
       desk = desk;
       parts = v.parts + u.parts;
-      units = units k;
+      visits = visits k;
       draw_ends = draw_ends k;
       claims = claims k;
       claim_ends = claim_ends k;

@@ -69,7 +69,7 @@ after_join view other = record {
 -- WHAT IS KEPT.
 
 -- A view fits a number of seats that won: of its numbers, no more than its parts lie above the most
--- units, or above the most room; it has met a posted note, or missed a number, only where one has
+-- visits, or above the most room; it has met a posted note, or missed a number, only where one has
 -- won; and where it has no part it has nothing.
 pub record IsFit (winners : ℕ) (view : View) : Type 0 where
   pub draws : count_above MOST_EXPANSIONS view.drawn + count_above MOST_EXPANSIONS view.missed ≤ view.parts
@@ -86,7 +86,7 @@ pub record IsKept (words : List ℕ) (views : List View) : Type 0 where
   pub tickets : ℕ
   pub winners : ℕ
   pub sized : length words ≡ 2
-  pub units : slice_index words 0 ≡ winners * POSTED + tickets
+  pub visits : slice_index words 0 ≡ winners * POSTED + tickets
   pub draws : (weight : ℕ → ℕ) → sum_by (λ view. sum_by weight view.drawn + sum_by weight view.missed) views ≡ sum_to weight tickets
   pub claims : (weight : ℕ → ℕ) → sum_by (λ view. sum_by weight view.claimed) views ≡ sum_to weight (slice_index words 1)
   pub wins : sum_by (λ view. if view.won then 1 else 0) views ≡ winners

@@ -16,20 +16,20 @@ use Rattle.unit_desk.specs.Desk.{IsAnswerTo}
 use Rattle.word_desk.specs.declared.view.View.{View}
 use Rattle.word_desk.specs.Rule.{count_above}
 
--- A desk: which words it has, the problem's position, and how many units and notes there may be.
+-- A desk: which words it has, the problem's position, and how many visits and notes there may be.
 pub record WordDeskView : Type 0 where
   pub words : TableId
   pub position : Board
   pub expansions : ℕ
   pub room : ℕ
 
--- A seat: of which desk it is, how many of all parts it has, the units that it drew, how many of
+-- A seat: of which desk it is, how many of all parts it has, the visits that it drew, how many of
 -- its draws got none, the claims that it made, how many of its claims got none, whether it has met
 -- a posted note, and the note that it posted first of all.
 pub record DeskSeatView : Type 0 where
   pub desk : WordDeskView
   pub parts : ℕ
-  pub units : List ℕ
+  pub visits : List ℕ
   pub draw_ends : ℕ
   pub claims : List ℕ
   pub claim_ends : ℕ
@@ -40,13 +40,13 @@ pub record DeskSeatView : Type 0 where
 abbrev pub numbers_to : ℕ → List ℕ → List ℕ
 numbers_to limit numbers = filter (λ number. nat_le number limit) numbers
 
--- A seat of a desk, by its view and its note: a number that it drew is a unit where it is within
+-- A seat of a desk, by its view and its note: a number that it drew is a visit where it is within
 -- the expansions, and one that it claimed is a claim where it is within the room.
 abbrev pub seat_of : WordDeskView → View → Option Derivation → DeskSeatView
 seat_of its_desk view its_note = record {
   desk = its_desk;
   parts = view.parts;
-  units = numbers_to its_desk.expansions view.drawn;
+  visits = numbers_to its_desk.expansions view.drawn;
   draw_ends = count_above its_desk.expansions view.drawn + length view.missed;
   claims = numbers_to its_desk.room view.claimed;
   claim_ends = count_above its_desk.room view.claimed;
@@ -57,26 +57,26 @@ seat_of its_desk view its_note = record {
 -- A seat that has so many parts, and nothing else.
 abbrev pub unused : WordDeskView → ℕ → DeskSeatView
 unused its_desk its_parts =
-    record { desk = its_desk; parts = its_parts; units = []; draw_ends = 0; claims = []; claim_ends = 0; met = false; note = None }
+    record { desk = its_desk; parts = its_parts; visits = []; draw_ends = 0; claims = []; claim_ends = 0; met = false; note = None }
 
 -- What is kept of a seat: the limits of its desk are those of settings; it has a part, has drawn no
--- more units than there are and claimed no more than there is room; and its note answers the
+-- more visits than there are and claimed no more than there is room; and its note answers the
 -- problem.
 pub record IsSeat (seat : DeskSeatView) : Type 0 where
   pub expansions : IsFromTo 1 MOST_EXPANSIONS seat.desk.expansions
   pub room : IsFromTo 1 MOST_ROOM seat.desk.room
   pub part : 0 < seat.parts
-  pub units : length seat.units ≤ seat.desk.expansions
+  pub visits : length seat.visits ≤ seat.desk.expansions
   pub claims : length seat.claims ≤ seat.desk.room
   pub note : IfSome seat.note (IsAnswerTo seat.desk.position)
 
 -- What a draw answers, and the seat after it. Done: it has met a posted note now. Spent: it hasn't
--- met one, and got no unit. Go: it hasn't met one, and this unit is drawn. Nothing else changes.
+-- met one, and got no visit. Go: it hasn't met one, and this visit is drawn. Nothing else changes.
 -- What Done and Spent say of all seats shows at the close (`Ends`).
 abbrev pub Draws : DeskSeatView → Draw → DeskSeatView → Type 0
 Draws seat Done after = after ≡ record seat { draw_ends = seat.draw_ends + 1; met = true }
 Draws seat Spent after = (seat.met ≡ false) × (after ≡ record seat { draw_ends = seat.draw_ends + 1 })
-Draws seat (Go unit) after = (seat.met ≡ false) × IsFromTo 1 seat.desk.expansions unit × (after ≡ record seat { units = unit ∷ seat.units })
+Draws seat (Go number) after = (seat.met ≡ false) × IsFromTo 1 seat.desk.expansions number × (after ≡ record seat { visits = number ∷ seat.visits })
 
 -- What a claim answers, and the seat after it. NoRoom: it got none. Room: that of this number is
 -- claimed. Nothing else changes. What NoRoom says of all seats shows at the close (`Ends`).
@@ -96,7 +96,7 @@ abbrev pub joined : DeskSeatView → DeskSeatView → DeskSeatView
 joined seat other = record {
   desk = seat.desk;
   parts = seat.parts + other.parts;
-  units = other.units ++ seat.units;
+  visits = other.visits ++ seat.visits;
   draw_ends = seat.draw_ends + other.draw_ends;
   claims = other.claims ++ seat.claims;
   claim_ends = seat.claim_ends + other.claim_ends;
@@ -116,16 +116,16 @@ once_to last number = if nat_le 1 number && nat_le number last then 1 else 0
 abbrev pub AreEachTo : ℕ → List ℕ → Type 0
 AreEachTo last numbers = (number : ℕ) → times number numbers ≡ once_to last number
 
--- What a desk comes to, by the seat to which all others were joined: how many units were drawn, for
+-- What a desk comes to, by the seat to which all others were joined: how many visits were drawn, for
 -- how many notes room was claimed, and the note that was posted first.
 pub record Ends (seat : DeskSeatView) (its_drawn its_claimed : ℕ) (its_note : Option Derivation) : Type 0 where
-  pub drawn : its_drawn ≡ length seat.units
+  pub drawn : its_drawn ≡ length seat.visits
   pub claimed : its_claimed ≡ length seat.claims
   pub note : its_note ≡ seat.note
   pub answer : IfSome its_note (IsAnswerTo seat.desk.position)
   pub met : IsTrue seat.met → IsSome its_note
-  pub apart : (unit : ℕ) → times unit seat.units ≤ once_to seat.desk.expansions unit
-  pub units : IsNone its_note → AreEachTo (min (length seat.units + seat.draw_ends) seat.desk.expansions) seat.units
+  pub apart : (number : ℕ) → times number seat.visits ≤ once_to seat.desk.expansions number
+  pub visits : IsNone its_note → AreEachTo (min (length seat.visits + seat.draw_ends) seat.desk.expansions) seat.visits
   pub claims : AreEachTo (min (length seat.claims + seat.claim_ends) seat.desk.room) seat.claims
   pub all_drawn : IsNone its_note → 0 < seat.draw_ends → its_drawn ≡ seat.desk.expansions
   pub all_claimed : 0 < seat.claim_ends → its_claimed ≡ seat.desk.room

@@ -17,16 +17,16 @@ use std::alloc::{AllocError, Global};
 use std::marker::Model;
 
 // The word of the tickets, and of whether a note is posted.
-const UNITS: usize = 0;
+const VISITS: usize = 0;
 
 // The word of the claims.
 const CLAIMS: usize = 1;
 
-/// Hands out the units and the room of a search to threads that share it by `&`. Its counts are two
+/// Hands out the visits and the room of a search to threads that share it by `&`. Its counts are two
 /// words side by side; a draw and a claim are one instruction on one of them. None of its calls
 /// waits, and none fails or takes memory but [`make`](WordDesk::make).
 ///
-/// Contracts see which words it has, the problem's position, and how many units and notes there may
+/// Contracts see which words it has, the problem's position, and how many visits and notes there may
 /// be.
 #[derive(Drop)]
 pub struct WordDesk {
@@ -57,7 +57,7 @@ impl Model for WordDesk {
 /// What a desk comes to.
 #[derive(Drop)]
 pub struct DeskEnd {
-    /// How many units were drawn.
+    /// How many visits were drawn.
     pub drawn: u64,
     /// For how many notes room was claimed.
     pub claimed: u32,
@@ -66,7 +66,7 @@ pub struct DeskEnd {
 }
 
 impl WordDesk {
-    /// The desk of a problem, with the units and the room of the settings, and its first seat,
+    /// The desk of a problem, with the visits and the room of the settings, and its first seat,
     /// which has every part. Nothing is drawn, claimed or posted. Takes a few bytes; want of memory
     /// is its one error.
     pub fn make(
@@ -97,9 +97,9 @@ impl WordDesk {
         Ok((desk, first))
     }
 
-    /// The next unit of work: Done where a note is posted; else Spent where all units were drawn;
-    /// else the number of the unit, from 1, which no other draw gets. A seat that got none draws no
-    /// more. That a note was posted, or all units drawn, [`close`](WordDesk::close) tells; a draw
+    /// The next visit: Done where a note is posted; else Spent where all visits were drawn;
+    /// else the number of the visit, from 1, which no other draw gets. A seat that got none draws no
+    /// more. That a note was posted, or all visits drawn, [`close`](WordDesk::close) tells; a draw
     /// tells its own seat alone.
     pub fn draw(&self, seat: &mut DeskSeat) -> Draw
         requires seat { seat.old.desk ≡ self.now }
@@ -109,7 +109,7 @@ impl WordDesk {
         let found = self
             .table
             .shared
-            .fetch_add::<DrawStep>(&mut seat.seat, UNITS, 1);
+            .fetch_add::<DrawStep>(&mut seat.seat, VISITS, 1);
         if found >= POSTED {
             return Draw::Done;
         }
@@ -149,13 +149,13 @@ impl WordDesk {
         let found = self
             .table
             .shared
-            .fetch_or::<PostStep>(&mut seat.seat, UNITS, POSTED);
+            .fetch_or::<PostStep>(&mut seat.seat, VISITS, POSTED);
         if found < POSTED {
             keep_first(&mut seat.note, Some(note));
         }
     }
 
-    /// A new seat of the same desk, of one part of a seat that has another, and that got a unit and
+    /// A new seat of the same desk, of one part of a seat that has another, and that got a visit and
     /// room whenever it asked.
     pub fn make_seat(&self, seat: &mut DeskSeat) -> DeskSeat
         requires seat { seat.old.desk ≡ self.now }
@@ -188,7 +188,7 @@ impl WordDesk {
             note,
         } = other;
         self.table.shared.join_seat::<Parts>(&mut seat.seat, joined);
-        let _units = self.table.shared.load::<LookStep>(&mut seat.seat, UNITS);
+        let _visits = self.table.shared.load::<LookStep>(&mut seat.seat, VISITS);
         seat.drawn += drawn;
         keep_first(&mut seat.note, note);
     }

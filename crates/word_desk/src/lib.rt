@@ -1,9 +1,9 @@
-//! The desk of a search by several threads: it hands out the units of work and the room for notes,
+//! The desk of a search by several threads: it hands out the visits and the room for notes,
 //! and keeps the note that answers the problem.
 //!
-//! Two words count the units and the claims, and say whether a note is posted. Each thread steps on
+//! Two words count the visits and the claims, and say whether a note is posted. Each thread steps on
 //! them with a seat of its own, which keeps what it drew, claimed and posted; what is shared is
-//! kept by proof alone. The units that all seats drew are different numbers from 1, and so are the
+//! kept by proof alone. The visits that all seats drew are different numbers from 1, and so are the
 //! claims: each is handed out once, whatever the threads do.
 //!
 //! There are six kinds of step: [`draw`](WordDesk::draw), [`claim`](WordDesk::claim),

@@ -7,7 +7,7 @@ use board_core::Position;
 use notes::Note;
 use std::marker::Model;
 
-/// A token with which one thread at a time draws units, claims room and posts at a desk. Contracts
+/// A token with which one thread at a time draws visits, claims room and posts at a desk. Contracts
 /// see of which desk it is, and what it drew, claimed and posted.
 ///
 /// A seat that is let go takes its parts with it, so that the desk can't be closed any more, only
@@ -49,7 +49,7 @@ impl Model for DeskSeat {
 
 impl DeskSeat {
     /// What the type keeps: the limits of its desk are those of settings; a seat has a part, has
-    /// drawn no more units than there are and claimed no more than there is room, and its note
+    /// drawn no more visits than there are and claimed no more than there is room, and its note
     /// answers the problem. Does nothing; whoever wants to know this of a seat calls it.
     pub fn laws(&self)
         ensures { IsSeat self.now }

@@ -1,4 +1,4 @@
-// What a seat knows of units and claims.
+// What a seat knows of visits and claims.
 use std::collections::LinkedList;
 
 /// The parts into which a desk can be dealt out. A seat has at least one, so it is also the most
@@ -8,7 +8,7 @@ pub const MOST_SEATS: u64 = 65;
 /// What the first word has above the tickets once a note is posted: its bit 40.
 pub const POSTED: u64 = 1 << 40;
 
-/// What a seat knows of units and claims. Contracts alone speak of it: no value of it is made.
+/// What a seat knows of visits and claims. Contracts alone speak of it: no value of it is made.
 pub struct View {
     /// How many of all parts the seat has.
     pub parts: u64,

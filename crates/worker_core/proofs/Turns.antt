@@ -25,11 +25,11 @@ use Rattle.visit_log.specs.Visit.{Exchange, IsVisitLog}
 use Rattle.visit_log.specs.Machine.{State, asks, asked, asked_at, starve, end_of, path_of, Fits, LeadsTo}
 use Rattle.visit_log.specs.Run.{Leads, WorkerView, Happens, Told, Dark, IsReached, IsLooking, now_at}
 use Rattle.visit_log.specs.Sound.{IsSoundRequest, IsSoundUpdate, IsAnswer}
-use Rattle.visit_log.specs.Counts.{Words, own_slots, own_size, slot_once, enters, leaves, enters_some, leaves_some, units_in, rooms_in, to_come}
+use Rattle.visit_log.specs.Counts.{Words, own_slots, own_size, slot_once, enters, leaves, enters_some, leaves_some, visits_in, rooms_in, to_come}
 use Rattle.visit_log.specs.Laws.{IsLeftAlone, LeavesOwn}
 use Rattle.worker_core.specs.Port.{Book, IsBooked, entering, Went, Suits, KeepsOthers, WentBy}
 use Rattle.worker_core.proofs.Reached.{starve_now}
-use Rattle.worker_core.proofs.TurnsStages.{enters_by_unit, Going, going_after, entering_at, looking_at, goes_on_asked, enters_few, MayAnswer, may_fits, asked_costs, asked_same, starves_less, starves_wind}
+use Rattle.worker_core.proofs.TurnsStages.{enters_by_visit, Going, going_after, entering_at, looking_at, goes_on_asked, enters_few, MayAnswer, may_fits, asked_costs, asked_same, starves_less, starves_wind}
 
 -- A worker once it was asked.
 abbrev pub once_asked : WorkerView → WorkerView
@@ -44,7 +44,7 @@ pub record Turned {P : Type 0} (turn : P → List Key → Request → Option Rep
 
 -- 1. WHAT THE PORT ASKS OF THE WORKER.
 
--- A unit or room is asked for where the port goes on.
+-- A visit or room is asked for where the port goes on.
 pub port_goes : (v : WorkerView) (book : Book) (q : Request) → Suits v book → q ≡ asks v.state → (q ≡ Draws) ⊎ (q ≡ Claims) → book.going ≡ true
 port_goes v book q suits e is = goes_on_asked book.going q v.state.stage v.state.frames suits.going e is
 
@@ -82,16 +82,16 @@ post_sound v book note suits sound = record {
 
 -- 2. WHICH ANSWERS MAY COME.
 
--- A unit comes where the worker has fewer than a billion.
-pub unit_may : (v : WorkerView) (before after : Book) (draw : Draw) → Suits v before → IsBooked (Draws, Some (Drew draw)) before after
+-- A visit comes where the worker has fewer than a billion.
+pub visit_may : (v : WorkerView) (before after : Book) (draw : Draw) → Suits v before → IsBooked (Draws, Some (Drew draw)) before after
     → MayAnswer v.task v.state Draws (Drew draw)
-unit_may v before after (Go unit) suits booked =
-    let more = booked.units in
+visit_may v before after (Go number) suits booked =
+    let more = booked.visits in
     let most = booked.most suits.most in
-    let units = suits.units in
-    omega (arith, more, most, units)
-unit_may v before after Done suits booked = tt
-unit_may v before after AllDrawn suits booked = tt
+    let visits = suits.visits in
+    omega (arith, more, most, visits)
+visit_may v before after Done suits booked = tt
+visit_may v before after AllDrawn suits booked = tt
 
 -- What is shown may be shown on the worker's path.
 pub shown_may : (v : WorkerView) (book : Book) (key : Key) (path : List Key) (seen : Seen) → Suits v book → path ≡ path_of v.task (asked v.state).frames
@@ -123,7 +123,7 @@ pub turned_by : {P : Type 0} (turn : P → List Key → Request → Option Reply
     → ((words : Words) (word : ℕ) → own_slots words w.state.frames word + leaves words (asks m.state, Some a) word
     ≡ own_slots words m.state.frames word + enters words (asks m.state, Some a) word)
     → own_size w.state.frames + leaves_some (asks m.state, Some a) ≡ own_size m.state.frames + enters_some (asks m.state, Some a)
-    → w.state.visits ≡ m.state.visits + units_in a → w.state.claims ≡ m.state.claims + rooms_in a → to_come w.state < to_come m.state → Turned turn book pa pb v w (q, Some a)
+    → w.state.visits ≡ m.state.visits + visits_in a → w.state.claims ≡ m.state.claims + rooms_in a → to_come w.state < to_come m.state → Turned turn book pa pb v w (q, Some a)
 turned_by turn book pa pb v w m q a eq em t booked suits task log happens leads slots sizes visits claims less =
     let s : State = v.state in
     let b : Book = book pa in
@@ -156,8 +156,8 @@ turned_by turn book pa pb v w m q a eq em t booked suits task log happens leads 
     omega (arith, sizes, o, i, l) in
     let few : enters_some (q, Some a) ≤ entering s.stage =
     subst (λ (z : Request). enters_some (z, Some a) ≤ entering s.stage) (sym eq) (enters_few a s.stage s.frames) in
-    let unit : entering w.state.stage ≤ units_in a = enters_by_unit m.task m.state m.state.stage a w.state leads in
-    let gave : d.units ≡ b.units + units_in a = booked.units in
+    let entered : entering w.state.stage ≤ visits_in a = enters_by_visit m.task m.state m.state.stage a w.state leads in
+    let gave : d.visits ≡ b.visits + visits_in a = booked.visits in
     let room : d.rooms ≡ b.rooms + rooms_in a = booked.rooms in
     let asks_this : Happens v.task s (Told q a) w.state =
     subst (λ (z : Request). Happens v.task s (Told z a) w.state) (sym eq) (subst (λ (z : Task). Happens z s (Told (asks s) a) w.state) mt (happens s ms)) in
@@ -176,8 +176,8 @@ turned_by turn book pa pb v w m q a eq em t booked suits task log happens leads 
             let z : own_slots d.words w.state.frames x ≡ own_slots words w.state.frames x = ap (λ (ws : Words). own_slots ws w.state.frames x) booked.words in
             omega (arith, h, r, z);
         some = (let r = suits.some in omega (arith, all, r));
-        units = (let r = suits.units in omega (arith, visits, v1, gave, r));
-        size = (let r = suits.size in let h = booked.size in omega (arith, r, h, few, unit, gave));
+        visits = (let r = suits.visits in omega (arith, visits, v1, gave, r));
+        size = (let r = suits.size in let h = booked.size in omega (arith, r, h, few, entered, gave));
         most = booked.most suits.most;
       };
       went = record {
@@ -186,7 +186,7 @@ turned_by turn book pa pb v w m q a eq em t booked suits task log happens leads 
         log = λ l h. subst (λ (z : Request). Leads v.task (l ++ (z, Some a) ∷ []) w.state) (sym eq)
             (subst (λ (z : Task). Leads z (l ++ (asks s, Some a) ∷ []) w.state) mt (log l s (subst (λ (z : Task). Leads z l s) (sym mt) h) ms));
       };
-      others = record { words = booked.words; held = held; size = all; units = omega (arith, visits, v1, gave); rooms = omega (arith, claims, c1, room) };
+      others = record { words = booked.words; held = held; size = all; visits = omega (arith, visits, v1, gave); rooms = omega (arith, claims, c1, room) };
       less = omega (arith, costs, less);
     }
 
@@ -213,8 +213,8 @@ turned_dark turn book pa pb v w m key eq em t booked suits ew dark alone =
     λ x. alone.slots words x ∙ ap (λ (z : List FrameView). own_slots words z x) f1 in
     let size : own_size w.state.frames ≡ own_size s.frames = alone.size ∙ ap own_size f1 in
     let winds : w.state.stage ≡ Winding NoMemory = ap (λ (z : State). z.stage) ws ∙ starves_wind s at in
-    let unit : entering w.state.stage ≡ 0 = ap entering winds in
-    let gave : d.units ≡ b.units + 0 = booked.units in
+    let entered : entering w.state.stage ≡ 0 = ap entering winds in
+    let gave : d.visits ≡ b.visits + 0 = booked.visits in
     let now : d.size + 0 ≡ b.size + 0 = booked.size in
     let same : (word : ℕ) → d.held word + 0 ≡ b.held word + 0 = booked.held in
     let visits : w.state.visits ≡ m.state.visits = alone.visits in
@@ -235,8 +235,8 @@ turned_dark turn book pa pb v w m key eq em t booked suits ew dark alone =
             let z : own_slots d.words w.state.frames x ≡ own_slots words w.state.frames x = ap (λ (ws : Words). own_slots ws w.state.frames x) booked.words in
             omega (arith, o, h, r, z);
         some = (let r = suits.some in omega (arith, size, now, r));
-        units = (let r = suits.units in omega (arith, visits, v1, gave, r));
-        size = (let r = suits.size in omega (arith, r, now, unit, gave));
+        visits = (let r = suits.visits in omega (arith, visits, v1, gave, r));
+        size = (let r = suits.size in omega (arith, r, now, entered, gave));
         most = booked.most suits.most;
       };
       went = record {
@@ -250,7 +250,7 @@ turned_dark turn book pa pb v w m key eq em t booked suits ew dark alone =
         words = booked.words;
         held = λ x. let o = own x in let h = same x in omega (arith, o, h);
         size = omega (arith, size, now);
-        units = omega (arith, visits, v1, gave);
+        visits = omega (arith, visits, v1, gave);
         rooms = omega (arith, claims, c1, room);
       };
       less = omega (arith, costs, less);
@@ -268,7 +268,7 @@ went_none turn p v = record {
 
 -- What the port holds beside the worker's own slots is what it was.
 pub keeps_none : (v : WorkerView) (book : Book) → KeepsOthers v v book book
-keeps_none v book = record { words = refl; held = λ x. refl; size = refl; units = refl; rooms = refl }
+keeps_none v book = record { words = refl; held = λ x. refl; size = refl; visits = refl; rooms = refl }
 
 went_then : {P : Type 0} (turn : P → List Key → Request → Option Reply → P → Type 0) (task : Task) (a m b : P) (s t u : State) (es fs : List Exchange)
     → Went turn task a s es m t → Went turn task m t fs b u → Went turn task a s (es ++ fs) b u
@@ -297,7 +297,7 @@ keeps_on w0 w1 w2 b0 b1 b2 one two = record {
       let j = subst (λ (ws : Words). b2.held x + own_slots ws w1.state.frames x ≡ b1.held x + own_slots ws w2.state.frames x) one.words (two.held x) in
       omega (arith, h, j);
   size = (let h = one.size in let j = two.size in omega (arith, h, j));
-  units = (let h = one.units in let j = two.units in omega (arith, h, j));
+  visits = (let h = one.visits in let j = two.visits in omega (arith, h, j));
   rooms = (let h = one.rooms in let j = two.rooms in omega (arith, h, j));
 }
 

@@ -27,7 +27,7 @@ use Rattle.visit_log.specs.Frame.{Task, FrameView, attacker_in}
 use Rattle.visit_log.specs.Round.{MayShow}
 use Rattle.visit_log.specs.Machine.{State, at_stage, wind, starve, Settles, Opens, Sees, Makes, Returns, LeadsAt, Fits, rest_of, path_of, asks, asks_at, ask_look, ask_leave, ask_post, asked, asked_at}
 use Rattle.visit_log.specs.Run.{IsLooking}
-use Rattle.visit_log.specs.Counts.{Words, enters, leaves, enters_some, leaves_some, units_in, to_come}
+use Rattle.visit_log.specs.Counts.{Words, enters, leaves, enters_some, leaves_some, visits_in, to_come}
 use Rattle.visit_log.specs.Visit.{Exchange}
 use Rattle.visit_log.proofs.Offered.{length-entered}
 use Rattle.worker_core.specs.Port.{ends_by, entering, Goes}
@@ -77,68 +77,68 @@ returns_on task s [] (Open numbers) t h = absurd h
 returns_on task s (g ∷ gs) (Solved note) t h = settles_on task _ t.stage h.2.next h.2.settles
 returns_on task s (g ∷ gs) (Open numbers) t h = settles_on task _ t.stage h.2.next h.2.settles
 
--- Only a unit leads to entering.
-pub enters_by_unit : (task : Task) (s : State) (st : Stage) (a : Reply) (t : State) → LeadsAt task s st a t → entering t.stage ≤ units_in a
-enters_by_unit task s (Polling e) (Polled true) t h = let z = wound s t Stopped h in omega (arith, z)
-enters_by_unit task s (Polling e) (Polled false) t h = let z : entering t.stage ≡ 0 = ap (λ (z : State). entering z.stage) h in omega (arith, z)
-enters_by_unit task s (Polling e) (Drew draw) t h = absurd h
-enters_by_unit task s (Polling e) (Claimed claim) t h = absurd h
-enters_by_unit task s (Polling e) (Looked seen) t h = absurd h
-enters_by_unit task s (Polling e) (Entered kept) t h = absurd h
-enters_by_unit task s (Polling e) LeftIt t h = absurd h
-enters_by_unit task s (Polling e) PostedIt t h = absurd h
-enters_by_unit task s (Drawing e) (Polled stop) t h = absurd h
-enters_by_unit task s (Drawing e) (Drew (Go unit)) t h = entering_one t.stage
-enters_by_unit task s (Drawing e) (Drew Done) t h = let z = wound s t Posted h in omega (arith, z)
-enters_by_unit task s (Drawing e) (Drew AllDrawn) t h = let z = wound s t Spent h in omega (arith, z)
-enters_by_unit task s (Drawing e) (Claimed claim) t h = absurd h
-enters_by_unit task s (Drawing e) (Looked seen) t h = absurd h
-enters_by_unit task s (Drawing e) (Entered kept) t h = absurd h
-enters_by_unit task s (Drawing e) LeftIt t h = absurd h
-enters_by_unit task s (Drawing e) PostedIt t h = absurd h
-enters_by_unit task s Entering (Polled stop) t h = absurd h
-enters_by_unit task s Entering (Drew draw) t h = absurd h
-enters_by_unit task s Entering (Claimed claim) t h = absurd h
-enters_by_unit task s Entering (Looked seen) t h = absurd h
-enters_by_unit task s Entering (Entered kept) t h = let z = opens_on task s s.frames kept t h in omega (arith, z)
-enters_by_unit task s Entering LeftIt t h = absurd h
-enters_by_unit task s Entering PostedIt t h = absurd h
-enters_by_unit task s (Looking place) (Polled stop) t h = absurd h
-enters_by_unit task s (Looking place) (Drew draw) t h = absurd h
-enters_by_unit task s (Looking place) (Claimed claim) t h = absurd h
-enters_by_unit task s (Looking place) (Looked seen) t h = let z = sees_on task s place s.frames seen t h in omega (arith, z)
-enters_by_unit task s (Looking place) (Entered kept) t h = absurd h
-enters_by_unit task s (Looking place) LeftIt t h = absurd h
-enters_by_unit task s (Looking place) PostedIt t h = absurd h
-enters_by_unit task s Claiming (Polled stop) t h = absurd h
-enters_by_unit task s Claiming (Drew draw) t h = absurd h
-enters_by_unit task s Claiming (Claimed Full) t h = let z = wound s t NoRoom h in omega (arith, z)
-enters_by_unit task s Claiming (Claimed (Room room)) t h = let z = makes_on task s s.frames t h in omega (arith, z)
-enters_by_unit task s Claiming (Looked seen) t h = absurd h
-enters_by_unit task s Claiming (Entered kept) t h = absurd h
-enters_by_unit task s Claiming LeftIt t h = absurd h
-enters_by_unit task s Claiming PostedIt t h = absurd h
-enters_by_unit task s (Leaving left) (Polled stop) t h = absurd h
-enters_by_unit task s (Leaving left) (Drew draw) t h = absurd h
-enters_by_unit task s (Leaving left) (Claimed claim) t h = absurd h
-enters_by_unit task s (Leaving left) (Looked seen) t h = absurd h
-enters_by_unit task s (Leaving left) (Entered kept) t h = absurd h
-enters_by_unit task s (Leaving left) LeftIt t h = let z = returns_on task s (rest_of s.frames) left t h in omega (arith, z)
-enters_by_unit task s (Leaving left) PostedIt t h = absurd h
-enters_by_unit task s (Posting posted) (Polled stop) t h = absurd h
-enters_by_unit task s (Posting posted) (Drew draw) t h = absurd h
-enters_by_unit task s (Posting posted) (Claimed claim) t h = absurd h
-enters_by_unit task s (Posting posted) (Looked seen) t h = absurd h
-enters_by_unit task s (Posting posted) (Entered kept) t h = absurd h
-enters_by_unit task s (Posting posted) LeftIt t h = absurd h
-enters_by_unit task s (Posting posted) PostedIt t h = let z = wound s t Posted h in omega (arith, z)
-enters_by_unit task s (Winding end) (Polled stop) t h = absurd h
-enters_by_unit task s (Winding end) (Drew draw) t h = absurd h
-enters_by_unit task s (Winding end) (Claimed claim) t h = absurd h
-enters_by_unit task s (Winding end) (Looked seen) t h = absurd h
-enters_by_unit task s (Winding end) (Entered kept) t h = absurd h
-enters_by_unit task s (Winding end) LeftIt t h = let z : entering t.stage ≡ 0 = ap (λ (z : State). entering z.stage) h in omega (arith, z)
-enters_by_unit task s (Winding end) PostedIt t h = absurd h
+-- Only a visit leads to entering.
+pub enters_by_visit : (task : Task) (s : State) (st : Stage) (a : Reply) (t : State) → LeadsAt task s st a t → entering t.stage ≤ visits_in a
+enters_by_visit task s (Polling e) (Polled true) t h = let z = wound s t Stopped h in omega (arith, z)
+enters_by_visit task s (Polling e) (Polled false) t h = let z : entering t.stage ≡ 0 = ap (λ (z : State). entering z.stage) h in omega (arith, z)
+enters_by_visit task s (Polling e) (Drew draw) t h = absurd h
+enters_by_visit task s (Polling e) (Claimed claim) t h = absurd h
+enters_by_visit task s (Polling e) (Looked seen) t h = absurd h
+enters_by_visit task s (Polling e) (Entered kept) t h = absurd h
+enters_by_visit task s (Polling e) LeftIt t h = absurd h
+enters_by_visit task s (Polling e) PostedIt t h = absurd h
+enters_by_visit task s (Drawing e) (Polled stop) t h = absurd h
+enters_by_visit task s (Drawing e) (Drew (Go number)) t h = entering_one t.stage
+enters_by_visit task s (Drawing e) (Drew Done) t h = let z = wound s t Posted h in omega (arith, z)
+enters_by_visit task s (Drawing e) (Drew AllDrawn) t h = let z = wound s t Spent h in omega (arith, z)
+enters_by_visit task s (Drawing e) (Claimed claim) t h = absurd h
+enters_by_visit task s (Drawing e) (Looked seen) t h = absurd h
+enters_by_visit task s (Drawing e) (Entered kept) t h = absurd h
+enters_by_visit task s (Drawing e) LeftIt t h = absurd h
+enters_by_visit task s (Drawing e) PostedIt t h = absurd h
+enters_by_visit task s Entering (Polled stop) t h = absurd h
+enters_by_visit task s Entering (Drew draw) t h = absurd h
+enters_by_visit task s Entering (Claimed claim) t h = absurd h
+enters_by_visit task s Entering (Looked seen) t h = absurd h
+enters_by_visit task s Entering (Entered kept) t h = let z = opens_on task s s.frames kept t h in omega (arith, z)
+enters_by_visit task s Entering LeftIt t h = absurd h
+enters_by_visit task s Entering PostedIt t h = absurd h
+enters_by_visit task s (Looking place) (Polled stop) t h = absurd h
+enters_by_visit task s (Looking place) (Drew draw) t h = absurd h
+enters_by_visit task s (Looking place) (Claimed claim) t h = absurd h
+enters_by_visit task s (Looking place) (Looked seen) t h = let z = sees_on task s place s.frames seen t h in omega (arith, z)
+enters_by_visit task s (Looking place) (Entered kept) t h = absurd h
+enters_by_visit task s (Looking place) LeftIt t h = absurd h
+enters_by_visit task s (Looking place) PostedIt t h = absurd h
+enters_by_visit task s Claiming (Polled stop) t h = absurd h
+enters_by_visit task s Claiming (Drew draw) t h = absurd h
+enters_by_visit task s Claiming (Claimed Full) t h = let z = wound s t NoRoom h in omega (arith, z)
+enters_by_visit task s Claiming (Claimed (Room room)) t h = let z = makes_on task s s.frames t h in omega (arith, z)
+enters_by_visit task s Claiming (Looked seen) t h = absurd h
+enters_by_visit task s Claiming (Entered kept) t h = absurd h
+enters_by_visit task s Claiming LeftIt t h = absurd h
+enters_by_visit task s Claiming PostedIt t h = absurd h
+enters_by_visit task s (Leaving left) (Polled stop) t h = absurd h
+enters_by_visit task s (Leaving left) (Drew draw) t h = absurd h
+enters_by_visit task s (Leaving left) (Claimed claim) t h = absurd h
+enters_by_visit task s (Leaving left) (Looked seen) t h = absurd h
+enters_by_visit task s (Leaving left) (Entered kept) t h = absurd h
+enters_by_visit task s (Leaving left) LeftIt t h = let z = returns_on task s (rest_of s.frames) left t h in omega (arith, z)
+enters_by_visit task s (Leaving left) PostedIt t h = absurd h
+enters_by_visit task s (Posting posted) (Polled stop) t h = absurd h
+enters_by_visit task s (Posting posted) (Drew draw) t h = absurd h
+enters_by_visit task s (Posting posted) (Claimed claim) t h = absurd h
+enters_by_visit task s (Posting posted) (Looked seen) t h = absurd h
+enters_by_visit task s (Posting posted) (Entered kept) t h = absurd h
+enters_by_visit task s (Posting posted) LeftIt t h = absurd h
+enters_by_visit task s (Posting posted) PostedIt t h = let z = wound s t Posted h in omega (arith, z)
+enters_by_visit task s (Winding end) (Polled stop) t h = absurd h
+enters_by_visit task s (Winding end) (Drew draw) t h = absurd h
+enters_by_visit task s (Winding end) (Claimed claim) t h = absurd h
+enters_by_visit task s (Winding end) (Looked seen) t h = absurd h
+enters_by_visit task s (Winding end) (Entered kept) t h = absurd h
+enters_by_visit task s (Winding end) LeftIt t h = let z : entering t.stage ≡ 0 = ap (λ (z : State). entering z.stage) h in omega (arith, z)
+enters_by_visit task s (Winding end) PostedIt t h = absurd h
 
 -- 2. WHETHER MORE MAY BE HANDED OUT.
 
@@ -154,7 +154,7 @@ ends_wind task s st (Looked seen) t h e = absurd (cc)
 ends_wind task s st (Entered kept) t h e = absurd (cc)
 ends_wind task s st LeftIt t h e = absurd (cc)
 ends_wind task s st PostedIt t h e = absurd (cc)
-ends_wind task s st (Drew (Go unit)) t h e = absurd (cc)
+ends_wind task s st (Drew (Go number)) t h e = absurd (cc)
 ends_wind task s st (Claimed (Room room)) t h e = absurd (cc)
 ends_wind task s (Polling entry) (Drew Done) t h e = absurd h
 ends_wind task s (Drawing entry) (Drew Done) t h e = (Posted, ap (λ (z : State). z.stage) h)
@@ -247,7 +247,7 @@ winding_leaves q end [] e (inr is) = cc
 winding_leaves q end (f ∷ fs) e (inl is) = cc
 winding_leaves q end (f ∷ fs) e (inr is) = cc
 
--- So where a unit or room is asked for, the port goes on.
+-- So where a visit or room is asked for, the port goes on.
 pub goes_on_asked : (going : Bool) (q : Request) (st : Stage) (fs : List FrameView) → Going going st → q ≡ asks_at st fs → (q ≡ Draws) ⊎ (q ≡ Claims) → going ≡ true
 goes_on_asked going q st fs (inl goes) e is = goes
 goes_on_asked going q st fs (inr winding) e is =
@@ -283,7 +283,7 @@ enters_few a (Winding end) (f ∷ fs) = omega arith
 -- What the answer to a request may be, by the request.
 abbrev pub MayAnswer : Task → State → Request → Reply → Type 0
 MayAnswer task s Poll (Polled stop) = Unit {0}
-MayAnswer task s Draws (Drew (Go unit)) = s.visits < MOST_EXPANSIONS
+MayAnswer task s Draws (Drew (Go number)) = s.visits < MOST_EXPANSIONS
 MayAnswer task s Draws (Drew Done) = Unit {0}
 MayAnswer task s Draws (Drew AllDrawn) = Unit {0}
 MayAnswer task s Claims (Claimed claim) = Unit {0}
@@ -327,7 +327,7 @@ may_fit task (Polling e) fs v c (Entered kept) h = absurd h
 may_fit task (Polling e) fs v c LeftIt h = absurd h
 may_fit task (Polling e) fs v c PostedIt h = absurd h
 may_fit task (Drawing e) fs v c (Polled stop) h = absurd h
-may_fit task (Drawing e) fs v c (Drew (Go unit)) h = h
+may_fit task (Drawing e) fs v c (Drew (Go number)) h = h
 may_fit task (Drawing e) fs v c (Drew Done) h = tt
 may_fit task (Drawing e) fs v c (Drew AllDrawn) h = tt
 may_fit task (Drawing e) fs v c (Claimed claim) h = absurd h

@@ -16,25 +16,25 @@ use Rattle.visit_log.specs.Visit.{Exchange}
 use Rattle.visit_log.specs.Frame.{Task}
 use Rattle.visit_log.specs.Machine.{State, path_of}
 use Rattle.visit_log.specs.Run.{WorkerView, Leads, Happens, Told, Dark}
-use Rattle.visit_log.specs.Counts.{Words, own_slots, own_size, enters, leaves, enters_some, leaves_some, units_in, rooms_in}
+use Rattle.visit_log.specs.Counts.{Words, own_slots, own_size, enters, leaves, enters_some, leaves_some, visits_in, rooms_in}
 
--- What a port tells: the problem; how many units it gave; whether it goes on (it said neither that
+-- What a port tells: the problem; how many visits it gave; whether it goes on (it said neither that
 -- all is done or spent nor that there is no room); which word each slot of a key's row has; how
 -- often the slot of a word is entered and not left; how many slots that is in all; and for how many
 -- notes it gave room.
 pub record Book : Type 0 where
   pub problem : Board
-  pub units : ℕ
+  pub visits : ℕ
   pub going : Bool
   pub words : Words
   pub held : ℕ → ℕ
   pub size : ℕ
   pub rooms : ℕ
 
--- How many units an event gives.
-abbrev pub units_by : Exchange → ℕ
-units_by (request, Some answer) = units_in answer
-units_by (request, None) = 0
+-- How many visits an event gives.
+abbrev pub visits_by : Exchange → ℕ
+visits_by (request, Some answer) = visits_in answer
+visits_by (request, None) = 0
 
 -- How much room for notes it gives.
 abbrev pub rooms_by : Exchange → ℕ
@@ -49,11 +49,11 @@ ends_by (Some (Claimed Full)) = true
 ends_by answer = false
 
 -- What an event changes in a port's book: what it enters, leaves and gives, and nothing else. At
--- most a billion units are given.
+-- most a billion visits are given.
 pub record IsBooked (event : Exchange) (before after : Book) : Type 0 where
   pub problem : after.problem ≡ before.problem
-  pub units : after.units ≡ before.units + units_by event
-  pub most : before.units ≤ MOST_EXPANSIONS → after.units ≤ MOST_EXPANSIONS
+  pub visits : after.visits ≡ before.visits + visits_by event
+  pub most : before.visits ≤ MOST_EXPANSIONS → after.visits ≤ MOST_EXPANSIONS
   pub going : after.going ≡ (if ends_by event.1 then false else before.going)
   pub words : after.words ≡ before.words
   pub held : (word : ℕ) → after.held word + leaves before.words event word ≡ before.held word + enters before.words event word
@@ -85,25 +85,25 @@ entering Entering = 1
 entering stage = 0
 
 -- What a worker needs of a port to run over it: both are of one problem; the port goes on, or the
--- worker winds up; its own slots are held; and the port gave at least its units, at most a billion,
--- and holds no more slots than it gave units, with the one that is about to be entered.
+-- worker winds up; its own slots are held; and the port gave at least its visits, at most a billion,
+-- and holds no more slots than it gave visits, with the one that is about to be entered.
 pub record Suits (worker : WorkerView) (book : Book) : Type 0 where
   pub problem : worker.task.problem ≡ book.problem
   pub going : (book.going ≡ true) ⊎ ((end : WorkEnd) × (worker.state.stage ≡ Winding end))
   pub held : (word : ℕ) → own_slots book.words worker.state.frames word ≤ book.held word
   pub some : own_size worker.state.frames ≤ book.size
-  pub units : worker.state.visits ≤ book.units
-  pub size : book.size + entering worker.state.stage ≤ book.units
-  pub most : book.units ≤ MOST_EXPANSIONS
+  pub visits : worker.state.visits ≤ book.visits
+  pub size : book.size + entering worker.state.stage ≤ book.visits
+  pub most : book.visits ≤ MOST_EXPANSIONS
 
 -- What the port holds beside the worker's own slots, by their words, and gave beside the worker's
--- own units and room, stays as it was.
+-- own visits and room, stays as it was.
 pub record KeepsOthers (worker later : WorkerView) (before after : Book) : Type 0 where
   pub words : after.words ≡ before.words
   pub held : (word : ℕ) → after.held word + own_slots before.words worker.state.frames word
       ≡ before.held word + own_slots before.words later.state.frames word
   pub size : after.size + own_size worker.state.frames ≡ before.size + own_size later.state.frames
-  pub units : after.units + worker.state.visits ≡ before.units + later.state.visits
+  pub visits : after.visits + worker.state.visits ≡ before.visits + later.state.visits
   pub rooms : after.rooms + worker.state.claims ≡ before.rooms + later.state.claims
 
 -- The worker and the port went by one list of requests and answers: by whatever log the worker

@@ -2,7 +2,7 @@
 //! time and is told the answer.
 //!
 //! A [`Worker`] holds the visits that are going on, the innermost last. It asks whether it is to
-//! stop, for a unit of work, for room for a note, what the table knows of a position, to enter a
+//! stop, for a visit, for room for a note, what the table knows of a position, to enter a
 //! position and to leave it, to post the note that answers the problem; and at last it has ended.
 //! Whoever has the table and the desk answers: [`work`] does it over any [`Port`] to the end,
 //! [`work_until`] for so many requests. So one worker serves a search alone, many under any

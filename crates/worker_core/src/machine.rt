@@ -391,7 +391,7 @@ impl Core {
         self.stack.problem()
     }
 
-    /// How many units it was given.
+    /// How many visits it was given.
     pub(crate) fn visits(&self) -> u64
         ensures { result ≡ self.now.state.visits }
     {

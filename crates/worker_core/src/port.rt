@@ -11,7 +11,7 @@ use std::alloc::AllocError;
 /// The table of positions and the desk of a search, as one worker has them: alone, beside others
 /// under some schedule, or on a thread.
 ///
-/// What it tells of itself is its book: the problem; how many units it gave, at most a billion, and
+/// What it tells of itself is its book: the problem; how many visits it gave, at most a billion, and
 /// for how many notes it gave room; whether it goes on; which word each slot of a key's row has,
 /// and how often the slot of a word is entered and not left. Each call changes the book as its
 /// request and answer say (`IsBooked`), and is one step of the port (`turn`).
@@ -42,7 +42,7 @@ pub trait Port {
         ensures turn { (path : List Key) → turn self.old path Poll (Some (Polled result)) self.new }
         ensures book { IsBooked (Poll, Some (Polled result)) (book self.old) (book self.new) };
 
-    /// The next unit of work. It isn't asked once nothing more is handed out.
+    /// The next visit. It isn't asked once nothing more is handed out.
     fn draw(&mut self) -> Draw
         requires { (book self.old).going ≡ true }
         ensures turn { (path : List Key) → turn self.old path Draws (Some (Drew result)) self.new }

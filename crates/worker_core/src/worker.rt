@@ -53,7 +53,7 @@ impl Worker {
     ghost use Rattle.visit_log.specs.Machine.{State, start, asks, asked, starve, end_of, path_of, Fits, LeadsTo};
     ghost use Rattle.visit_log.specs.Run.{Leads, Happens, Told, IsReached, IsBegunLog, IsLooking, now_at};
     ghost use Rattle.visit_log.specs.Sound.{IsTask, IsSound, IsSoundRequest};
-    ghost use Rattle.visit_log.specs.Counts.{Words, own_slots, own_size, enters, leaves, enters_some, leaves_some, units_in, rooms_in, to_come};
+    ghost use Rattle.visit_log.specs.Counts.{Words, own_slots, own_size, enters, leaves, enters_some, leaves_some, visits_in, rooms_in, to_come};
     ghost use Rattle.visit_log.specs.Laws.{IsLeftAlone, IsCounted};
     ghost use Rattle.visit_log.specs.declared.words.WorkEnd.{WorkEnd};
     ghost use Rattle.visit_log.specs.declared.words.Request.TheVariants.{End};
@@ -95,7 +95,7 @@ impl Worker {
         self.core.ask(self.copy.take())
     }
 
-    /// Takes the answer in, which must be of the request's kind: a unit comes where fewer than a
+    /// Takes the answer in, which must be of the request's kind: a visit comes where fewer than a
     /// billion came before; numbers are from 1 to the cap; a note is about the child that was
     /// looked at, for the attacker, and holds on the path. Where memory is wanting it winds up.
     pub fn advance(&mut self, alloc: Global, answer: Reply)
@@ -115,7 +115,7 @@ impl Worker {
         ensures sizes { own_size self.new.state.frames + leaves_some
             (asks self.old.state, Some answer)
             ≡ own_size self.old.state.frames + enters_some (asks self.old.state, Some answer) }
-        ensures visits { self.new.state.visits ≡ self.old.state.visits + units_in answer }
+        ensures visits { self.new.state.visits ≡ self.old.state.visits + visits_in answer }
         ensures claims { self.new.state.claims ≡ self.old.state.claims + rooms_in answer }
         ensures less { to_come self.new.state < to_come self.old.state }
         // Where it stood before it was asked, this request and this answer happen to it.
@@ -186,7 +186,7 @@ impl Worker {
         self.core.is_winding()
     }
 
-    /// How many units it was given. Takes no memory.
+    /// How many visits it was given. Takes no memory.
     pub fn visits(&self) -> u64
         ensures { result ≡ self.now.state.visits }
     {
@@ -209,7 +209,7 @@ impl Worker {
 
     /// Laws: what every worker keeps. Some log leaves it where it stands; each log that does is the
     /// beginning of a visit log, and a whole one where it has ended; what it knows is sound, unless
-    /// a request waits for its answer; and it has no more visits, slots and room than units. Does
+    /// a request waits for its answer; and it has no more slots and room than visits. Does
     /// nothing; whoever reads a worker calls it to know this. Takes no memory.
     pub fn laws(&self)
         ensures reached { (log : List Exchange) × IsReached self.now log }

@@ -49,22 +49,22 @@ crew_suits sound counted book ws place worker crew going e =
           let all = crew.size in
           let one = one_within (λ (w : WorkerView). own_size w.state.frames) ws place worker e in
           omega (arith, all, one));
-      units = (
-          let all = crew.units in
+      visits = (
+          let all = crew.visits in
           let one = one_within (λ (w : WorkerView). w.state.visits) ws place worker e in
           omega (arith, all, one));
       size = (
           let all = crew.size in
-          let units = crew.units in
+          let visits = crew.visits in
           let own = enters_within worker.task worker.state.stage worker.state.frames worker.state.visits s c.slots c.frames in
           let one = all_with_one (λ (w : WorkerView). own_size w.state.frames) (λ (w : WorkerView). w.state.visits) ws (entering worker.state.stage) place worker low e own in
-          omega (arith, all, units, one));
+          omega (arith, all, visits, one));
       most = crew.most;
     }
 
 -- One of it went on.
 pub crew_on : (before after : Book) (ws : List WorkerView) (place : ℕ) (worker later : WorkerView) → IsCrew before ws → slice_get ws place ≡ Some worker
-    → KeepsOthers worker later before after → after.problem ≡ before.problem → after.units ≤ MOST_EXPANSIONS → IsInCrew after.problem later
+    → KeepsOthers worker later before after → after.problem ≡ before.problem → after.visits ≤ MOST_EXPANSIONS → IsInCrew after.problem later
     → IsCrew after (set ws place later)
 crew_on before after ws place worker later crew there keep problem most member = record {
   held = λ word. (
@@ -79,10 +79,10 @@ crew_on before after ws place worker later crew there keep problem most member =
       let m = keep.size in
       let b = crew.size in
       omega (arith, q, m, b));
-  units = (
+  visits = (
       let q = sum_set (λ (w : WorkerView). w.state.visits) ws place worker later there in
-      let m = keep.units in
-      let b = crew.units in
+      let m = keep.visits in
+      let b = crew.visits in
       omega (arith, q, m, b));
   most = most;
   members =
@@ -117,7 +117,7 @@ crew_starved book ws place worker later crew there is leads alone =
       words = refl;
       held = λ word. (let a = alone.slots book.words word in omega (arith, a));
       size = (let a = alone.size in omega (arith, a));
-      units = (let a = alone.visits in omega (arith, a));
+      visits = (let a = alone.visits in omega (arith, a));
       rooms = (let a = alone.claims in omega (arith, a));
     })
     refl crew.most
@@ -134,7 +134,7 @@ pub fair_crew : (world : World) → IsFair world → IsDesk world.port.desk → 
 fair_crew world fair desk = record {
   held = fair.held;
   size = fair.size;
-  units = fair.drawn;
+  visits = fair.drawn;
   most = (
       let low = desk.drawn in
       let most = desk.expansions.1 in

@@ -37,7 +37,7 @@ same_at before after e = subst (λ (d : DeskView). KeepsDesk before d) (sym e) (
 -- A step of the table and the desk.
 pub keeps : (before : LonePortView) (path : List Key) (q : Request) (a : Option Reply) (after : LonePortView) → Turns before path q a after → KeepsDesk before.desk after.desk
 keeps before path Poll (Some (Polled stop)) after h = same_at before.desk after.desk (ap (λ (p : LonePortView). p.desk) h.1)
-keeps before path Draws (Some (Drew (Go unit))) after h =
+keeps before path Draws (Some (Drew (Go number))) after h =
     subst (λ (d : DeskView). KeepsDesk before.desk d) (sym h.0.3)
     (record {
       position = refl;

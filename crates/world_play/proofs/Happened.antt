@@ -154,7 +154,7 @@ starve_fair world after place worker later fair there is leads alone e =
       words = refl;
       held = λ word. (let a = alone.slots (word_of (length world.port.pins)) word in omega (arith, a));
       size = (let a = alone.size in omega (arith, a));
-      units = (let a = alone.visits in omega (arith, a));
+      visits = (let a = alone.visits in omega (arith, a));
       rooms = (let a = alone.claims in omega (arith, a));
     })
     (desk_same world.port.desk)

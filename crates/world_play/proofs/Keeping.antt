@@ -16,8 +16,8 @@ use Rattle.visit_log.specs.Machine.{State, asks, path_of}
 use Rattle.visit_log.specs.Run.{Happening, Told, Dark, Starved, Happens as Befalls, Runs, event, WorkerView, Leads, now_at}
 use Rattle.visit_log.specs.Sound.{IsSound, IsSoundRequest}
 use Rattle.visit_log.specs.Counts.{Words, own_slots, own_size, enters, leaves, enters_some, leaves_some}
-use Rattle.visit_log.specs.Laws.{WorkersAreSound, AsksSound, SlotsMove, SizesMove, LeavesOwn, StarvingMovesNothing, UnitsMove}
-use Rattle.worker_core.specs.Port.{KeepsOthers, Goes, units_by, rooms_by}
+use Rattle.visit_log.specs.Laws.{WorkersAreSound, AsksSound, SlotsMove, SizesMove, LeavesOwn, StarvingMovesNothing, VisitsMove}
+use Rattle.worker_core.specs.Port.{KeepsOthers, Goes, visits_by, rooms_by}
 use Rattle.worker_core.proofs.Offered.{goes_asks, events_snoc}
 use Rattle.lone_port.specs.Lone.{LonePortView, book_of, opened}
 use Rattle.lone_port.specs.Keeps.{IsKeptPort, MayAsk, IsCountedBy, TurnsAreCounted}
@@ -42,7 +42,7 @@ pub record Laws : Type 0 where
   pub sizes : SizesMove
   pub own : LeavesOwn
   pub starving : StarvingMovesNothing
-  pub units : UnitsMove
+  pub visits : VisitsMove
   pub counted : TurnsAreCounted
 
 -- 1. THE LOG OF A WORKER.
@@ -77,7 +77,7 @@ leads_starving worker idle log s leads now =
 record IsMoved (s t : State) (x : Exchange) : Type 0 where
   pub slots : (words : Words) (word : ℕ) → own_slots words t.frames word + leaves words x word ≡ own_slots words s.frames word + enters words x word
   pub size : own_size t.frames + leaves_some x ≡ own_size s.frames + enters_some x
-  pub visits : t.visits ≡ s.visits + units_by x
+  pub visits : t.visits ≡ s.visits + visits_by x
   pub claims : t.claims ≡ s.claims + rooms_by x
   pub own : (words : Words) (word : ℕ) → leaves words x word ≤ own_slots words s.frames word
 
@@ -95,8 +95,8 @@ moved : Laws → (task : Task) (s t : State) (answer : Option Reply) → IsSound
 moved laws task s t (Some answer) sound goes = record {
   slots = λ words word. laws.slots words task s t answer word sound goes.1 goes.2;
   size = laws.sizes task s t answer sound goes.1 goes.2;
-  visits = (laws.units task s t answer goes.1 goes.2).0;
-  claims = (laws.units task s t answer goes.1 goes.2).1;
+  visits = (laws.visits task s t answer goes.1 goes.2).0;
+  claims = (laws.visits task s t answer goes.1 goes.2).1;
   own = λ words word. laws.own words s answer word;
 }
 moved laws task s t None sound goes =
@@ -153,7 +153,7 @@ stepped laws world place worker later stops answer after is there steps =
     let c = laws.counted (opened world.port stops) (path_of worker.task worker.state.frames) x after (opened_kept world.port stops is.port) may steps.turns in
     record {
       own = own;
-      all = record { kept = c.kept; as_many = c.as_many; held = c.held; size = c.size; units = c.units; rooms = c.rooms };
+      all = record { kept = c.kept; as_many = c.as_many; held = c.held; size = c.size; visits = c.visits; rooms = c.rooms };
     }
 
 keeps_others : (world : World) (worker later : WorkerView) (x : Exchange) (after : LonePortView) → IsStepped world worker later x after
@@ -162,7 +162,7 @@ keeps_others world worker later x after s = record {
   words = ap word_of s.all.as_many;
   held = λ word. (let own = s.own.slots (word_of (length world.port.pins)) word in let all = s.all.held word in omega (arith, own, all));
   size = (let own = s.own.size in let all = s.all.size in omega (arith, own, all));
-  units = (let own = s.own.visits in let all = s.all.units in omega (arith, own, all));
+  visits = (let own = s.own.visits in let all = s.all.visits in omega (arith, own, all));
   rooms = (let own = s.own.claims in let all = s.all.rooms in omega (arith, own, all));
 }
 

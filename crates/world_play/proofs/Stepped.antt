@@ -98,7 +98,7 @@ fair_on world after place worker later fair there is raised keep desk entered me
           omega (arith, q, m, b, a));
       drawn = (
           let q = sum_set (λ (w : WorkerView). w.state.visits) world.workers place worker later there in
-          let m = keep.units in
+          let m = keep.visits in
           let b = fair.drawn in
           let a = ap (λ (ws : List WorkerView). sum_by (λ (w : WorkerView). w.state.visits) ws) is in
           omega (arith, q, m, b, a));

@@ -69,7 +69,7 @@ kept_few None = omega arith
 kept_few (Some Unkept) = omega arith
 kept_few (Some (Slot n)) = omega arith
 
--- It has no more slots than units, with the one that it is about to enter.
+-- It has no more slots than visits, with the one that it is about to enter.
 pub enters_within : (task : Task) (stage : Stage) (fs : List FrameView) (visits : ℕ) → IsSoundAt task stage fs → own_size fs ≤ length fs → length fs ≤ visits
     → own_size fs + entering stage ≤ visits
 enters_within task (Polling e) fs v s a b = omega (arith, a, b)
@@ -87,7 +87,7 @@ enters_within task (Winding e) fs v s a b = omega (arith, a, b)
 
 -- 3. ALL OF THEM.
 
--- No worker of a fair world has more slots than units.
+-- No worker of a fair world has more slots than visits.
 sizes_low : WorkersAreCounted → (world : World) → IsFair world → (i : ℕ) (w : WorkerView) → slice_get world.workers i ≡ Some w → own_size w.state.frames ≤ w.state.visits
 sizes_low counted world fair i w e =
     let m = fair.members i w e in
@@ -114,7 +114,7 @@ suited sound counted world place worker fair desk e =
           let all = fair.size in
           let one = one_within (λ (w : WorkerView). own_size w.state.frames) world.workers place worker e in
           omega (arith, all, one));
-      units = (
+      visits = (
           let all = fair.drawn in
           let one = one_within (λ (w : WorkerView). w.state.visits) world.workers place worker e in
           omega (arith, all, one));

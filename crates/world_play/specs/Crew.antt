@@ -1,4 +1,4 @@
--- Workers over any port: what it holds, and the units that it gave, are what they have, all
+-- Workers over any port: what it holds, and the visits that it gave, are what they have, all
 -- together; and what a turn of one of them does.
 use Rattle.std.specs.Prelude.{◌≡◌, ◌≤◌, ◌<◌, ◌++◌, ℕ, false, List, [], ◌∷◌, Option, Some, None, IfSome, IfNone, MatchOption, length, slice_get, slice_set}
 use Rattle.search_limits.specs.declared.expansions.TheConstants.{MOST_EXPANSIONS}
@@ -24,13 +24,13 @@ pub record IsInCrew (position : Board) (worker : WorkerView) : Type 0 where
   pub log : List Exchange
   pub leads : Leads worker.task log worker.state
 
--- The port holds what the workers have entered, all together, and gave the units that they were
+-- The port holds what the workers have entered, all together, and gave the visits that they were
 -- given, at most a billion (of room nothing is said); and all are in the search of its problem.
 pub record IsCrew (book : Book) (workers : List WorkerView) : Type 0 where
   pub held : (word : ℕ) → book.held word ≡ all_slots book.words workers word
   pub size : book.size ≡ all_sizes workers
-  pub units : book.units ≡ all_visits workers
-  pub most : book.units ≤ MOST_EXPANSIONS
+  pub visits : book.visits ≡ all_visits workers
+  pub most : book.visits ≤ MOST_EXPANSIONS
   pub members : (place : ℕ) (worker : WorkerView) → slice_get workers place ≡ Some worker → IsInCrew book.problem worker
 
 -- The worker stood at the place, and another stands there now; the others stay as they were.

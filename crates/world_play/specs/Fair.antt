@@ -53,7 +53,7 @@ own_below (f ∷ fs) key = key_once f.kept f.place.key key + own_below fs key
 abbrev pub all_below : List WorkerView → Key → ℕ
 all_below workers key = sum_by (λ worker. own_below worker.state.frames key) workers
 
--- How many units they were given.
+-- How many visits they were given.
 abbrev pub all_visits : List WorkerView → ℕ
 all_visits workers = sum_by (λ worker. worker.state.visits) workers
 
@@ -63,7 +63,7 @@ all_claims workers = sum_by (λ worker. worker.state.claims) workers
 
 -- 2. WHAT A WORLD KEEPS.
 
--- What a worker's end says of the desk: a note is posted, all units were drawn, all room was
+-- What a worker's end says of the desk: a note is posted, all visits were drawn, all room was
 -- claimed; the other ends say nothing of it.
 abbrev pub IsToldOf : DeskView → WorkEnd → Type 0
 IsToldOf desk Posted = HasPosted desk

@@ -46,7 +46,7 @@ pub record OneEnded (workers : List WorkerView) (end : WorkEnd) : Type 0 where
   pub there : slice_get workers place ≡ Some worker
   pub ended : end_of worker.state ≡ Some end
 
--- Why nothing more happens: a note is posted, all units were drawn, all room was claimed, or a
+-- Why nothing more happens: a note is posted, all visits were drawn, all room was claimed, or a
 -- worker ended since a note would have been too high, for want of memory, or since it was told to
 -- stop.
 abbrev pub IsOver : World → Type 0

@@ -10,7 +10,7 @@ use worker_core::{Port, Worker, turn};
 /// Has one request of the worker at the place, from 0, answered by a port that goes on, whatever
 /// wraps the table and the desk of its workers; and says how the worker had ended where it has no
 /// request, and then nothing changes. The other workers stay as they were. What the port holds, and
-/// the units that it gave, stay what its workers have, all together.
+/// the visits that it gave, stay what its workers have, all together.
 pub fn turn_in_crew<P: Port>(
     alloc: Global,
     port: &mut P,
@@ -33,7 +33,7 @@ pub fn turn_in_crew<P: Port>(
 }
 
 /// Starves the worker at the place, from 0: it winds up for want of memory, unless it has ended.
-/// The other workers stay as they were. What the port holds, and the units that it gave, stay what
+/// The other workers stay as they were. What the port holds, and the visits that it gave, stay what
 /// its workers have, all together. Takes no memory.
 pub fn starve_in_crew<P: Port>(_port: &P, workers: &mut Vec<Worker>, place: usize)
     requires there { place < length workers.old.items }

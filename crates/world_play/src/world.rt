@@ -248,7 +248,7 @@ impl World {
         self.port.below(key)
     }
 
-    /// How many units were drawn. Takes no memory.
+    /// How many visits were drawn. Takes no memory.
     pub fn drawn(&self) -> u64
         ensures { result ≡ self.now.port.desk.drawn }
     {

@@ -29,8 +29,8 @@ impl Gate for Counting {
 }
 
 #[test]
-fn the_gate_is_passed_for_each_unit(rt: HostRuntime) -> Result<(), Fail> {
-    // Another program solves it with 85 units, and not with 84.
+fn the_gate_is_passed_for_each_visit(rt: HostRuntime) -> Result<(), Fail> {
+    // Another program solves it with 85 visits, and not with 84.
     let problem = "9/9/3p5/2K6/k8/1L7/1+r3+R3/9/9 b 2GLsn 1\n";
     let gate = Counting {
         passed: AtomicU64::new(0),
@@ -75,7 +75,7 @@ fn deadlines(alloc: Global) -> Result<Vec<DeadlineStop<TickingClock>>, AllocErro
 }
 
 // Words, and the status and what is kept: the clock is read when the stop is armed and at each
-// poll, once before each unit.
+// poll, once before each visit.
 static UNTIL: [(&str, u8, &str); 5] = [
     (
         "solve --deadline 1",

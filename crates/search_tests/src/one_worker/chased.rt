@@ -20,7 +20,7 @@ fn learn(port: &mut LonePort, problem: &Problem, note: Note)
     requires some { (worker : WorkerView) × Suits worker (book_of port.old) }
     requires suits { (number : ℕ)
         → Suits (worker_at_first problem.now.position number) (book_of port.old) }
-    requires first { (book_of port.old).units ≡ 0 }
+    requires first { (book_of port.old).visits ≡ 0 }
     requires attacker { attacker_of note ≡ (book_of port.old).problem.side }
     ensures { (number : ℕ)
         → Suits (worker_at_first problem.now.position number) (book_of port.new) }

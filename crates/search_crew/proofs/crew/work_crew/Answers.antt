@@ -65,7 +65,7 @@ returns-clause-tells g c =
     subst (λ (b : List Signal). CrewTells its b (map tell c.reverse-2.new.self.items) c.reverse-3.new.self.items c.gather.new.desk_seat) before
     (subst (λ (a : List Signal). CrewTells its (map (λ (lane : LaneView). lane.signal) lanes ++ rest) a c.reverse-3.new.self.items c.gather.new.desk_seat) (sym after)
     (crew_tells its (map (λ (lane : LaneView). lane.signal) lanes ++ rest) (map (λ (lane : LaneView). lane.signal) ys ++ rest) ys first c.gather.new.desk_seat c.reverse-3.new.self.items
-    done (ap (λ (d : DeskSeatView). d.desk) unused_first) (ap (λ (d : DeskSeatView). d.units) unused_first) (ap (λ (d : DeskSeatView). d.claims) unused_first)
+    done (ap (λ (d : DeskSeatView). d.desk) unused_first) (ap (λ (d : DeskSeatView). d.visits) unused_first) (ap (λ (d : DeskSeatView). d.claims) unused_first)
     (c.gather.ensures.desk ∙ ap (joined_all first) whole) crew))
 
 pub returns-clause-seat : goal.returns-clause-seat

@@ -1,6 +1,6 @@
 use Rattle.visit_log.proofs.Slots.{slots_move, sizes_move, starving_alone}
 use Rattle.visit_log.proofs.ToCome.{less_to_come}
-use Rattle.visit_log.proofs.Units.{workers_counted}
+use Rattle.visit_log.proofs.Drawn.{workers_counted}
 use Rattle.visit_log.proofs.Logged.{counts_logged}
 use Rattle.visit_log.proofs.counted.count_laws.Goals as goal
 

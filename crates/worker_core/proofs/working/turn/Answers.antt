@@ -6,7 +6,7 @@ use Rattle.visit_log.specs.declared.words.Reply.TheVariants.{Poll as Polled, Dra
 use Rattle.visit_log.specs.Machine.{path_of}
 use Rattle.visit_log.specs.Run.{WorkerView}
 use Rattle.visit_log.specs.Sound.{IsSoundRequest}
-use Rattle.worker_core.proofs.Turns.{port_goes, few_slots, left_held, left_sound, post_sound, unit_may, shown_may, answer_fits, on_path, turned_by, turned_dark, went_none, keeps_none, no_end}
+use Rattle.worker_core.proofs.Turns.{port_goes, few_slots, left_held, left_sound, post_sound, visit_may, shown_may, answer_fits, on_path, turned_by, turned_dark, went_none, keeps_none, no_end}
 use Rattle.worker_core.proofs.working.turn.Goals as goal
 
 pub draw-draw-requires : goal.draw-draw-requires
@@ -74,7 +74,7 @@ pub advance-requires-in-Draw-clause-waiting : goal.advance-requires-in-Draw-clau
 advance-requires-in-Draw-clause-waiting g c = ap (λ (z : WorkerView). z.waiting) c.request.ensures.asked
 
 pub advance-requires-in-Draw-clause-fits : goal.advance-requires-in-Draw-clause-fits
-advance-requires-in-Draw-clause-fits g c = answer_fits c.args.worker.now c.request.new.self Draws (Drew c.draw-draw.result) (sym c.in-Draw.is ∙ c.request.ensures.request) c.request.ensures.asked (unit_may c.args.worker.now (g.P.Port.book c.args.port.now) (g.P.Port.book c.draw-draw.new.self) c.draw-draw.result c.requires.suits c.draw-draw.ensures.book)
+advance-requires-in-Draw-clause-fits g c = answer_fits c.args.worker.now c.request.new.self Draws (Drew c.draw-draw.result) (sym c.in-Draw.is ∙ c.request.ensures.request) c.request.ensures.asked (visit_may c.args.worker.now (g.P.Port.book c.args.port.now) (g.P.Port.book c.draw-draw.new.self) c.draw-draw.result c.requires.suits c.draw-draw.ensures.book)
 
 pub returns-in-Draw-clause-idle : goal.returns-in-Draw-clause-idle
 returns-in-Draw-clause-idle g c = c.advance-in-Draw.ensures.answered

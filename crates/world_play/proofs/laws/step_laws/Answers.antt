@@ -16,7 +16,7 @@ returns-clause-kept c =
       sizes = n.sizes;
       own = n.own;
       starving = n.starving;
-      units = n.units;
+      visits = n.visits;
       counted = c.turn_laws.ensures;
     })
 
@@ -31,6 +31,6 @@ returns-clause-plays c =
       sizes = n.sizes;
       own = n.own;
       starving = n.starving;
-      units = n.units;
+      visits = n.visits;
       counted = c.turn_laws.ensures;
     })

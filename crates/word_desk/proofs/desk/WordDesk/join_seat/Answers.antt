@@ -23,8 +23,8 @@ join_seat-requires c =
       joins seat.id joined.id seat.me.0 joined.me.0 c.seat.invariant.0.part,
     )
 
-pub load-units-requires : goal.load-units-requires
-load-units-requires c =
+pub load-visits-requires : goal.load-visits-requires
+load-visits-requires c =
     let shared = c.self.inside.table.shared in
     let here = ap (λ (d : WordDeskView). d.words) c.self.view_is in
     let later = c.join_seat.new.seat in (
@@ -44,18 +44,18 @@ pub invariant_of-seat : goal.invariant_of-seat
 invariant_of-seat c =
     let inside = c.seat.inside in
     let other = c.other.inside in
-    let later = c.load-units.new.seat in
+    let later = c.load-visits.new.seat in
     let one_desk = same_desk inside other c.args.self.now c.args.seat.now.desk c.args.other.desk
     (ap (λ (s : DeskSeatView). s.desk) c.seat.view_is) (ap (λ (s : DeskSeatView). s.desk) c.other.view_is) c.requires.seats.0 c.requires.seats.1 in
-    let me = c.load-units.ensures.2.0 ∙ c.join_seat.ensures.2 in
+    let me = c.load-visits.ensures.2.0 ∙ c.join_seat.ensures.2 in
     let T : WordDeskView → Type 0 = λ d. IsSeat (seat_of d other.seat.me.0 other.note) in
     let U : WordDeskView → Type 0 = λ d. other.drawn ≡ length (numbers_to d.expansions other.seat.me.0.drawn) in
     let kept = joined_seat (desk_of inside) later.table_id inside.seat.me.0 other.seat.me.0 later.me.0 inside.note other.note inside.drawn other.drawn
     c.seat.invariant.0
     (subst T (sym one_desk) c.other.invariant.0)
     (ap (λ (m : Me ℕ View). m.0) me)
-    c.load-units.ensures.2.1
-    c.load-units.ensures.2.2
+    c.load-visits.ensures.2.1
+    c.load-visits.ensures.2.2
     c.seat.invariant.2
     (subst U (sym one_desk) c.other.invariant.2)
     c.seat.invariant.3
@@ -71,11 +71,11 @@ pub returns : goal.returns
 returns c =
     let inside = c.seat.inside in
     let other = c.other.inside in
-    let later = c.load-units.new.seat in
+    let later = c.load-visits.new.seat in
     let one_desk = same_desk inside other c.args.self.now c.args.seat.now.desk c.args.other.desk
     (ap (λ (s : DeskSeatView). s.desk) c.seat.view_is) (ap (λ (s : DeskSeatView). s.desk) c.other.view_is) c.requires.seats.0 c.requires.seats.1 in
-    let me = c.load-units.ensures.2.0 ∙ c.join_seat.ensures.2 in
-    let words = c.load-units.ensures.0 ∙ c.join_seat.ensures.0 in
+    let me = c.load-visits.ensures.2.0 ∙ c.join_seat.ensures.2 in
+    let words = c.load-visits.ensures.0 ∙ c.join_seat.ensures.0 in
     let note = c.keep_first.ensures in
     let other_is = ap (λ d. seat_of d other.seat.me.0 other.note) one_desk ∙ c.other.view_is in
     let first : the_view (record inside { seat = later; drawn = inside.drawn + other.drawn; note = c.keep_first.new.kept })

@@ -1,4 +1,4 @@
--- A worker has no more visits, slots or room than units.
+-- A worker has no more visits going on, slots or room than it has drawn visits.
 use Rattle.std.proofs.Common.{◌≡◌, ◌≤◌, ◌+◌, ℕ, suc, Bool, true, false, List, [], ◌∷◌, map, length, arith, refl, sym, ap, subst, inl, inr}
 use Rattle.std.proofs.lemmas.List.{length-map}
 use Rattle.std.specs.Prelude.{Option, Some, None, is_some, if◌then◌else◌}
@@ -17,7 +17,7 @@ use Rattle.visit_log.specs.declared.words.WorkEnd.TheVariants.{NoMemory}
 use Rattle.visit_log.specs.declared.words.Reply.{Reply}
 use Rattle.visit_log.specs.declared.words.Reply.TheVariants.{Poll as Polled, Draw as Drew, Claim as Claimed, Look as Looked, Enter as Entered, Leave as LeftIt, Post as PostedIt}
 use Rattle.visit_log.specs.Frame.{Task, FrameView}
-use Rattle.visit_log.specs.Machine.{State, at_stage, start, bare, entered_ones, wind, starve_at, starve_winding, GoesOn, Opens, Sees, Makes, Returns, keep, one_unit, one_claim, rest_of, LeadsAt, FitsAt}
+use Rattle.visit_log.specs.Machine.{State, at_stage, start, bare, entered_ones, wind, starve_at, starve_winding, GoesOn, Opens, Sees, Makes, Returns, keep, one_visit, one_claim, rest_of, LeadsAt, FitsAt}
 use Rattle.visit_log.specs.Run.{Happening, Told, Dark, Starved, Happens, Runs}
 use Rattle.visit_log.specs.Counts.{slots_in, own_size}
 use Rattle.visit_log.specs.Laws.{WorkersAreCounted}
@@ -47,7 +47,7 @@ rest_length : (fs : List FrameView) → length (rest_of fs) ≤ length fs
 rest_length [] = omega arith
 rest_length (f ∷ fs) = omega arith
 
--- 2. THE UNITS COVER IT. Each visit that is going on may still ask for room, but for one that has
+-- 2. THE DRAWN VISITS COVER IT. Each visit that is going on may still ask for room, but for one that has
 -- asked already.
 
 -- how many visits may still ask for room
@@ -73,11 +73,11 @@ unclaimed_length Claiming fs = omega arith
 unclaimed_length (Posting posted) fs = omega arith
 unclaimed_length (Winding end) fs = omega arith
 
--- the units cover the visits that are going on, and the room that was asked for and may still be
-record IsCovered (st : Stage) (fs : List FrameView) (units room : ℕ) : Type 0 where
-  pub frames : length fs ≤ units
-  pub claims : room + unclaimed st fs ≤ units
-  pub most : units ≤ MOST_EXPANSIONS
+-- the drawn visits cover those that are going on, and the room that was asked for and may still be
+record IsCovered (st : Stage) (fs : List FrameView) (visits room : ℕ) : Type 0 where
+  pub frames : length fs ≤ visits
+  pub claims : room + unclaimed st fs ≤ visits
+  pub most : visits ≤ MOST_EXPANSIONS
 
 -- so it is in a state
 abbrev Covers : State → Type 0
@@ -131,13 +131,13 @@ answers_covered task s t (Polling entry) (Polled true) c fits h =
     winds_covered s t _ c.frames (omega (arith, c.claims)) c.most h
 answers_covered task s t (Polling entry) (Polled false) c fits h =
     subst Covers (sym h) (record { frames = c.frames; claims = c.claims; most = c.most })
-answers_covered task s t (Drawing entry) (Drew (Go unit)) c fits h = elim h [
+answers_covered task s t (Drawing entry) (Drew (Go number)) c fits h = elim h [
   | inl begun ↦ subst Covers (sym begun.1) (record {
     frames = omega (arith, c.frames);
     claims = omega (arith, c.claims);
     most = omega (arith, fits);
   })
-  | inr lost ↦ winds_covered (one_unit s) t NoMemory (omega (arith, c.frames)) (omega (arith, c.claims)) (omega (arith, fits)) lost
+  | inr lost ↦ winds_covered (one_visit s) t NoMemory (omega (arith, c.frames)) (omega (arith, c.claims)) (omega (arith, fits)) lost
 ]
 answers_covered task s t (Drawing entry) (Drew Done) c fits h = winds_covered s t _ c.frames (omega (arith, c.claims)) c.most h
 answers_covered task s t (Drawing entry) (Drew AllDrawn) c fits h = winds_covered s t _ c.frames (omega (arith, c.claims)) c.most h
@@ -179,7 +179,7 @@ runs_covered task s t [] c run = subst Covers run c
 runs_covered task s t (happening ∷ happenings) c run =
     runs_covered task run.0 t happenings (happens_covered task s run.0 happening c run.1) run.2
 
--- A worker has no more visits going on, no more slots and no more room than units.
+-- A worker has no more visits going on, no more slots and no more room than it has drawn visits.
 pub workers_counted : WorkersAreCounted
 workers_counted task happenings s run =
     let c = runs_covered task (start task) s happenings (record { frames = omega arith; claims = omega arith; most = omega arith }) run in
