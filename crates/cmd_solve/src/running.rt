@@ -48,9 +48,14 @@ fn alone_through<S: Source, K: Sink, G: Gate, T: Stop>(
 }
 
 // Reads the text, answers it by all workers, and tells the answer.
-fn solve_through<R: Threads + Wait + Sync, S: Source, K: Sink, G: Gate, T: Stop + Drop>(
+fn solve_through<
+    R: Threads + Wait + AllocGlobal + Sync,
+    S: Source,
+    K: Sink,
+    G: Gate,
+    T: Stop + Drop,
+>(
     rt: &R,
-    alloc: Global,
     asked: &Solve,
     source: &mut S,
     sink: &mut K,
@@ -63,6 +68,7 @@ fn solve_through<R: Threads + Wait + Sync, S: Source, K: Sink, G: Gate, T: Stop 
         (shown S.left S.faults source.old source.new)
         (shown K.kept K.faults sink.old sink.new) result }
 {
+    let alloc = rt.alloc();
     let input = match read(alloc, asked, source) {
         Ok(input) => input,
         Err(ended) => return ended,
@@ -79,9 +85,8 @@ fn solve_through<R: Threads + Wait + Sync, S: Source, K: Sink, G: Gate, T: Stop 
 /// first fault, or is too long; a source or a sink that failed; want of memory. The gate is passed
 /// for each visit of a position, as the worker that visits it (no clause says it). (The tsume rule;
 /// USI protocol: `checkmate`.)
-pub fn solve<R: Threads + Wait + Sync, S: Source, K: Sink, G: Gate, T: Stop + Drop>(
+pub fn solve<R: Threads + Wait + AllocGlobal + Sync, S: Source, K: Sink, G: Gate, T: Stop + Drop>(
     rt: &R,
-    alloc: Global,
     asked: &Solve,
     source: &mut S,
     sink: &mut K,
@@ -143,7 +148,7 @@ pub fn solve<R: Threads + Wait + Sync, S: Source, K: Sink, G: Gate, T: Stop + Dr
 {
     // What stands for a problem has no fault.
     problem_laws();
-    solve_through(rt, alloc, asked, source, sink, gate, stops)
+    solve_through(rt, asked, source, sink, gate, stops)
 }
 
 /// The same by one worker: it waits for nobody, so it returns where source, sink, gate and stops

@@ -10,7 +10,7 @@ use std::fs::{self, Files};
 use std::io::{self, BufWriter, Print, Write};
 use std::sync::Wait;
 use std::thread::Threads;
-use tsume_app::{OpenPipe, WordsRead, run_and_tell};
+use tsume_app::{OpenPipe, Streams, WordsRead, run_and_tell};
 use tsume_io::{MemSink, MemSource};
 
 const ROOM: usize = 65_536;
@@ -53,25 +53,18 @@ fn tell<R: Threads + Wait + AllocGlobal + Sync, W: Write>(
     let alloc = rt.alloc();
     let line = Line::read(text);
     let reads = vec![in alloc; line.number_of("read")]?;
-    let mut source = MemSource::make(line.input(alloc)?, 7, reads);
     let writes = vec![in alloc; line.number_of("write")]?;
-    let mut sink = MemSink::make(alloc, ROOM, 11, writes)?;
-    let mut errors = MemSink::make(alloc, ROOM, 11, Vec::new(alloc))?;
+    let mut streams = Streams {
+        source: MemSource::make(line.input(alloc)?, 7, reads),
+        sink: MemSink::make(alloc, ROOM, 11, writes)?,
+        errors: MemSink::make(alloc, ROOM, 11, Vec::new(alloc))?,
+    };
+    let words = WordsRead::new(alloc, line.words(alloc)?);
     let mut stops = stops_at(alloc, line.number_of("poll"))?;
-    let status = run_and_tell(
-        rt,
-        alloc,
-        WordsRead::new(alloc, line.words(alloc)?),
-        &mut source,
-        &mut sink,
-        &mut errors,
-        &OpenPipe,
-        &OpenGate,
-        &mut stops,
-    );
+    let status = run_and_tell(rt, words, &mut streams, &OpenPipe, &OpenGate, &mut stops);
     write!(output, "$ {text}\nstatus {status}\n")?;
-    write_marked(output, "out ", sink.kept())?;
-    write_marked(output, "err ", errors.kept())
+    write_marked(output, "out ", streams.sink.kept())?;
+    write_marked(output, "err ", streams.errors.kept())
 }
 
 pub fn tell_all<R: Print + Files + Threads + Wait + AllocGlobal + Sync>(rt: &R) -> io::Result<()> {

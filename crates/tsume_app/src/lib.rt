@@ -24,4 +24,4 @@ pub use one_run::Input;
 pub use pipe::{OpenPipe, Pipe};
 pub use program::{named_file, run, told_limit};
 pub use program_words::WordsRead;
-pub use telling::{Told, run_and_tell, start, tell};
+pub use telling::{Streams, Told, run_and_tell, start, tell};

@@ -78,15 +78,13 @@ fn help<K: Sink>(alloc: Global, text: String, sink: &mut K) -> Written<String>
     write(text, bytes, sink)
 }
 
-fn command_ended<R: Threads + Wait + Sync, S: Source, K: Sink, G: Gate, T: Stop + Drop>(
-    rt: &R,
-    alloc: Global,
-    command: &Command,
-    source: &mut S,
-    sink: &mut K,
-    gate: &G,
-    stops: &mut Vec<T>,
-) -> Ended
+fn command_ended<
+    R: Threads + Wait + AllocGlobal + Sync,
+    S: Source,
+    K: Sink,
+    G: Gate,
+    T: Stop + Drop,
+>(rt: &R, command: &Command, source: &mut S, sink: &mut K, gate: &G, stops: &mut Vec<T>) -> Ended
     requires { length stops.old.items ≡ MOST_WORKERS }
     ensures kept { (words : List Word)
         → IsKept result (Some (command_view command.now)) words
@@ -95,17 +93,17 @@ fn command_ended<R: Threads + Wait + Sync, S: Source, K: Sink, G: Gate, T: Stop 
     ensures asked { (fault : ProblemFault) → GivesFault (Some (command_view command.now)) fault
         → result ≡ Ended.Refused (Refusal.Asked fault) }
 {
+    let alloc = rt.alloc();
     match command {
-        Command::Solve(asked) => Ended::Solve(solve(rt, alloc, asked, source, sink, gate, stops)),
+        Command::Solve(asked) => Ended::Solve(solve(rt, asked, source, sink, gate, stops)),
         Command::Check(asked) => check_ended(rt, alloc, asked, source, sink),
         Command::Survey(range) => Ended::Survey(survey(rt, alloc, range, sink)),
         Command::Collection(asked) => Ended::Collection(collection(rt, alloc, asked, source, sink)),
     }
 }
 
-fn words_ended<R: Threads + Wait + Sync, S: Source, K: Sink, G: Gate, T: Stop + Drop>(
+fn words_ended<R: Threads + Wait + AllocGlobal + Sync, S: Source, K: Sink, G: Gate, T: Stop + Drop>(
     rt: &R,
-    alloc: Global,
     words: WordsRead,
     source: &mut S,
     sink: &mut K,
@@ -126,8 +124,8 @@ fn words_ended<R: Threads + Wait + Sync, S: Source, K: Sink, G: Gate, T: Stop + 
         ⊎ (result ≡ Ended.Refused Refusal.NoMemory) }
 {
     match words.into_reading() {
-        Ok(asked) => command_ended(rt, alloc, &asked.command, source, sink, gate, stops),
-        Err(WordsEnd::Help(text)) => Ended::Help(help(alloc, text, sink)),
+        Ok(asked) => command_ended(rt, &asked.command, source, sink, gate, stops),
+        Err(WordsEnd::Help(text)) => Ended::Help(help(rt.alloc(), text, sink)),
         Err(WordsEnd::Fault(fault)) => Ended::Refused(Refusal::Words(fault)),
         Err(WordsEnd::NoMemory) => Ended::Refused(Refusal::NoMemory),
     }
@@ -238,9 +236,8 @@ pub fn told_limit(words: &WordsRead) -> Result<Option<u64>, AllocError>
 /// polls the one at its place. Only `solve` with several workers waits, for them: who asks for
 /// another command may call it in its own crate, without the handle for waiting. (The tsume rule;
 /// USI protocol: `checkmate`.)
-pub fn run<R: Threads + Wait + Sync, S: Source, K: Sink, G: Gate, T: Stop + Drop>(
+pub fn run<R: Threads + Wait + AllocGlobal + Sync, S: Source, K: Sink, G: Gate, T: Stop + Drop>(
     rt: &R,
-    alloc: Global,
     words: WordsRead,
     source: &mut S,
     sink: &mut K,
@@ -273,5 +270,5 @@ pub fn run<R: Threads + Wait + Sync, S: Source, K: Sink, G: Gate, T: Stop + Drop
         → (result ≡ Ended.Refused (Refusal.Asked fault))
         ⊎ (result ≡ Ended.Refused Refusal.NoMemory) }
 {
-    words_ended(rt, alloc, words, source, sink, gate, stops)
+    words_ended(rt, words, source, sink, gate, stops)
 }

@@ -67,11 +67,22 @@ fn tell_if_wanted<K: Sink, P: Pipe>(alloc: Global, ended: &Ended, pipe: &P, erro
     tell(alloc, ended, errors)
 }
 
+/// What a run reads, what it writes its answer to, and what the user is told on.
+#[derive(Drop)]
+pub struct Streams<S, K, E> {
+    /// Where a problem, a certificate or a collection comes from.
+    pub source: S,
+    /// Where the answer goes.
+    pub sink: K,
+    /// Where the user is told of everything else.
+    pub errors: E,
+}
+
 /// Runs the program as [`run`] does, and tells the user how it ended: see [`tell`]. A reader that
 /// closed its pipe made no mistake, so nothing is told of an answer that couldn't be written for
 /// it. What comes back is the exit status.
 pub fn run_and_tell<
-    R: Threads + Wait + Sync,
+    R: Threads + Wait + AllocGlobal + Sync,
     S: Source,
     K: Sink,
     E: Sink,
@@ -80,22 +91,25 @@ pub fn run_and_tell<
     T: Stop + Drop,
 >(
     rt: &R,
-    alloc: Global,
     words: WordsRead,
-    source: &mut S,
-    sink: &mut K,
-    errors: &mut E,
+    streams: &mut Streams<S, K, E>,
     pipe: &P,
     gate: &G,
     stops: &mut Vec<T>,
 ) -> u8
     requires { length stops.old.items ≡ MOST_WORKERS }
     ensures { IsToldRun words (signals T.signal stops.old.items stops.new.items)
-        (shown S.left S.faults source.old source.new) (shown K.kept K.faults sink.old sink.new)
-        (shown E.kept E.faults errors.old errors.new) result }
+        (shown S.left S.faults streams.old.source streams.new.source)
+        (shown K.kept K.faults streams.old.sink streams.new.sink)
+        (shown E.kept E.faults streams.old.errors streams.new.errors) result }
 {
-    let ended = run(rt, alloc, words, source, sink, gate, stops);
-    tell_if_wanted(alloc, &ended, pipe, errors);
+    let Streams {
+        source,
+        sink,
+        errors,
+    } = streams;
+    let ended = run(rt, words, source, sink, gate, stops);
+    tell_if_wanted(rt.alloc(), &ended, pipe, errors);
     ended.status()
 }
 
@@ -255,31 +269,24 @@ fn run_on_file<
         return fail(alloc, Refusal::NoMemory, errors);
     };
     let progress = Progress::new(rt, limit);
-    let mut errors = StdSink::new(Clearing::new(&progress, errors));
     let reader = Front::new(alloc, Remembering::new(opened(rt, &file)));
-    let mut source = StdSource::new(reader);
-    let mut sink = StdSink::new(Clearing::new(&progress, io::writer(rt)));
-    let status = run_and_tell(
-        rt,
-        alloc,
-        words,
-        &mut source,
-        &mut sink,
-        &mut errors,
-        &progress,
-        &progress,
-        &mut stops,
-    );
+    let mut streams = Streams {
+        source: StdSource::new(reader),
+        sink: StdSink::new(Clearing::new(&progress, io::writer(rt))),
+        errors: StdSink::new(Clearing::new(&progress, errors)),
+    };
+    let status = run_and_tell(rt, words, &mut streams, &progress, &progress, &mut stops);
+    let Streams { source, errors, .. } = &mut streams;
     match status {
         0 => progress.tell_used(),
         1 => progress.tell_given_up(),
         3 if is_collection => {
-            tell_of_front(alloc, source.reader().kept(), &mut errors);
+            tell_of_front(alloc, source.reader().kept(), errors);
         }
         _ => {}
     }
     if let Some(reason) = source.reader().reader().reason() {
-        tell_reason(alloc, &file, reason, &mut errors);
+        tell_reason(alloc, &file, reason, errors);
     }
     status
 }

@@ -110,15 +110,8 @@ pub(crate) fn seen_by<R: Threads + Wait + AllocGlobal + Sync, G: Gate, T: Stop +
     let bytes = Vec::from_slice(alloc, input.as_bytes())?;
     let mut from = MemSource::make(bytes, source.0, Vec::from_slice(alloc, &[source.1])?);
     let mut to = MemSink::make(alloc, 65_536, sink.0, Vec::from_slice(alloc, &[sink.1])?)?;
-    let ended = run(
-        rt,
-        alloc,
-        WordsRead::new(alloc, words),
-        &mut from,
-        &mut to,
-        gate,
-        stops,
-    );
+    let words = WordsRead::new(alloc, words);
+    let ended = run(rt, words, &mut from, &mut to, gate, stops);
     let kept = Vec::from_slice(alloc, to.kept())?;
     let (answered, read) = answer_and_input(&ended);
     Ok(Seen {

@@ -7,7 +7,7 @@ use search_gate::OpenGate;
 use std::sync::Wait;
 use std::test::Fail;
 use std::thread::Threads;
-use tsume_app::{OpenPipe, Pipe, WordsRead, run_and_tell};
+use tsume_app::{OpenPipe, Pipe, Streams, WordsRead, run_and_tell};
 use tsume_io::{MemSink, MemSource};
 
 // Words, an input, the failing call of the sink and of the user's sink; the status, and what the
@@ -98,21 +98,15 @@ fn told<R: Threads + Wait + AllocGlobal + Sync, P: Pipe>(
     let alloc = rt.alloc();
     let words = words_of(alloc, line)?;
     let bytes = Vec::from_slice(alloc, input.as_bytes())?;
-    let mut from = MemSource::make(bytes, 7, Vec::new(alloc));
-    let mut to = MemSink::make(alloc, 4096, 11, Vec::from_slice(alloc, &[sink])?)?;
-    let mut errors = MemSink::make(alloc, 4096, 11, Vec::from_slice(alloc, &[user])?)?;
-    let status = run_and_tell(
-        rt,
-        alloc,
-        WordsRead::new(alloc, words),
-        &mut from,
-        &mut to,
-        &mut errors,
-        pipe,
-        &OpenGate,
-        &mut stops_at(alloc, 0)?,
-    );
-    let kept = Vec::from_slice(alloc, errors.kept())?;
+    let mut streams = Streams {
+        source: MemSource::make(bytes, 7, Vec::new(alloc)),
+        sink: MemSink::make(alloc, 4096, 11, Vec::from_slice(alloc, &[sink])?)?,
+        errors: MemSink::make(alloc, 4096, 11, Vec::from_slice(alloc, &[user])?)?,
+    };
+    let words = WordsRead::new(alloc, words);
+    let mut stops = stops_at(alloc, 0)?;
+    let status = run_and_tell(rt, words, &mut streams, pipe, &OpenGate, &mut stops);
+    let kept = Vec::from_slice(alloc, streams.errors.kept())?;
     Ok((status, String::from_utf8(kept)?))
 }
 
