@@ -43,6 +43,18 @@ function checks() {
   tally.end();
 }
 
+// Runs of `check --bound`.
+function bounds() {
+  const tally = new Tally("vectors of bound"), runs = runsIn("bound");
+  if (runs.length === 0) return console.log("vectors of bound: skipped, ../shared/vectors isn't there");
+  for (const run of runs) {
+    if (!textOf(path.join(run, "args")).split("\n").includes("--bound")) continue;
+    const [status, out, err] = ["status", "stdout", "stderr"].map((name) => textOf(path.join(run, name)));
+    tally.expect(run, told(core.checkBound(bytesOf(path.join(run, "stdin")))), told({ status: Number(status), out, err }));
+  }
+  tally.end();
+}
+
 // Certificates of version 2 are refused by their head, until the page reads them.
 function versionTwo() {
   const tally = new Tally("version 2");
@@ -111,6 +123,7 @@ function samples() {
 
 forged();
 checks();
+bounds();
 versionTwo();
 answers();
 large();

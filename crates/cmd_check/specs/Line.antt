@@ -2,7 +2,7 @@
 use Rattle.std.specs.Prelude.{codes}
 use Rattle.clap.specs.Words.{App, Rule, new_app, with_rule}
 use Rattle.search_limits.specs.declared.settings.TheConstants.{MOST_WORKERS}
-use Rattle.tsume_words.specs.Options.{file_word, number_if_any_option, text_option}
+use Rattle.tsume_words.specs.Options.{file_word, flag_option, number_if_any_option, progress_flag, text_option}
 
 -- The workers that check are 1 to 64, and have no default.
 abbrev pub workers_option : Rule
@@ -12,6 +12,14 @@ workers_option = number_if_any_option (codes "workers") 1 MOST_WORKERS
 abbrev pub problem_option : Rule
 problem_option = text_option (codes "problem")
 
--- `check` has the workers, the problem and the file.
+-- The flag that the text has a bound behind its certificate, or a bound alone.
+abbrev pub bound_flag : Rule
+bound_flag = flag_option (codes "bound")
+
+-- `check` has the workers, the problem, the two flags and the file.
 unfoldable pub check_line : App
-check_line = with_rule (with_rule (with_rule (new_app (codes "check")) workers_option) problem_option) file_word
+check_line = with_rule
+    (with_rule
+    (with_rule (with_rule (with_rule (new_app (codes "check")) workers_option) problem_option) bound_flag)
+    progress_flag)
+    file_word

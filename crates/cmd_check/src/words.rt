@@ -6,14 +6,15 @@ ghost use Rattle.clap.specs.Words.{found_of, rows_of, rule_of};
 ghost use Rattle.search_limits.specs.Sizes.{IsFromTo};
 ghost use Rattle.search_limits.specs.declared.settings.TheConstants.{MOST_WORKERS};
 ghost use Rattle.tsume_words.specs.Given.{HasNumberIfAny, number_if_given};
-ghost use Rattle.cmd_check.specs.Line.{problem_option, workers_option};
+ghost use Rattle.cmd_check.specs.Line.{bound_flag, problem_option, workers_option};
+ghost use Rattle.tsume_words.specs.Options.{progress_flag};
 
 use clap::{Arg, ArgMatches, Command};
 use search_limits::MOST_WORKERS;
 use std::alloc::{AllocError, Global};
 use tsume_words::{
-    CommandWords, WordsEnd, file, file_word, number_if_any_option, number_if_given, text,
-    text_option,
+    CommandWords, WordsEnd, file, file_word, flag_option, is_flagged, number_if_any_option,
+    number_if_given, text, text_option,
 };
 
 /// What `check` is asked.
@@ -26,6 +27,11 @@ pub struct Check {
     /// [`MOST_WORKERS`](search_limits::MOST_WORKERS); none where it is as many as there are
     /// processors. It changes no byte.
     pub workers: Option<u32>,
+    /// Whether the text has a bound: behind a mate's certificate, or alone. A run of
+    /// [`check`](crate::check) reads a certificate all the same: another crate reads the other.
+    pub bound: bool,
+    /// Whether the user is told which problem was accepted.
+    pub progress: bool,
     pub ghost workers_in_range: { ForSome workers (IsFromTo 1 MOST_WORKERS) },
 }
 
@@ -61,6 +67,32 @@ fn problem_option<'a>(alloc: Global) -> Arg<'a>
     )
 }
 
+fn bound_flag<'a>(alloc: Global) -> Arg<'a>
+    ensures rule { rule_of result ≡ bound_flag }
+    ensures local { result.global ≡ false }
+{
+    flag_option(
+        alloc,
+        "bound",
+        "Check that no mate is shorter: a mate's certificate and\n\
+         a bound behind it (`shortest N`), or a bound alone\n\
+         (`none within N`). Off unless given; it costs nothing",
+    )
+}
+
+// The flag has the name of that of a search, and another text.
+fn told_flag<'a>(alloc: Global) -> Arg<'a>
+    ensures rule { rule_of result ≡ progress_flag }
+    ensures local { result.global ≡ false }
+{
+    flag_option(
+        alloc,
+        "progress",
+        "Tell on standard error which problem was accepted. Off\n\
+         unless given; it costs nothing",
+    )
+}
+
 fn workers(given: &ArgMatches<'_>) -> Option<u32>
     requires { HasNumberIfAny (codes "workers") 1 MOST_WORKERS (rows_of (found_of given.now)) }
     ensures number { result ≡ number_if_given (codes "workers") (rows_of (found_of given.now)) }
@@ -88,12 +120,16 @@ impl CommandWords for Check {
                 "The moves of that first line aren't compared with the certificate. In `accepted\n\
                  mate N` and `accepted escape N` the number counts the certificate's entries,\n\
                  and not moves.\n\n\
+                 With --bound the answers are `accepted shortest N`: a mate in N of the\n\
+                 attacker's moves, and none shorter; and `accepted none within N`.\n\n\
                  Status: 0 accepted, 7 refused, 2 words refused, 3 no certificate, 4 reading\n\
                  failed, 5 writing failed, 6 out of memory.\n\n\
                  Example:\n  tsume solve problem.sfen | tsume check",
             )
             .arg(workers_option(alloc))?
             .arg(problem_option(alloc))?
+            .arg(bound_flag(alloc))?
+            .arg(told_flag(alloc))?
             .arg(file_word(
                 alloc,
                 "The certificate's file, 268435456 bytes at most; - or none: standard\ninput",
@@ -102,8 +138,15 @@ impl CommandWords for Check {
 
     fn read(alloc: Global, given: &ArgMatches<'_>) -> Result<Check, WordsEnd> {
         let workers = workers(given);
+        let bound = is_flagged(given, "bound");
+        let progress = is_flagged(given, "progress");
         let problem = text(alloc, given, "problem")?;
-        Ok(Check { problem, workers })
+        Ok(Check {
+            problem,
+            workers,
+            bound,
+            progress,
+        })
     }
 
     fn file(alloc: Global, given: &ArgMatches<'_>) -> Result<Option<String>, AllocError> {

@@ -13,7 +13,7 @@ use Rattle.cmd_collection.specs.Words.{IsForCollection, collection_words}
 -- each option is the first of its name
 firsts : Each (IsFirst (shape_of collection_line).rules) (shape_of collection_line).rules
 unfolding collection_line
-firsts = (refl, (refl, (refl, (refl, (refl, (refl, (refl, (refl, (refl, tt)))))))))
+firsts = (refl, (refl, (refl, (refl, (refl, (refl, (refl, (refl, (refl, (refl, tt))))))))))
 
 given : (words : List Text) → Each (GivesValue (rows_after (shape_of collection_line).rules [] words)) (shape_of collection_line).rules
     → IsForCollection (rows_after (shape_of collection_line).rules [] words)
@@ -28,6 +28,7 @@ given words all = record {
   threads = number_if_any _ 1 MOST_THREADS _ all.1.1.1.1.0 refl refl;
   rest = flag_given _ _ all.1.1.1.1.1.0 refl refl refl;
   certificates = flag_given _ _ all.1.1.1.1.1.1.0 refl refl refl;
+  progress = flag_given _ _ all.1.1.1.1.1.1.1.0 refl refl refl;
 }
 
 pub collection_is_given : IsGivenWhereTaken collection_words

@@ -1,7 +1,7 @@
 -- The line of `collection`, in clap's own terms.
 use Rattle.std.specs.Prelude.{codes}
 use Rattle.clap.specs.Words.{App, Rule, new_app, with_rule}
-use Rattle.tsume_words.specs.Options.{expansions_option, file_word, flag_option, number_if_any_option, rest_flag, room_option, rows_option, shards_option}
+use Rattle.tsume_words.specs.Options.{expansions_option, file_word, flag_option, number_if_any_option, progress_flag, rest_flag, room_option, rows_option, shards_option}
 use Rattle.cmd_collection.specs.declared.form.TheConstants.{MOST_THREADS}
 
 -- The threads are 1 to 64, and have no default.
@@ -13,9 +13,10 @@ abbrev pub certificates_flag : Rule
 certificates_flag = flag_option (codes "certificates")
 
 -- `collection` has four numbers, of them 100,000 expansions where nothing is said, the threads, its
--- two flags and the file.
+-- three flags and the file.
 unfoldable pub collection_line : App
 collection_line = with_rule
+    (with_rule
     (with_rule
     (with_rule
     (with_rule
@@ -27,4 +28,5 @@ collection_line = with_rule
     threads_option)
     rest_flag)
     certificates_flag)
+    progress_flag)
     file_word

@@ -9,16 +9,22 @@ use Rattle.cmd_collection.specs.declared.form.CollectionForm.{CollectionForm}
 use Rattle.cmd_collection.specs.Line.{collection_line}
 
 -- How the problems of a collection are decided: whether the defender is given the rest of the
--- pieces, whether certificates are told, and how many problems are decided side by side, where that
--- is said.
+-- pieces, whether certificates are told, how many problems are decided side by side, where that is
+-- said, and whether the user is told how many are decided.
 pub record CollectionView : Type 0 where
   pub rest : Bool
   pub certificates : Bool
   pub threads : Option ℕ
+  pub progress : Bool
 
 -- How the problems of a collection are decided, by its parts.
 abbrev pub collection_in : CollectionForm → CollectionView
-collection_in f = record { rest = f.rest; certificates = f.certificates; threads = f.threads }
+collection_in f = record {
+  rest = f.rest;
+  certificates = f.certificates;
+  threads = f.threads;
+  progress = f.progress;
+}
 
 -- What `collection` is asked: the numbers of each search, and how the problems are decided.
 pub record CollectView : Type 0 where
@@ -31,6 +37,7 @@ pub record IsForCollection (found : List Row) : Type 0 where
   pub threads : HasNumberIfAny (codes "threads") 1 MOST_THREADS found
   pub rest : HasFlag (codes "rest") found
   pub certificates : HasFlag (codes "certificates") found
+  pub progress : HasFlag (codes "progress") found
 
 -- How the problems are decided, by what clap found for `collection`.
 abbrev pub collection_of : List Row → CollectionView
@@ -38,6 +45,7 @@ collection_of found = record {
   rest = is_flagged (codes "rest") found;
   certificates = is_flagged (codes "certificates") found;
   threads = number_if_given (codes "threads") found;
+  progress = is_flagged (codes "progress") found;
 }
 
 -- What is asked for, by what clap found for `collection`. Each search has one worker.

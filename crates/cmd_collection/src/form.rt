@@ -17,5 +17,7 @@ pub struct CollectionForm {
     /// How many problems are decided side by side, 1 to [`MOST_THREADS`]; none where nothing is
     /// said.
     pub threads: Option<u32>,
+    /// Whether the user is told how many lines are decided.
+    pub progress: bool,
     pub ghost threads_in_range: { ForSome threads (IsFromTo 1 MOST_THREADS) },
 }

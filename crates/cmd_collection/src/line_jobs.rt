@@ -1,4 +1,4 @@
-// The lines of a stretch, as jobs that are done side by side.
+// The lines of a round, as jobs that are done side by side.
 use crate::deciding::report_on;
 use crate::{CollectionForm, Reported};
 use problem_lines::Line;

@@ -6,19 +6,14 @@ ghost use Rattle.problem_lines.specs.Lines.{problem_lines, seen};
 ghost use Rattle.cmd_collection.specs.ReportsView.{ReportsView, IsNext};
 ghost use Rattle.cmd_collection.specs.Inside.{IsReportOn};
 
-use crate::line_jobs::LineJobs;
-use crate::{CollectionForm, Report};
+use crate::rounds::{Deciding, Rounds};
+use crate::{CollectionForm, Onlooker, Report};
 use problem_lines::{Line, Lines};
 use search_limits::Settings;
-use search_pool::Table;
-use side_by_side::{MOST_MEMBERS, Team};
 use std::alloc::{AllocError, Global};
 use std::collections::VecDeque;
 use std::marker::Model;
 use std::thread::Threads;
-
-// How many lines of a stretch there are for each thread.
-const LINES_A_THREAD: usize = 32;
 
 /// A line of a collection, and what is told of it.
 #[derive(Drop)]
@@ -30,15 +25,16 @@ pub struct Reported<'a> {
 }
 
 /// Goes over the lines of a collection that hold problems, and gives what is told of each. The
-/// problems of a stretch of lines are decided side by side by a [`Team`], each by a search of its
-/// own with one worker; how many there are in it changes no report (by tests; no clause says it).
-/// Contracts see the settings, the form, and the lines that are still to come.
+/// problems of a stretch of lines are decided side by side by a team, each by a search of its own
+/// with one worker; how many there are in it, about as many as take a second, changes no report
+/// (by tests; no clause says it). Contracts see the settings, the form, and the lines that are
+/// still to come.
 #[derive(Drop)]
 pub struct Reports<'a> {
     lines: Lines<'a>,
     // What was found ahead, in the order of the lines.
     ahead: VecDeque<Reported<'a>>,
-    team: Team<Table, Reported<'a>>,
+    rounds: Rounds<'a>,
     settings: Settings,
     form: CollectionForm,
 }
@@ -56,14 +52,6 @@ impl<'a> Model for Reports<'a> {
     ghost view = { λ r. record { settings = settings_in r.settings; form = collection_in r.form; lines = map (λ one. seen one.line) r.ahead.items ++ r.lines } };
 
     ghost invariant = { λ r. All (λ one. IsReportOn (settings_in r.settings) (collection_in r.form) one.line one.report) r.ahead.items };
-}
-
-// As many threads as the words say, or else as many as there can be.
-fn most_threads(form: &CollectionForm) -> usize {
-    match form.threads {
-        Some(threads) => threads as usize,
-        None => MOST_MEMBERS,
-    }
 }
 
 // The next lines, as many as there are up to this number, which is none only where there are none
@@ -87,29 +75,6 @@ fn stretch<'a>(
     Ok(stretch)
 }
 
-// The reports on lines, in their order.
-fn decided<'a, R: Threads + Sync>(
-    rt: &R,
-    alloc: Global,
-    team: &mut Team<Table, Reported<'a>>,
-    lines: &[Line<'a>],
-    settings: &Settings,
-    form: &CollectionForm,
-) -> Result<VecDeque<Reported<'a>>, AllocError>
-    ensures lines { IfOk result (λ all. map (λ one. one.line) all.items ≡ lines.now) }
-    ensures reports { IfOk result
-        (λ all. All (λ one. IsReportOn (settings_in settings.now) (collection_in form.now) one.line
-        one.report) all.items) }
-{
-    let jobs = LineJobs {
-        lines,
-        settings,
-        form,
-    };
-    let all = team.answers(rt, alloc, &jobs)?;
-    Ok(VecDeque::from(all))
-}
-
 fn has_none(ahead: &VecDeque<Reported<'_>>) -> bool
     ensures none { IsTrue result → ahead.now.items ≡ [] }
     ensures some { ahead.now.items ≡ [] → IsTrue result }
@@ -118,20 +83,19 @@ fn has_none(ahead: &VecDeque<Reported<'_>>) -> bool
 }
 
 // Has reports ahead where none are: those on the next lines, where there are any left.
-fn refill<'a, R: Threads + Sync>(
+fn refill<'a, R: Threads + Sync, O: Onlooker>(
     rt: &R,
     alloc: Global,
     lines: &mut Lines<'a>,
     ahead: &mut VecDeque<Reported<'a>>,
-    team: &mut Team<Table, Reported<'a>>,
-    settings: &Settings,
-    form: &CollectionForm,
+    rounds: &mut Rounds<'a>,
+    deciding: &Deciding<'_, O>,
 ) -> Result<(), AllocError>
-    requires { All (λ one. IsReportOn (settings_in settings.now) (collection_in form.now) one.line
-        one.report) ahead.old.items }
+    requires { All (λ one. IsReportOn (settings_in deciding.now.settings.now)
+        (collection_in deciding.now.form.now) one.line one.report) ahead.old.items }
     ensures reports { All
-        (λ one. IsReportOn (settings_in settings.now) (collection_in form.now) one.line one.report)
-        ahead.new.items }
+        (λ one. IsReportOn (settings_in deciding.now.settings.now)
+        (collection_in deciding.now.form.now) one.line one.report) ahead.new.items }
     ensures same { OnOk result (map (λ one. seen one.line) ahead.old.items ++ lines.old
         ≡ map (λ one. seen one.line) ahead.new.items ++ lines.new) }
     ensures none { OnOk result (ahead.new.items ≡ [] → lines.new ≡ []) }
@@ -139,9 +103,8 @@ fn refill<'a, R: Threads + Sync>(
     if !has_none(ahead) {
         return Ok(());
     }
-    let most = team.size().saturating_mul(LINES_A_THREAD);
-    let stretch = stretch(alloc, lines, most)?;
-    *ahead = decided(rt, alloc, team, &stretch, settings, form)?;
+    let stretch = stretch(alloc, lines, rounds.size())?;
+    *ahead = rounds.decided(rt, alloc, deciding, &stretch)?;
     Ok(())
 }
 
@@ -167,31 +130,38 @@ impl<'a> Reports<'a> {
         Ok(Reports {
             lines: Lines::new(text),
             ahead: VecDeque::new(alloc),
-            team: Team::new(rt, alloc, most_threads(form))?,
+            rounds: Rounds::new(rt, alloc, form)?,
             settings: *settings,
             form: *form,
         })
     }
 
     /// The next line that holds a problem, and what is told of it; none where there is none left.
-    /// Takes memory for the reports on a stretch of lines, and for a table and notes for each
-    /// thread. Errors: want of memory alone, and then nothing more is to be asked.
-    pub fn next<R: Threads + Sync>(
+    /// Who looks on is told of each line of a stretch, where the form says so. Takes memory for the
+    /// reports on a stretch of lines, and for a table and notes for each thread. Errors: want of
+    /// memory alone, and then nothing more is to be asked.
+    pub fn next<R: Threads + Sync, O: Onlooker>(
         &mut self,
         rt: &R,
         alloc: Global,
+        onlooker: &O,
     ) -> Result<Option<Reported<'a>>, AllocError>
         ensures { IfOk result (λ next. MatchOption next ((self.old.lines ≡ [])
             × (self.new ≡ self.old)) (λ one. IsNext self.old (seen one.line) one.report self.new)) }
     {
+        let (settings, form) = (self.settings, self.form);
+        let deciding = Deciding {
+            settings: &settings,
+            form: &form,
+            onlooker,
+        };
         refill(
             rt,
             alloc,
             &mut self.lines,
             &mut self.ahead,
-            &mut self.team,
-            &self.settings,
-            &self.form,
+            &mut self.rounds,
+            &deciding,
         )?;
         Ok(self.ahead.pop_front())
     }

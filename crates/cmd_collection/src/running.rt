@@ -12,8 +12,9 @@ ghost use Rattle.cmd_collection.specs.Meaning.{collection_meaning};
 ghost use Rattle.cmd_collection.specs.Reports.{IsTrueReport};
 ghost use Rattle.cmd_collection.specs.ReportText.{HasReportLine};
 
-use crate::{Collection, Counts, NoFault, Reported, Reports, append_report, counts_text};
+use crate::{Collection, Counts, NoFault, Onlooker, Reported, Reports, append_report, counts_text};
 use one_run::{Ended, Fault, Input, read, write};
+use problem_lines::Lines;
 use std::alloc::{AllocError, Global};
 use std::thread::Threads;
 use tsume_io::{Sink, Source, write_all};
@@ -42,14 +43,33 @@ fn line_text(
     Ok(text)
 }
 
+// How many lines of a text hold a problem.
+fn line_count(text: &[u8]) -> usize {
+    let mut lines = Lines::new(text);
+    for count in 0..text.len() {
+        if lines.next().is_none() {
+            return count;
+        }
+    }
+    text.len()
+}
+
+// Tells who looks on how many lines are to be decided, where that is asked for.
+fn begin<O: Onlooker>(asked: &Collection, input: &[u8], onlooker: &O) {
+    if asked.form.progress {
+        onlooker.begin(line_count(input));
+    }
+}
+
 // Decides the lines of a collection, many at a time, and writes each report in their order once it
 // is known, and the counts behind the last.
-fn collected<R: Threads + Sync, K: Sink>(
+fn collected<R: Threads + Sync, K: Sink, O: Onlooker>(
     rt: &R,
     alloc: Global,
     asked: &Collection,
     input: &[u8],
     sink: &mut K,
+    onlooker: &O,
 ) -> Ended<Counts, NoFault>
     ensures ended { (source : Shown) → IsReadWhole MOST_COLLECTION_BYTES source input.now
         → IsSerialEnd (collection_meaning (collect_in asked.now)) source
@@ -62,7 +82,7 @@ fn collected<R: Threads + Sync, K: Sink>(
     };
     let mut counts = Counts::none();
     loop {
-        let Ok(next) = reports.next(rt, alloc) else {
+        let Ok(next) = reports.next(rt, alloc, onlooker) else {
             return Ended::Failed(Fault::NoMemory, Input::none(alloc));
         };
         let Some(reported) = next else {
@@ -79,19 +99,23 @@ fn collected<R: Threads + Sync, K: Sink>(
 }
 
 // Reads the text, decides its lines and tells of them.
-fn collect_through<R: Threads + Sync, S: Source, K: Sink>(
+fn collect_through<R: Threads + Sync, S: Source, K: Sink, O: Onlooker>(
     rt: &R,
     alloc: Global,
     asked: &Collection,
     source: &mut S,
     sink: &mut K,
+    onlooker: &O,
 ) -> Ended<Counts, NoFault>
     ensures { IsSerialRun (collection_meaning (collect_in asked.now))
         (shown S.left S.faults source.old source.new)
         (shown K.kept K.faults sink.old sink.new) result }
 {
     match read(alloc, asked, source) {
-        Ok(input) => collected(rt, alloc, asked, &input, sink),
+        Ok(input) => {
+            begin(asked, &input, onlooker);
+            collected(rt, alloc, asked, &input, sink, onlooker)
+        }
         Err(ended) => ended,
     }
 }
@@ -99,14 +123,16 @@ fn collect_through<R: Threads + Sync, S: Source, K: Sink>(
 /// Decides every problem of the collection that the source gives, of at most
 /// [`MOST_COLLECTION_BYTES`](crate::MOST_COLLECTION_BYTES), which is read whole first, and writes
 /// to the sink what is told of each line, in order, once it is known, and the counts behind the
-/// last. A line that is no problem doesn't end the run. Errors: a text that is too long; a source
-/// or a sink that failed; want of memory, behind whole lines.
-pub fn collection<R: Threads + Sync, S: Source, K: Sink>(
+/// last. A line that is no problem doesn't end the run. Where it is asked for, who looks on is told
+/// how many lines there are, and of each when it is decided. Errors: a text that is too long; a
+/// source or a sink that failed; want of memory, behind whole lines.
+pub fn collection<R: Threads + Sync, S: Source, K: Sink, O: Onlooker>(
     rt: &R,
     alloc: Global,
     asked: &Collection,
     source: &mut S,
     sink: &mut K,
+    onlooker: &O,
 ) -> Ended<Counts, NoFault>
     // In plain words. Where it was answered, each line that holds a problem was told by a true
     // report, in their order, and the counts behind them.
@@ -126,5 +152,5 @@ pub fn collection<R: Threads + Sync, S: Source, K: Sink>(
         → ¬ Rose (S.faults source.old) (S.faults source.new)
         → ¬ Rose (K.faults sink.old) (K.faults sink.new) → IsAnswered result ⊎ WantsMemory result }
 {
-    collect_through(rt, alloc, asked, source, sink)
+    collect_through(rt, alloc, asked, source, sink, onlooker)
 }

@@ -4,6 +4,7 @@ ghost use Rattle.std.specs.Option.{ForSome};
 ghost use Rattle.clap.specs.Words.{found_of, rows_of, rule_of};
 ghost use Rattle.search_limits.specs.Sizes.{IsFromTo};
 ghost use Rattle.tsume_words.specs.Given.{HasNumberIfAny, number_if_given};
+ghost use Rattle.tsume_words.specs.Options.{progress_flag};
 ghost use Rattle.cmd_collection.specs.declared.form.TheConstants.{MOST_THREADS};
 ghost use Rattle.cmd_collection.specs.Line.{certificates_flag, threads_option};
 ghost use Rattle.cmd_collection.specs.Words.{IsForCollection, collection_in, collection_of};
@@ -48,6 +49,20 @@ fn certificates_flag<'a>(alloc: Global) -> Arg<'a>
     )
 }
 
+fn progress_flag<'a>(alloc: Global) -> Arg<'a>
+    ensures rule { rule_of result ≡ progress_flag }
+    ensures local { result.global ≡ false }
+{
+    flag_option(
+        alloc,
+        "progress",
+        "Tell on standard error, about once a second, how many\n\
+             problems of how many are decided, of them m mates, n\n\
+             without one, u unknown and f faults, and for how long\n\
+             it has run. The output stays the same. Off unless given",
+    )
+}
+
 fn threads(given: &ArgMatches<'_>) -> Option<u32>
     requires { HasNumberIfAny (codes "threads") 1 MOST_THREADS (rows_of (found_of given.now)) }
     ensures number { result ≡ number_if_given (codes "threads") (rows_of (found_of given.now)) }
@@ -66,10 +81,12 @@ fn collection_form(given: &ArgMatches<'_>) -> CollectionForm
     let rest = is_flagged(given, "rest");
     let certificates = is_flagged(given, "certificates");
     let threads = threads(given);
+    let progress = is_flagged(given, "progress");
     CollectionForm {
         rest,
         certificates,
         threads,
+        progress,
     }
 }
 
@@ -104,6 +121,7 @@ impl CommandWords for Collection {
             .arg(threads_option(alloc))?
             .arg(rest_flag(alloc))?
             .arg(certificates_flag(alloc))?
+            .arg(progress_flag(alloc))?
             .arg(file_word(
                 alloc,
                 "The text's file, 16777216 bytes at most; - or none: standard input",

@@ -3,6 +3,7 @@ use crate::lines::words_of;
 use crate::same::same;
 use cmd_collection::{Reports, append_report};
 use program_words::{Command, read_words};
+use search_gate::OpenGate;
 use std::alloc::{AllocError, Global};
 use std::sync::Wait;
 use std::test::Fail;
@@ -30,7 +31,7 @@ fn told<R: Threads + Wait + AllocGlobal + Sync>(
     };
     if let Command::Collection(asked) = asked.command {
         let mut reports = Reports::new(rt, alloc, text.as_bytes(), &asked.settings, &asked.form)?;
-        while let Some(reported) = reports.next(rt, alloc)? {
+        while let Some(reported) = reports.next(rt, alloc, &OpenGate)? {
             append_report(
                 &mut out,
                 reported.line.number,
@@ -65,7 +66,7 @@ fn turns(alloc: Global, count: usize, fault: usize) -> Result<(String, String), 
 
 #[test]
 fn any_number_of_threads_tells_the_same(rt: HostRuntime) -> Result<(), Fail> {
-    // More lines than one thread takes at a time, and than two do.
+    // More lines than there are in several rounds, each of twice as many as the one before.
     let (text, wanted) = turns(rt.alloc(), 70, 33)?;
     for threads in [" --threads 1", " --threads 2", " --threads 64", ""] {
         let line = format!(in rt.alloc(); "collection --rows 16 --room 100{threads}")?;

@@ -1,8 +1,10 @@
 // Whole runs over a source and a sink in memory.
+mod bounds;
 mod certificates;
 mod diagrams;
 mod examples;
 mod failing;
+mod looked_on;
 mod seen;
 mod stopped;
 mod telling;

@@ -16,7 +16,7 @@ use tsume_words::{Format, WordsEnd};
 // problem, and `by` the workers; and the file. Of the commands over many problems the seed, the
 // count and the expansions; or the settings, whether `--rest` stands, `told` where `--certificates`
 // does, and `by` the threads.
-static ASKED: [(&str, &str); 59] = [
+static ASKED: [(&str, &str); 61] = [
     ("solve", "solve 1 1000000 1000000000 65536 64 false"),
     ("solve --rest", "solve 1 1000000 1000000000 65536 64 true"),
     (
@@ -122,6 +122,14 @@ static ASKED: [(&str, &str); 59] = [
     (
         "collection --threads 64",
         "collection 1 100000 1000000000 65536 64 false by 64",
+    ),
+    (
+        "collection --progress",
+        "collection 1 100000 1000000000 65536 64 false telling",
+    ),
+    (
+        "collection --threads 2 --progress a.sfen",
+        "collection 1 100000 1000000000 65536 64 false telling by 2 of a.sfen",
     ),
     (
         "collection --expansions 1",
@@ -309,8 +317,8 @@ static REFUSED: [(&str, &str); 39] = [
         "error: unexpected argument '--deadline' found",
     ),
     (
-        "collection --progress",
-        "error: unexpected argument '--progress' found",
+        "collection --progress=yes",
+        "error: unexpected value 'yes' for '--progress' found; no more were expected",
     ),
     (
         "solve --threads 2",
@@ -319,7 +327,7 @@ static REFUSED: [(&str, &str); 39] = [
 ];
 
 // A request for help or for the version, and a part of its text.
-static HELPED: [(&str, &str); 28] = [
+static HELPED: [(&str, &str); 29] = [
     ("--version", "tsume 0.1.0\n"),
     ("-V --help", "tsume 0.1.0\n"),
     ("--help", "Usage: tsume <COMMAND>\n"),
@@ -404,6 +412,10 @@ static HELPED: [(&str, &str); 28] = [
         "collection -h",
         "\n      --threads <N>     Problems that are decided side by side, 1 to 64; where\n                        nothing is said, as many as there are processors. It\n",
     ),
+    (
+        "collection --help",
+        "\n      --progress        Tell on standard error, about once a second, how many\n",
+    ),
     ("check --help", "-h, --help            Print help\n"),
 ];
 
@@ -474,8 +486,9 @@ fn collection_text(alloc: Global, asked: &Collection) -> Result<String, AllocErr
     } = asked.settings;
     let rest = asked.form.rest;
     let told = if asked.form.certificates { " told" } else { "" };
+    let telling = if asked.form.progress { " telling" } else { "" };
     let collection = format!(in alloc;
-        "collection {workers} {expansions} {room} {rows} {shards} {rest}{told}"
+        "collection {workers} {expansions} {room} {rows} {shards} {rest}{told}{telling}"
     )?;
     match asked.form.threads {
         Some(threads) => format!(in alloc; "{collection} by {threads}"),

@@ -2,6 +2,7 @@
 use app_texts::ProblemFault;
 use cert_text::CertFault;
 use explanations::Trouble;
+use shortest_text::ShortestFault;
 use std::alloc::{AllocError, Global};
 
 /// What may be wrong with a command's text: its line for the user, and what explains it.
@@ -63,5 +64,23 @@ impl Explained for CertFault {
 
     fn trouble(&self) -> Option<Trouble> {
         Some(Trouble::Certificate(*self))
+    }
+}
+
+impl Explained for ShortestFault {
+    ghost use Rattle.explanations.specs.Shown.{IsPlain};
+    ghost use Rattle.shortest_text.specs.FaultText.{shortest_fault_text};
+
+    ghost text_of = { shortest_fault_text };
+
+    ghost MayFollow = { λ fault explanation. IsPlain explanation };
+
+    fn line(&self, alloc: Global) -> Result<String, AllocError> {
+        format!(in alloc; "{self}")
+    }
+
+    // The lines before the certificate aren't those that its explanations count.
+    fn trouble(&self) -> Option<Trouble> {
+        None
     }
 }

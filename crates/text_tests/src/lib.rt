@@ -1,5 +1,5 @@
-//! The public calls on texts (moves, positions, certificates, bounds, collections) and on problems
-//! by number, by examples.
+//! The public calls on texts (moves, positions, certificates, bounds, shortest mates, collections)
+//! and on problems by number, by examples.
 //!
 //! The tests of this layer stand here and not in its libraries, so that no library is proved twice.
 //! Without tests this crate is empty.
@@ -23,3 +23,5 @@ mod moves;
 mod same;
 #[cfg(test)]
 mod sfen;
+#[cfg(test)]
+mod shortest;

@@ -1,5 +1,5 @@
 -- What a run of the program did: what the command promises that the words asked for.
-use Rattle.std.specs.Prelude.{◌≡◌, ◌⊎◌, List, Option, Some, None, String, ⊤, string_bytes}
+use Rattle.std.specs.Prelude.{◌≡◌, ◌⊎◌, true, false, List, Option, Some, None, String, ⊤, string_bytes}
 use Rattle.std.specs.Global.{Global}
 use Rattle.clap.specs.Words.{Text as Word}
 use Rattle.program_words.specs.Commands.{CommandView}
@@ -13,6 +13,7 @@ use Rattle.one_run.specs.Written.{Statement, IsStatedRun}
 use Rattle.cmd_solve.specs.Headline.{IsSolveRun}
 use Rattle.cmd_check.specs.Asked.{IsFaultInWords, AnyProblemIsSound}
 use Rattle.cmd_check.specs.Headline.{IsCheckRun}
+use Rattle.cmd_bound.specs.Headline.{IsBoundRun}
 use Rattle.cmd_survey.specs.Headline.{IsSurveyRun}
 use Rattle.cmd_collection.specs.Headline.{IsCollectionRun}
 use Rattle.tsume_app.specs.declared.ended.Ended.{Ended}
@@ -57,7 +58,9 @@ abbrev pub IsKept : Ended → Option CommandView → List Word → Signals → S
 IsKept (ends.Solve ended) (Some (to_solve asked)) words stops source sink =
     IsSolveRun asked stops source sink ended
 IsKept (ends.Check ended) (Some (to_check asked)) words stops source sink =
-    IsCheckRun asked.problem source sink ended × AreUnused stops
+    (asked.bound ≡ false) × IsCheckRun asked.problem source sink ended × AreUnused stops
+IsKept (ends.Bound ended) (Some (to_check asked)) words stops source sink =
+    (asked.bound ≡ true) × IsBoundRun asked.problem source sink ended × AreUnused stops
 IsKept (ends.Survey ended) (Some (to_survey range)) words stops source sink =
     IsSurveyRun range sink ended × IsUnasked stops source
 IsKept (ends.Collection ended) (Some (to_collect asked)) words stops source sink =

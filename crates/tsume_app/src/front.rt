@@ -5,7 +5,7 @@ use std::alloc::Global;
 use std::io;
 
 // The most bytes that are kept.
-const MOST_KEPT: usize = 4_096;
+const MOST_KEPT: usize = 16_384;
 
 /// A reader that keeps the first bytes of what it reads, so that the user can be told what they
 /// look like.

@@ -18,8 +18,9 @@ ghost use Rattle.tsume_app.specs.Told.{limit_told};
 
 use crate::ended::{Ended, Refusal};
 use app_texts::ProblemFault;
+use cmd_bound::check_with_bound;
 use cmd_check::{Check, asked_problem, check};
-use cmd_collection::collection;
+use cmd_collection::{Onlooker, collection};
 use cmd_solve::solve;
 use cmd_survey::survey;
 use one_run::{Written, write};
@@ -65,7 +66,13 @@ fn check_ended<R: Threads + Sync, S: Source, K: Sink>(
     // No text stands for two problems.
     problem_laws();
     match asked_problem(asked) {
-        Ok(problem) => Ended::Check(check(rt, alloc, asked, &problem, source, sink)),
+        Ok(problem) => {
+            if asked.bound {
+                Ended::Bound(check_with_bound(rt, alloc, asked, &problem, source, sink))
+            } else {
+                Ended::Check(check(rt, alloc, asked, &problem, source, sink))
+            }
+        }
         Err(fault) => Ended::Refused(Refusal::Asked(fault)),
     }
 }
@@ -82,7 +89,7 @@ fn command_ended<
     R: Threads + Wait + AllocGlobal + Sync,
     S: Source,
     K: Sink,
-    G: Gate,
+    G: Gate + Onlooker,
     T: Stop + Drop,
 >(rt: &R, command: &Command, source: &mut S, sink: &mut K, gate: &G, stops: &mut Vec<T>) -> Ended
     requires { length stops.old.items ≡ MOST_WORKERS }
@@ -98,18 +105,19 @@ fn command_ended<
         Command::Solve(asked) => Ended::Solve(solve(rt, asked, source, sink, gate, stops)),
         Command::Check(asked) => check_ended(rt, alloc, asked, source, sink),
         Command::Survey(range) => Ended::Survey(survey(rt, alloc, range, sink)),
-        Command::Collection(asked) => Ended::Collection(collection(rt, alloc, asked, source, sink)),
+        Command::Collection(asked) => {
+            Ended::Collection(collection(rt, alloc, asked, source, sink, gate))
+        }
     }
 }
 
-fn words_ended<R: Threads + Wait + AllocGlobal + Sync, S: Source, K: Sink, G: Gate, T: Stop + Drop>(
-    rt: &R,
-    words: WordsRead,
-    source: &mut S,
-    sink: &mut K,
-    gate: &G,
-    stops: &mut Vec<T>,
-) -> Ended
+fn words_ended<
+    R: Threads + Wait + AllocGlobal + Sync,
+    S: Source,
+    K: Sink,
+    G: Gate + Onlooker,
+    T: Stop + Drop,
+>(rt: &R, words: WordsRead, source: &mut S, sink: &mut K, gate: &G, stops: &mut Vec<T>) -> Ended
     requires { length stops.old.items ≡ MOST_WORKERS }
     ensures kept { IsKept result (command_of words) words
         (signals T.signal stops.old.items stops.new.items)
@@ -201,6 +209,17 @@ pub fn told_limit(words: &WordsRead) -> Result<Option<u64>, AllocError>
     }
 }
 
+/// Whether the words ask that the user be told which problem was accepted. No clause depends on it.
+pub(crate) fn tells_accepted(words: &WordsRead) -> bool {
+    match words.reading() {
+        Ok(asked) => match &asked.command {
+            Command::Check(asked) => asked.progress,
+            _ => false,
+        },
+        Err(_) => false,
+    }
+}
+
 /// Runs the program on the words of the command line, those behind the program's name, which were
 /// read ([`WordsRead::new`](program_words::WordsRead::new)). What they ask for is what clap says of
 /// them, and three tests after it; words that are refused end the run before anything is read. So
@@ -214,6 +233,8 @@ pub fn told_limit(words: &WordsRead) -> Result<Option<u64>, AllocError>
 /// that it is unknown, and why. `check` reads a certificate, perhaps behind the line of the USI
 /// answer, and writes whether it is valid for its own problem, or for the one that `--problem`
 /// gives (SFEN), or the first reason why it isn't; a certificate of another problem isn't valid for
+/// it. With `--bound` it reads a mate's certificate with a bound behind it, or a bound alone, and
+/// writes that no mate is shorter, that there is none within so many moves, or what speaks against
 /// it. Positions are compared, and not texts. A `--problem` that is none refuses the words, before
 /// anything is read.
 ///
@@ -230,20 +251,20 @@ pub fn told_limit(words: &WordsRead) -> Result<Option<u64>, AllocError>
 /// problem or no certificate, with its first fault; a source or a sink whose count of faults rose;
 /// want of memory. The whole text is made before the first write, but for a collection, whose
 /// reports are written one by one. `solve` passes the gate for each visit of a position,
-/// as the worker that visits it (no clause says it), and no other command does. The stops, one for
+/// as the worker that visits it (no clause says it), and no other command does. Where the
+/// words ask for it, `collection` tells the gate which lines are decided. The stops, one for
 /// each worker that there may be, are armed once, with the deadline that the words give or with
 /// none, when `solve` has accepted its problem, and before that they aren't used; then each worker
 /// polls the one at its place. Only `solve` with several workers waits, for them: who asks for
 /// another command may call it in its own crate, without the handle for waiting. (The tsume rule;
 /// USI protocol: `checkmate`.)
-pub fn run<R: Threads + Wait + AllocGlobal + Sync, S: Source, K: Sink, G: Gate, T: Stop + Drop>(
-    rt: &R,
-    words: WordsRead,
-    source: &mut S,
-    sink: &mut K,
-    gate: &G,
-    stops: &mut Vec<T>,
-) -> Ended
+pub fn run<
+    R: Threads + Wait + AllocGlobal + Sync,
+    S: Source,
+    K: Sink,
+    G: Gate + Onlooker,
+    T: Stop + Drop,
+>(rt: &R, words: WordsRead, source: &mut S, sink: &mut K, gate: &G, stops: &mut Vec<T>) -> Ended
     requires { length stops.old.items ≡ MOST_WORKERS }
     // Whatever command ended the run is the one that the words asked for, and it kept all that it
     // promises, clause by clause: see `solve`, `check`, `survey` and `collection` of their crates.

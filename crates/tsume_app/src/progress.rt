@@ -2,13 +2,18 @@
 ghost use Rattle.std.specs.Prelude.{◌≡◌};
 
 use crate::pipe::Pipe;
+use app_texts::Solution;
+use cmd_collection::{Onlooker, Report};
 use search_gate::Gate;
 use std::sync::atomic::{AtomicBool, AtomicU64, Ordering};
 use std::time::Clock;
 use std::{fmt, io};
 
-// At least so many milliseconds lie between two lines.
+// At least so many milliseconds lie between two lines of how far a search has come.
 const PAUSE: u64 = 250;
+
+// The same of a collection.
+const LONG_PAUSE: u64 = 1_000;
 
 /// A number with a comma before each three digits, up to a billion, which no search passes.
 #[derive(Clone, Copy, Debug)]
@@ -45,7 +50,8 @@ impl fmt::Display for Grouped {
 
 /// A gate that tells the user for how long a search has run, how many visits all its workers made,
 /// and how many a second, a few times a second and each time over the line before; where it isn't
-/// asked to, it is an open gate. It remembers too where the reader of a pipe went away.
+/// asked to, it is an open gate. Of a collection, on which it looks, it tells how many lines are
+/// decided, about once a second. It remembers too where the reader of a pipe went away.
 #[derive(Drop)]
 pub(crate) struct Progress<'a, R> {
     system: &'a R,
@@ -58,6 +64,40 @@ pub(crate) struct Progress<'a, R> {
     passed: AtomicU64,
     is_shown: AtomicBool,
     is_closed: AtomicBool,
+    lines: Lines,
+}
+
+// How many lines a collection has that hold a problem, and how many of them are decided, and how.
+#[derive(Drop)]
+struct Lines {
+    all: AtomicU64,
+    mates: AtomicU64,
+    no_mates: AtomicU64,
+    unknowns: AtomicU64,
+    faults: AtomicU64,
+}
+
+impl Lines {
+    fn new() -> Lines {
+        Lines {
+            all: AtomicU64::new(0),
+            mates: AtomicU64::new(0),
+            no_mates: AtomicU64::new(0),
+            unknowns: AtomicU64::new(0),
+            faults: AtomicU64::new(0),
+        }
+    }
+
+    // Counts one more that was decided.
+    fn count(&self, report: &Report) {
+        let counted = match report {
+            Report::Solved(Solution::Mate(_, _)) => &self.mates,
+            Report::Solved(Solution::NoMate(_)) => &self.no_mates,
+            Report::Solved(Solution::Unknown(_, _)) => &self.unknowns,
+            Report::Fault(_) => &self.faults,
+        };
+        counted.fetch_add(1, Ordering::SeqCst);
+    }
 }
 
 // How many visits were made a second, of so many in so many milliseconds.
@@ -80,6 +120,15 @@ impl<'a, R: io::Eprint + Clock> Progress<'a, R> {
             passed: AtomicU64::new(0),
             is_shown: AtomicBool::new(false),
             is_closed: AtomicBool::new(false),
+            lines: Lines::new(),
+        }
+    }
+
+    // The system's time in milliseconds, where it is told.
+    fn time(&self) -> Option<u64> {
+        match self.system.monotonic() {
+            Ok(time) => Some(u64::try_from(time.as_millis()).unwrap_or(u64::MAX)),
+            Err(_) => None,
         }
     }
 
@@ -99,15 +148,15 @@ impl<'a, R: io::Eprint + Clock> Progress<'a, R> {
         }
     }
 
-    // Whether it is time for a line; then the next one waits.
-    fn is_due(&self, now: u64) -> bool {
+    // Whether it is time for a line; then the next one waits so long.
+    fn is_due(&self, now: u64, pause: u64) -> bool {
         let due = self.due.load(Ordering::SeqCst);
         now >= due
             && self
                 .due
                 .compare_exchange(
                     due,
-                    now.saturating_add(PAUSE),
+                    now.saturating_add(pause),
                     Ordering::SeqCst,
                     Ordering::SeqCst,
                 )
@@ -124,6 +173,30 @@ impl<'a, R: io::Eprint + Clock> Progress<'a, R> {
             Grouped(pace(used, passed))
         )
         .ok();
+    }
+
+    // Tells, over the line before, how many lines of a collection are decided, and how, as far as
+    // 40 columns allow.
+    fn tell_lines(&self, passed: u64) {
+        self.is_shown.store(true, Ordering::SeqCst);
+        let all = self.lines.all.load(Ordering::SeqCst);
+        let mates = self.lines.mates.load(Ordering::SeqCst);
+        let no_mates = self.lines.no_mates.load(Ordering::SeqCst);
+        let unknowns = self.lines.unknowns.load(Ordering::SeqCst);
+        let faults = self.lines.faults.load(Ordering::SeqCst);
+        let done = mates
+            .saturating_add(no_mates)
+            .saturating_add(unknowns)
+            .saturating_add(faults);
+        let seconds = passed / 1_000;
+        eprint!(self.system; "\r                                       \r{done}/{all}").ok();
+        if all < 1_000 || all < 10_000 && seconds < 100 {
+            eprint!(self.system; " m{mates} n{no_mates} u{unknowns} f{faults}, {seconds} s").ok();
+        } else if all < 1_000_000 {
+            eprint!(self.system; " u{unknowns} f{faults}, {seconds} s").ok();
+        } else {
+            eprint!(self.system; ", {seconds} s").ok();
+        }
     }
 
     /// Clears the line, where one is shown.
@@ -187,18 +260,41 @@ impl<'a, R: io::Eprint + Clock + Sync> Gate for Progress<'a, R> {
             return;
         }
         let used = self.used.fetch_add(1, Ordering::SeqCst).saturating_add(1);
-        let Ok(time) = self.system.monotonic() else {
+        let Some(now) = self.time() else {
             return;
         };
-        let now = u64::try_from(time.as_millis()).unwrap_or(u64::MAX);
         let passed = self.passed_till(now);
         // Written once a millisecond at most, since all workers share it.
         if passed > self.passed.load(Ordering::SeqCst) {
             self.passed.store(passed, Ordering::SeqCst);
         }
-        if self.is_due(now) {
+        if self.is_due(now, PAUSE) {
             self.tell(used, passed);
         }
+    }
+}
+
+impl<'a, R: io::Eprint + Clock> Onlooker for Progress<'a, R> {
+    fn now(&self) -> u64 {
+        self.time().unwrap_or(0)
+    }
+
+    fn begin(&self, lines: usize) {
+        self.lines.all.store(lines as u64, Ordering::SeqCst);
+    }
+
+    fn begin_round(&self) {
+        let Some(now) = self.time() else {
+            return;
+        };
+        let passed = self.passed_till(now);
+        if self.is_due(now, LONG_PAUSE) {
+            self.tell_lines(passed);
+        }
+    }
+
+    fn see(&self, report: &Report) {
+        self.lines.count(report);
     }
 }
 

@@ -9,8 +9,9 @@ use crate::ended::{Ended, Refusal};
 use crate::exit::Exit;
 use crate::front::Front;
 use crate::pipe::Pipe;
-use crate::program::{named_file, run, told_limit};
+use crate::program::{named_file, run, tells_accepted, told_limit};
 use crate::progress::{Clearing, Progress};
+use cmd_collection::Onlooker;
 use explanations::{Trouble, explain};
 use program_words::WordsRead;
 use search_gate::{DeadlineStop, Gate, Stop};
@@ -87,7 +88,7 @@ pub fn run_and_tell<
     K: Sink,
     E: Sink,
     P: Pipe,
-    G: Gate,
+    G: Gate + Onlooker,
     T: Stop + Drop,
 >(
     rt: &R,
@@ -223,6 +224,28 @@ fn tell_of_front<K: Sink>(alloc: Global, front: &[u8], errors: &mut K) -> Told {
     Told::Whole
 }
 
+// The problem of a text that begins so and was accepted, where these bytes reach so far.
+fn accepted_problem(front: &[u8]) -> Option<&str> {
+    let text = str::from_utf8(front).ok()?;
+    let (_, behind) = text.split_once("\nproblem ")?;
+    let (sfen, _) = behind.split_once("\n")?;
+    Some(sfen)
+}
+
+// Tells the user which problem was accepted.
+fn tell_accepted<K: Sink>(alloc: Global, front: &[u8], errors: &mut K) -> Told {
+    let Some(sfen) = accepted_problem(front) else {
+        return Told::Nothing;
+    };
+    let Ok(line) = format!(in alloc; "problem {sfen}\n") else {
+        return Told::Nothing;
+    };
+    if write_all(errors, line.as_bytes()).is_err() {
+        return Told::InPart;
+    }
+    Told::Whole
+}
+
 // Whether the words are those of `collection`.
 fn are_for_collection(words: &[String]) -> bool {
     words
@@ -268,6 +291,7 @@ fn run_on_file<
     let Ok(limit) = told_limit(&words) else {
         return fail(alloc, Refusal::NoMemory, errors);
     };
+    let tells_accepted = tells_accepted(&words);
     let progress = Progress::new(rt, limit);
     let reader = Front::new(alloc, Remembering::new(opened(rt, &file)));
     let mut streams = Streams {
@@ -278,6 +302,9 @@ fn run_on_file<
     let status = run_and_tell(rt, words, &mut streams, &progress, &progress, &mut stops);
     let Streams { source, errors, .. } = &mut streams;
     match status {
+        0 if tells_accepted => {
+            tell_accepted(alloc, source.reader().kept(), errors);
+        }
         0 => progress.tell_used(),
         1 => progress.tell_given_up(),
         3 if is_collection => {
@@ -297,7 +324,9 @@ fn run_on_file<
 /// what was read and what the system said. Where the words ask for progress, a line of how far the
 /// search has come is written a few times a second, each over the one before, and cleared when the
 /// answer is written or the user is told of a fault; behind the answer a line tells how many visits
-/// it took, and where the search gave up, how to let it go on. Where the text of a collection with
+/// it took, and where the search gave up, how to let it go on. Of a collection a line tells so,
+/// about once a second, how many problems are decided; and behind the answer of `check` one tells
+/// the problem that was accepted. Where the text of a collection with
 /// a fault begins as a record does, the user is told so once. What comes back ends the process with
 /// the exit status.
 pub fn start<

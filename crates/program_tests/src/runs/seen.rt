@@ -3,6 +3,7 @@ ghost use Rattle.std.specs.Prelude.{◌≡◌, IfOk, length, vec_len};
 ghost use Rattle.search_limits.specs.declared.settings.TheConstants.{MOST_WORKERS};
 
 use crate::lines::words_of;
+use cmd_collection::Onlooker;
 use one_run::Written;
 use search_gate::{Gate, MemStop, OpenGate, Stop};
 use search_limits::MOST_WORKERS;
@@ -44,6 +45,7 @@ fn answer_and_input(ended: &Ended) -> (bool, usize) {
     match ended {
         Ended::Solve(ended) => own(ended),
         Ended::Check(ended) => own(ended),
+        Ended::Bound(ended) => own(ended),
         Ended::Survey(ended) => own_written(ended),
         Ended::Collection(ended) => own(ended),
         Ended::Help(ended) => own_written(ended),
@@ -91,7 +93,7 @@ pub(crate) fn seen_of<R: Threads + Wait + AllocGlobal + Sync>(
 }
 
 // The same, with this gate and these stops.
-pub(crate) fn seen_by<R: Threads + Wait + AllocGlobal + Sync, G: Gate, T: Stop + Drop>(
+pub(crate) fn seen_by<R: Threads + Wait + AllocGlobal + Sync, G: Gate + Onlooker, T: Stop + Drop>(
     rt: &R,
     line: &str,
     input: &str,

@@ -5,6 +5,7 @@ ghost use Rattle.search_limits.specs.declared.settings.TheConstants.{MOST_WORKER
 use super::examples::{NO_CHECK_TEXT, TWO_ROOKS, TWO_ROOKS_TEXT};
 use super::seen::{seen_by, stops_at};
 use crate::same::same;
+use cmd_collection::{Onlooker, Report};
 use search_gate::{Clock, DeadlineStop, Gate, OpenGate};
 use search_limits::MOST_WORKERS;
 use std::alloc::{AllocError, Global};
@@ -26,6 +27,18 @@ impl Gate for Counting {
             self.wrong.fetch_add(1, Ordering::SeqCst);
         }
     }
+}
+
+impl Onlooker for Counting {
+    fn now(&self) -> u64 {
+        0
+    }
+
+    fn begin(&self, _lines: usize) {}
+
+    fn begin_round(&self) {}
+
+    fn see(&self, _report: &Report) {}
 }
 
 #[test]

@@ -17,7 +17,7 @@ returns-in-Ok g c =
     let source = shown g.S.Source.left g.S.Source.faults c.args.source.now c.read.new.source in
     let sink = shown g.K.Sink.kept g.K.Sink.faults c.args.sink.now c.collected.new.sink in
     serial_run (collection_meaning (collect_in c.args.asked.now)) source sink c.collected.result
-    (c.collected.ensures.ended source (subst (λ (i : List ℕ). IsReadWhole MOST_COLLECTION_BYTES source i) (sym c.deref.ensures.value) c.in-Ok.ensures.whole))
+    (c.collected.ensures.ended source (subst (λ (i : List ℕ). IsReadWhole MOST_COLLECTION_BYTES source i) (sym c.deref-in-Ok.ensures.value) c.in-Ok.ensures.whole))
     (c.collected.ensures.counted source c.in-Ok.ensures.kept)
 
 pub returns-in-Err : goal.returns-in-Err

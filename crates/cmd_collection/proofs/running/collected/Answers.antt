@@ -1,4 +1,4 @@
-use Rattle.std.proofs.Common.{ℕ, List, sym, subst}
+use Rattle.std.proofs.Common.{ℕ, List, ap, sym, subst}
 use Rattle.tsume_io.specs.Sink.{GrewBy, GrewByPrefix}
 use Rattle.problem_lines.specs.Lines.{problem_lines, seen}
 use Rattle.one_run.specs.declared.ended.Ended.{Ended}
@@ -6,15 +6,27 @@ use Rattle.one_run.specs.declared.ended.Ended.TheVariants.{Failed}
 use Rattle.one_run.specs.declared.ended.Fault.TheVariants.{NoMemory}
 use Rattle.one_run.specs.Outside.{shown}
 use Rattle.one_run.specs.Run.{IsCounted}
-use Rattle.one_run.specs.Serial.{IsSerialEnd}
-use Rattle.one_run.proofs.Offered.{so_far_counted, so_far_cut, so_far_wanted, so_far_whole}
+use Rattle.one_run.specs.Serial.{AreSoFar, IsSerialEnd}
+use Rattle.one_run.proofs.Offered.{so_far_counted, so_far_cut, so_far_none, so_far_wanted, so_far_whole}
 use Rattle.cmd_collection.specs.declared.asked.NoFault.{NoFault}
 use Rattle.cmd_collection.specs.declared.counts.Counts.{Counts}
 use Rattle.cmd_collection.specs.Asked.{collect_in}
 use Rattle.cmd_collection.specs.Counts.{counts_text}
 use Rattle.cmd_collection.specs.Meaning.{collection_meaning}
+use Rattle.cmd_collection.specs.ReportsView.{ReportsView}
 use Rattle.cmd_collection.proofs.Following.{next_is, none_is, told_by, so_far_next}
 use Rattle.cmd_collection.proofs.running.collected.Goals as goal
+
+pub loop-next-init : goal.loop-next-init
+loop-next-init g c =
+    let asked = collect_in c.args.asked.now in
+    let all = problem_lines c.args.input.now in
+    let sink = shown g.K.Sink.kept g.K.Sink.faults c.args.sink.now c.args.sink.now in (
+      subst (λ (r : ReportsView). AreSoFar (collection_meaning asked) all r.lines sink c.none-counts.result) (sym c.in-Ok.ensures)
+          (so_far_none (collection_meaning asked) all (g.K.Sink.kept c.args.sink.now) (g.K.Sink.faults c.args.sink.now) c.none-counts.result c.none-counts.ensures.counts),
+      ap (λ (r : ReportsView). r.settings) c.in-Ok.ensures,
+      ap (λ (r : ReportsView). r.form) c.in-Ok.ensures,
+    )
 
 pub returns-in_default-next-clause-ended : goal.returns-in_default-next-clause-ended
 returns-in_default-next-clause-ended g c = λ source read.

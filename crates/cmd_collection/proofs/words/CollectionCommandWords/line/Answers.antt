@@ -16,6 +16,7 @@ returns c =
     let t = c.threads_option.ensures in
     let f = c.rest_flag.ensures in
     let p = c.certificates_flag.ensures in
+    let g = c.progress_flag.ensures in
     let w_file = c.file_word.ensures in
     let no_0 = ap (λ f. f.has_globals) c.after_help.ensures ∙ (ap (λ f. f.has_globals) c.about.ensures ∙ c.new.ensures.local) in
     let one = c.in_ok-arg.ensures.shape e.local ∙ ap₂ with_rule bare e.rule in
@@ -32,7 +33,9 @@ returns c =
     let no_6 = stays_local _ _ _ c.in_ok-arg-6.ensures.globals no_5 f.local in
     let seven = c.in_ok-arg-7.ensures.shape p.local ∙ ap₂ with_rule six p.rule in
     let no_7 = stays_local _ _ _ c.in_ok-arg-7.ensures.globals no_6 p.local in
+    let eight = c.in_ok-arg-8.ensures.shape g.local ∙ ap₂ with_rule seven g.rule in
+    let no_8 = stays_local _ _ _ c.in_ok-arg-8.ensures.globals no_7 g.local in
     record {
-      app = IfOk-weaker c.arg-8.result _ _ (λ r adds. adds.shape w_file.local ∙ ap₂ with_rule seven w_file.rule) c.arg-8.ensures;
-      local = IfOk-weaker c.arg-8.result _ _ (λ r adds. stays_local _ _ _ adds.globals no_7 w_file.local) c.arg-8.ensures;
+      app = IfOk-weaker c.arg-9.result _ _ (λ r adds. adds.shape w_file.local ∙ ap₂ with_rule eight w_file.rule) c.arg-9.ensures;
+      local = IfOk-weaker c.arg-9.result _ _ (λ r adds. stays_local _ _ _ adds.globals no_8 w_file.local) c.arg-9.ensures;
     }

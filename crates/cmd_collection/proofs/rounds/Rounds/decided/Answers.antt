@@ -7,7 +7,7 @@ use Rattle.cmd_collection.specs.Words.{collection_in}
 use Rattle.cmd_collection.specs.Inside.{IsReportOn}
 use Rattle.cmd_collection.proofs.Places.{told_in_order, all_told}
 use Rattle.cmd_collection.proofs.Sent.{reported_send}
-use Rattle.cmd_collection.proofs.reports.decided.Goals as goal
+use Rattle.cmd_collection.proofs.rounds.Rounds.decided.Goals as goal
 
 pub answers-requires-send-T : goal.answers-requires-send-T
 answers-requires-send-T g c κs within = search (table_send, sendable) depth 20
@@ -18,9 +18,9 @@ answers-requires-send-A g c κs within = search (reported_send, sendable) depth 
 pub returns-clause-lines : goal.returns-clause-lines
 returns-clause-lines g c =
     ap (map (λ one. one.line)) c.from.ensures.0
-    ∙ told_in_order (settings_in c.args.settings.now) (collection_in c.args.form.now) c.args.lines.now c.in_ok-all.all.items c.in_ok-all.ensures
+    ∙ told_in_order (settings_in c.args.deciding.now.settings.now) (collection_in c.args.deciding.now.form.now) c.args.lines.now c.in_ok-all.all.items c.in_ok-all.ensures
 
 pub returns-clause-reports : goal.returns-clause-reports
 returns-clause-reports g c =
-    subst (All (λ one. IsReportOn (settings_in c.args.settings.now) (collection_in c.args.form.now) one.line one.report)) (sym c.from.ensures.0)
-    (all_told (settings_in c.args.settings.now) (collection_in c.args.form.now) c.args.lines.now c.in_ok-all.all.items c.in_ok-all.ensures)
+    subst (All (λ one. IsReportOn (settings_in c.args.deciding.now.settings.now) (collection_in c.args.deciding.now.form.now) one.line one.report)) (sym c.from.ensures.0)
+    (all_told (settings_in c.args.deciding.now.settings.now) (collection_in c.args.deciding.now.form.now) c.args.lines.now c.in_ok-all.all.items c.in_ok-all.ensures)

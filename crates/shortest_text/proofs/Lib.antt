@@ -1,0 +1,6 @@
+pub mod Cuts
+pub mod Parts
+pub mod Ends
+pub mod Fronts
+pub mod Again
+pub mod Outcomes
