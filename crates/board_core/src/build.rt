@@ -78,7 +78,8 @@ impl Position {
     }
 }
 
-// Whether there are more pieces of the kind than a set has: of so many on the board and in the hands.
+// Whether there are more pieces of the kind than a set has: of so many on the board and in the
+// hands.
 fn is_too_many(standing: Hand, black: Hand, white: Hand, kind: Kind) -> bool
     requires { kind ≢ King }
     ensures { IsTrue result ↔ (total_of kind

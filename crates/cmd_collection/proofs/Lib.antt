@@ -1,4 +1,4 @@
-pub mod Alone
+pub mod Finding
 pub mod Following
 pub mod Places
 pub mod Sent

@@ -10,6 +10,7 @@ use Rattle.cmd_collection.specs.declared.asked.TheConstants.{MOST_COLLECTION_BYT
 use Rattle.cmd_collection.specs.declared.asked.NoFault.{NoFault}
 use Rattle.cmd_collection.specs.declared.counts.Counts.{Counts}
 use Rattle.cmd_collection.specs.Meaning.{collection_meaning}
+use Rattle.cmd_collection.specs.Reports.{MeansStopped}
 use Rattle.cmd_collection.specs.Words.{CollectView}
 
 -- All lines of a collection that hold a problem were decided, and the report of each was written in
@@ -26,6 +27,7 @@ pub record IsTextGiven (left : Option (List ℕ)) : Type 0 where
 -- A run of `collection` kept all that it promises, clause by clause, for whoever hands it on.
 pub record IsCollectionRun (asked : CollectView) (source sink : Shown) (ended : Ended Counts NoFault) : Type 0 where
   pub collected : (counts : Counts) → ended ≡ Answered counts → IsCollected asked source sink counts
+  pub stopped : MeansStopped asked.settings asked.form
   pub run : IsSerialRun (collection_meaning asked) source sink ended
   pub complete : IsTextGiven source.told → ¬ Rose source.faults source.faults_after
       → ¬ Rose sink.faults sink.faults_after → IsAnswered ended ⊎ WantsMemory ended

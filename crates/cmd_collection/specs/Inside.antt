@@ -1,5 +1,5 @@
 -- What the private functions of this crate say of one another; no public clause cites these.
-use Rattle.std.specs.Prelude.{◌≡◌, ℕ, List, Some, slice_get}
+use Rattle.std.specs.Prelude.{◌≡◌, ◌<◌, ℕ, List, Some, Result, IfOk, length, slice_get}
 use Rattle.cmd_collection.specs.Words.{CollectionView}
 use Rattle.search_limits.specs.Sizes.{SettingsView}
 use Rattle.cmd_collection.specs.declared.report.Report.{Report}
@@ -18,3 +18,10 @@ pub record IsReportOn (settings : SettingsView) (form : CollectionView) (line : 
 pub record IsReportedAt (settings : SettingsView) (form : CollectionView) (lines : List Line) (place : ℕ) (one : Reported) : Type 0 where
   pub line : slice_get lines place ≡ Some one.line
   pub report : IsReportOn settings form one.line one.report
+
+-- What decides a line may be asked for each line, and tells of it what may be told.
+pub record CanDecide {A T E : Type 0} (settings : SettingsView) (form : CollectionView) (lines : List Line)
+    (pre : A → T → ℕ → Type 0) (post : A → T → ℕ → Result Reported E → T → Type 0) : Type 0 where
+  pub may : (alloc : A) (table : T) (number : ℕ) → number < length lines → pre alloc table number
+  pub tells : (alloc : A) (table : T) (number : ℕ) (result : Result Reported E) (after : T) → post alloc table number result after
+      → IfOk result (IsReportedAt settings form lines number)

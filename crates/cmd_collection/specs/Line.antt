@@ -1,7 +1,7 @@
 -- The line of `collection`, in clap's own terms.
 use Rattle.std.specs.Prelude.{codes}
 use Rattle.clap.specs.Words.{App, Rule, new_app, with_rule}
-use Rattle.tsume_words.specs.Options.{expansions_option, file_word, flag_option, number_if_any_option, progress_flag, rest_flag, room_option, rows_option, shards_option}
+use Rattle.tsume_words.specs.Options.{deadline_option, expansions_option, file_word, flag_option, number_if_any_option, progress_flag, rest_flag, room_option, rows_option, shards_option}
 use Rattle.cmd_collection.specs.declared.form.TheConstants.{MOST_THREADS}
 
 -- The threads are 1 to 64, and have no default.
@@ -12,10 +12,11 @@ threads_option = number_if_any_option (codes "threads") 1 MOST_THREADS
 abbrev pub certificates_flag : Rule
 certificates_flag = flag_option (codes "certificates")
 
--- `collection` has four numbers, of them 100,000 expansions where nothing is said, the threads, its
--- three flags and the file.
+-- `collection` has four numbers, of them 100,000 expansions where nothing is said, the threads, the
+-- deadline, its three flags and the file.
 unfoldable pub collection_line : App
 collection_line = with_rule
+    (with_rule
     (with_rule
     (with_rule
     (with_rule
@@ -26,6 +27,7 @@ collection_line = with_rule
     rows_option)
     shards_option)
     threads_option)
+    deadline_option)
     rest_flag)
     certificates_flag)
     progress_flag)

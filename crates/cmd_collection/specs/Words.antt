@@ -3,6 +3,7 @@ use Rattle.std.specs.Prelude.{ℕ, Bool, List, Option, codes}
 use Rattle.clap.specs.Words.{Row}
 use Rattle.tsume_words.specs.Given.{HasFlag, HasNumberIfAny, IsForSearch, file_of, is_flagged, number_if_given, settings_by}
 use Rattle.tsume_words.specs.Meaning.{CommandMeaning, search_tests}
+use Rattle.tsume_words.specs.declared.watch.TheConstants.{MOST_DEADLINE}
 use Rattle.search_limits.specs.Sizes.{SettingsView}
 use Rattle.cmd_collection.specs.declared.form.TheConstants.{MOST_THREADS}
 use Rattle.cmd_collection.specs.declared.form.CollectionForm.{CollectionForm}
@@ -10,11 +11,13 @@ use Rattle.cmd_collection.specs.Line.{collection_line}
 
 -- How the problems of a collection are decided: whether the defender is given the rest of the
 -- pieces, whether certificates are told, how many problems are decided side by side, where that is
--- said, and whether the user is told how many are decided.
+-- said, after how many milliseconds each search gives up, if at all, and whether the user is told
+-- how many are decided.
 pub record CollectionView : Type 0 where
   pub rest : Bool
   pub certificates : Bool
   pub threads : Option ℕ
+  pub deadline : Option ℕ
   pub progress : Bool
 
 -- How the problems of a collection are decided, by its parts.
@@ -23,6 +26,7 @@ collection_in f = record {
   rest = f.rest;
   certificates = f.certificates;
   threads = f.threads;
+  deadline = f.deadline;
   progress = f.progress;
 }
 
@@ -35,6 +39,7 @@ pub record CollectView : Type 0 where
 pub record IsForCollection (found : List Row) : Type 0 where
   pub numbers : IsForSearch found
   pub threads : HasNumberIfAny (codes "threads") 1 MOST_THREADS found
+  pub deadline : HasNumberIfAny (codes "deadline") 1 MOST_DEADLINE found
   pub rest : HasFlag (codes "rest") found
   pub certificates : HasFlag (codes "certificates") found
   pub progress : HasFlag (codes "progress") found
@@ -45,6 +50,7 @@ collection_of found = record {
   rest = is_flagged (codes "rest") found;
   certificates = is_flagged (codes "certificates") found;
   threads = number_if_given (codes "threads") found;
+  deadline = number_if_given (codes "deadline") found;
   progress = is_flagged (codes "progress") found;
 }
 

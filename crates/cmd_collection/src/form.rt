@@ -1,6 +1,7 @@
 // How the problems of a collection are decided.
 ghost use Rattle.std.specs.Option.{ForSome};
 ghost use Rattle.search_limits.specs.Sizes.{IsFromTo};
+ghost use Rattle.tsume_words.specs.declared.watch.TheConstants.{MOST_DEADLINE};
 ghost use Rattle.cmd_collection.specs.declared.form.TheConstants.{MOST_THREADS};
 
 /// The most problems of a collection that are decided side by side.
@@ -17,7 +18,12 @@ pub struct CollectionForm {
     /// How many problems are decided side by side, 1 to [`MOST_THREADS`]; none where nothing is
     /// said.
     pub threads: Option<u32>,
+    /// After how many milliseconds each search gives up, 1 to
+    /// [`MOST_DEADLINE`](tsume_words::MOST_DEADLINE), counted from when it begins; none where each
+    /// may take as long as it needs.
+    pub deadline: Option<u64>,
     /// Whether the user is told how many lines are decided.
     pub progress: bool,
     pub ghost threads_in_range: { ForSome threads (IsFromTo 1 MOST_THREADS) },
+    pub ghost deadline_in_range: { ForSome deadline (IsFromTo 1 MOST_DEADLINE) },
 }

@@ -6,7 +6,8 @@
 //! them; what is told of one line is a [`Report`] ([`append_report`]), and behind the last the
 //! [`Counts`] ([`counts_text`]). [`Reports`] goes over the lines: a search of its own decides each,
 //! many at a time over threads, and the reports come in the order of the lines. An [`Onlooker`] is
-//! told which lines are decided, and has the clock by which many lines are written at a time.
+//! told which lines are decided, and has the clock by which many lines are written at a time, and a
+//! search is stopped whose deadline has passed.
 //! [`collection`] is one run of the command, whose clauses are what it promises, in plain words
 //! first.
 #![tactic(auto)]
@@ -16,6 +17,7 @@ mod counts;
 mod deciding;
 mod form;
 mod line_jobs;
+mod looker_clock;
 mod onlooker;
 mod report;
 mod report_text;

@@ -1,30 +1,41 @@
 // The lines of a round, as jobs that are done side by side.
-use crate::deciding::report_on;
-use crate::{CollectionForm, Reported};
+ghost use Rattle.std.specs.Prelude.{◌<◌, IfOk, length};
+ghost use Rattle.search_limits.specs.Settings.{settings_in};
+ghost use Rattle.side_by_side.specs.Answers.{AreAnswers};
+ghost use Rattle.cmd_collection.specs.Words.{collection_in};
+ghost use Rattle.cmd_collection.specs.Inside.{IsReportedAt};
+
+use crate::deciding::{Deciding, report_on};
+use crate::{CollectionForm, Onlooker, Reported};
 use problem_lines::Line;
 use search_limits::Settings;
 use search_pool::Table;
-use side_by_side::Jobs;
+use side_by_side::{Jobs, Team};
 use std::alloc::{AllocError, Global};
+use std::thread::Threads;
 
-/// Lines that are to be decided, with these settings and in this form.
-#[derive(Clone, Copy)]
-pub(crate) struct LineJobs<'b, 'a> {
-    pub(crate) lines: &'b [Line<'a>],
-    pub(crate) settings: &'b Settings,
-    pub(crate) form: &'b CollectionForm,
+// Lines that are to be decided, with these settings and in this form, and what decides one of them.
+#[derive(Drop)]
+struct LineJobs<'b, 'a, F> {
+    lines: &'b [Line<'a>],
+    settings: &'b Settings,
+    form: &'b CollectionForm,
+    decide: F,
 }
 
 // The problem of each line is searched over the thread's table.
-impl<'b, 'a> Jobs for LineJobs<'b, 'a> {
+impl<'b, 'a, F: Fn(Global, &mut Table, usize) -> Result<Reported<'a>, AllocError> + Sync> Jobs
+    for LineJobs<'b, 'a, F> {
     ghost use Rattle.std.specs.Prelude.{length};
     ghost use Rattle.cmd_collection.specs.Words.{collection_in};
     ghost use Rattle.search_limits.specs.Settings.{settings_in};
-    ghost use Rattle.cmd_collection.specs.Inside.{IsReportedAt};
+    ghost use Rattle.cmd_collection.specs.Inside.{CanDecide, IsReportedAt};
 
     type Tools = Table;
 
     type Answer = Reported<'a>;
+
+    ghost is_ready = { λ jobs. CanDecide (settings_in jobs.settings.now) (collection_in jobs.form.now) jobs.lines.now (F.pre jobs.decide) (F.post jobs.decide) };
 
     ghost size = { λ jobs. length jobs.lines.now };
 
@@ -44,8 +55,50 @@ impl<'b, 'a> Jobs for LineJobs<'b, 'a> {
         tools: &mut Table,
         number: usize,
     ) -> Result<Reported<'a>, AllocError> {
-        let line = self.lines[number];
-        let report = report_on(alloc, tools, &line, self.settings, self.form)?;
-        Ok(Reported { line, report })
+        (self.decide)(alloc, tools, number)
     }
+}
+
+// What is told of the line of a number.
+fn report_at<'a, O: Onlooker>(
+    alloc: Global,
+    table: &mut Table,
+    deciding: &Deciding<'_, O>,
+    lines: &[Line<'a>],
+    number: usize,
+) -> Result<Reported<'a>, AllocError>
+    requires { number < length lines.now }
+    ensures { IfOk result (IsReportedAt (settings_in deciding.now.settings.now)
+        (collection_in deciding.now.form.now) lines.now number) }
+{
+    let line = lines[number];
+    let report = report_on(alloc, table, &line, deciding)?;
+    Ok(Reported { line, report })
+}
+
+/// The reports on these lines, which a team makes side by side. Errors: want of memory alone.
+pub(crate) fn reports_by<'a, R: Threads + Sync, O: Onlooker>(
+    rt: &R,
+    alloc: Global,
+    team: &mut Team<Table, Reported<'a>>,
+    deciding: &Deciding<'_, O>,
+    lines: &[Line<'a>],
+) -> Result<Vec<Reported<'a>>, AllocError>
+    ensures { IfOk result (λ all. AreAnswers (length lines.now)
+        (IsReportedAt (settings_in deciding.now.settings.now)
+        (collection_in deciding.now.form.now) lines.now) all.items) }
+{
+    // A closure, since a method of an impl can't hand what is its own to a search that a thread
+    // may run.
+    let jobs = LineJobs {
+        lines,
+        settings: deciding.settings,
+        form: deciding.form,
+        decide: |alloc: Global, table: &mut Table, number: usize| -> Result<Reported, AllocError>
+            requires { number < length lines.now }
+            ensures { IfOk result (IsReportedAt (settings_in deciding.entry.now.settings.now)
+                (collection_in deciding.entry.now.form.now) lines.entry.now number) }
+        { report_at(alloc, table, deciding, lines, number) },
+    };
+    team.answers(rt, alloc, &jobs)
 }

@@ -3,8 +3,9 @@ use crate::Report;
 use search_gate::OpenGate;
 
 /// Who looks on while the lines of a collection are decided, round by round, and has the clock that
-/// rounds go by. It answers nothing else, so no report depends on it.
-pub trait Onlooker {
+/// rounds and deadlines go by. It answers nothing else, so no report depends on it but for one of a
+/// search that its deadline stopped.
+pub trait Onlooker: Sync {
     /// How many milliseconds have passed since a start of its own.
     fn now(&self) -> u64;
 

@@ -6,7 +6,8 @@ ghost use Rattle.problem_lines.specs.Lines.{problem_lines, seen};
 ghost use Rattle.cmd_collection.specs.ReportsView.{ReportsView, IsNext};
 ghost use Rattle.cmd_collection.specs.Inside.{IsReportOn};
 
-use crate::rounds::{Deciding, Rounds};
+use crate::deciding::Deciding;
+use crate::rounds::Rounds;
 use crate::{CollectionForm, Onlooker, Report};
 use problem_lines::{Line, Lines};
 use search_limits::Settings;

@@ -4,10 +4,10 @@ ghost use Rattle.cmd_collection.specs.Words.{collection_in};
 ghost use Rattle.search_limits.specs.Settings.{settings_in};
 ghost use Rattle.cmd_collection.specs.Inside.{IsReportOn};
 
-use crate::line_jobs::LineJobs;
+use crate::deciding::Deciding;
+use crate::line_jobs::reports_by;
 use crate::{CollectionForm, Onlooker, Reported};
 use problem_lines::Line;
-use search_limits::Settings;
 use search_pool::Table;
 use side_by_side::{MOST_MEMBERS, Team};
 use std::alloc::{AllocError, Global};
@@ -21,15 +21,7 @@ const ROUND: u64 = 1_000;
 // one; and at most.
 const LEAST_LINES_A_THREAD: usize = 4;
 
-const MOST_LINES_A_THREAD: usize = 1_024;
-
-/// By what lines are decided: the numbers of each search, the form, and who looks on.
-#[derive(Drop)]
-pub(crate) struct Deciding<'b, O> {
-    pub(crate) settings: &'b Settings,
-    pub(crate) form: &'b CollectionForm,
-    pub(crate) onlooker: &'b O,
-}
+const MOST_LINES_A_THREAD: usize = 32;
 
 /// A team that decides lines in rounds: it has the time of one tell how many lines are in the next.
 #[derive(Drop)]
@@ -107,12 +99,7 @@ impl<'a> Rounds<'a> {
     {
         begin_round(deciding);
         let begun = deciding.onlooker.now();
-        let jobs = LineJobs {
-            lines,
-            settings: deciding.settings,
-            form: deciding.form,
-        };
-        let all = self.team.answers(rt, alloc, &jobs)?;
+        let all = reports_by(rt, alloc, &mut self.team, deciding, lines)?;
         let passed = deciding.onlooker.now().saturating_sub(begun);
         self.size = next_size(lines.len(), passed, self.team.size());
         see_all(deciding, &all);

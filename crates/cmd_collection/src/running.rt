@@ -9,7 +9,7 @@ ghost use Rattle.cmd_collection.specs.declared.asked.TheConstants.{MOST_COLLECTI
 ghost use Rattle.cmd_collection.specs.Asked.{collect_in};
 ghost use Rattle.cmd_collection.specs.Headline.{IsCollected, IsTextGiven};
 ghost use Rattle.cmd_collection.specs.Meaning.{collection_meaning};
-ghost use Rattle.cmd_collection.specs.Reports.{IsTrueReport};
+ghost use Rattle.cmd_collection.specs.Reports.{IsTrueReport, MeansStopped};
 ghost use Rattle.cmd_collection.specs.ReportText.{HasReportLine};
 
 use crate::{Collection, Counts, NoFault, Onlooker, Reported, Reports, append_report, counts_text};
@@ -124,7 +124,8 @@ fn collect_through<R: Threads + Sync, S: Source, K: Sink, O: Onlooker>(
 /// [`MOST_COLLECTION_BYTES`](crate::MOST_COLLECTION_BYTES), which is read whole first, and writes
 /// to the sink what is told of each line, in order, once it is known, and the counts behind the
 /// last. A line that is no problem doesn't end the run. Where it is asked for, who looks on is told
-/// how many lines there are, and of each when it is decided. Errors: a text that is too long; a
+/// how many lines there are, and of each when it is decided. Where there is a deadline, each search
+/// polls a stop of its own, which is armed anew when it begins. Errors: a text that is too long; a
 /// source or a sink that failed; want of memory, behind whole lines.
 pub fn collection<R: Threads + Sync, S: Source, K: Sink, O: Onlooker>(
     rt: &R,
@@ -139,6 +140,10 @@ pub fn collection<R: Threads + Sync, S: Source, K: Sink, O: Onlooker>(
     ensures collected { (counts : Counts) → result ≡ Ended.Answered counts
         → IsCollected (collect_in asked.now) (shown S.left S.faults source.old source.new)
         (shown K.kept K.faults sink.old sink.new) counts }
+
+    // A true report that says `unknown stopped` is of a line whose search had a deadline, and was
+    // stopped by it: its stop rose. So without a deadline none says so.
+    ensures stopped { MeansStopped (collect_in asked.now).settings (collect_in asked.now).form }
 
     // In full: how it ended, what was written where it is cut short or fails, and the cause of each
     // fault; the counts of faults rise only where the run ends for it.

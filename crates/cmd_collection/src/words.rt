@@ -4,7 +4,8 @@ ghost use Rattle.std.specs.Option.{ForSome};
 ghost use Rattle.clap.specs.Words.{found_of, rows_of, rule_of};
 ghost use Rattle.search_limits.specs.Sizes.{IsFromTo};
 ghost use Rattle.tsume_words.specs.Given.{HasNumberIfAny, number_if_given};
-ghost use Rattle.tsume_words.specs.Options.{progress_flag};
+ghost use Rattle.tsume_words.specs.Options.{deadline_option, progress_flag};
+ghost use Rattle.tsume_words.specs.declared.watch.TheConstants.{MOST_DEADLINE};
 ghost use Rattle.cmd_collection.specs.declared.form.TheConstants.{MOST_THREADS};
 ghost use Rattle.cmd_collection.specs.Line.{certificates_flag, threads_option};
 ghost use Rattle.cmd_collection.specs.Words.{IsForCollection, collection_in, collection_of};
@@ -13,9 +14,9 @@ use crate::{Collection, CollectionForm, MOST_THREADS};
 use clap::{Arg, ArgMatches, Command};
 use std::alloc::{AllocError, Global};
 use tsume_words::{
-    CommandWords, WordsEnd, expansions_option, file, file_word, flag_option, is_flagged,
-    number_if_any_option, number_if_given, rest_flag, room_option, rows_option, settings,
-    shards_option,
+    CommandWords, MOST_DEADLINE, WordsEnd, expansions_option, file, file_word, flag_option,
+    is_flagged, number_if_any_option, number_if_given, rest_flag, room_option, rows_option,
+    settings, shards_option,
 };
 
 fn threads_option<'a>(alloc: Global) -> Arg<'a>
@@ -30,9 +31,26 @@ fn threads_option<'a>(alloc: Global) -> Arg<'a>
         MOST_THREADS,
         "Problems that are decided side by side, 1 to 64; where\n\
              nothing is said, as many as there are processors. It\n\
-             changes no byte of the output. Each takes the memory\n\
+             changes no byte of the output, unless there is a\n\
+             deadline. Each takes the memory\n\
              of a search: a table of so many rows, 64 MB where\n\
              nothing is said of them, and its notes",
+    )
+}
+
+fn deadline_option<'a>(alloc: Global) -> Arg<'a>
+    ensures rule { rule_of result ≡ deadline_option }
+    ensures local { result.global ≡ false }
+{
+    number_if_any_option(
+        alloc,
+        "deadline",
+        "MS",
+        1,
+        MOST_DEADLINE,
+        "Milliseconds after which each search gives up, 1 to\n\
+             86400000 (a day), counted from when it begins. Which\n\
+             ones do depends on the machine. Default: no end in time",
     )
 }
 
@@ -74,6 +92,14 @@ fn threads(given: &ArgMatches<'_>) -> Option<u32>
     }
 }
 
+fn deadline(given: &ArgMatches<'_>) -> Option<u64>
+    requires { HasNumberIfAny (codes "deadline") 1 MOST_DEADLINE (rows_of (found_of given.now)) }
+    ensures number { result ≡ number_if_given (codes "deadline") (rows_of (found_of given.now)) }
+    ensures range { ForSome result (IsFromTo 1 MOST_DEADLINE) }
+{
+    number_if_given(given, "deadline")
+}
+
 fn collection_form(given: &ArgMatches<'_>) -> CollectionForm
     requires { IsForCollection (rows_of (found_of given.now)) }
     ensures { collection_in result ≡ collection_of (rows_of (found_of given.now)) }
@@ -81,11 +107,13 @@ fn collection_form(given: &ArgMatches<'_>) -> CollectionForm
     let rest = is_flagged(given, "rest");
     let certificates = is_flagged(given, "certificates");
     let threads = threads(given);
+    let deadline = deadline(given);
     let progress = is_flagged(given, "progress");
     CollectionForm {
         rest,
         certificates,
         threads,
+        deadline,
         progress,
     }
 }
@@ -119,6 +147,7 @@ impl CommandWords for Collection {
             .arg(rows_option(alloc))?
             .arg(shards_option(alloc))?
             .arg(threads_option(alloc))?
+            .arg(deadline_option(alloc))?
             .arg(rest_flag(alloc))?
             .arg(certificates_flag(alloc))?
             .arg(progress_flag(alloc))?

@@ -33,8 +33,8 @@ const LOOKS: u32 = 10_000;
 // How often a search is tried whose worker was away for longer than the other one waits.
 const TRIES: u32 = 100;
 
-// Lets one of two workers at a time run from visit to visit, once both have drawn their first: worker
-// 1 begins.
+// Lets one of two workers at a time run from visit to visit, once both have drawn their first:
+// worker 1 begins.
 #[derive(Drop)]
 struct Turns {
     // How many visits each has drawn.
@@ -115,8 +115,8 @@ impl Gate for Turns {
     }
 }
 
-// What two workers in turn had drawn when the first ended, and whether worker 2 drew the first visit
-// of all; none where one of them was away for too long.
+// What two workers in turn had drawn when the first ended, and whether worker 2 drew the first
+// visit of all; none where one of them was away for too long.
 fn drawn_in_turn<R: Threads + Wait + Sync>(
     rt: &R,
     alloc: Global,

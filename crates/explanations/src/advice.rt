@@ -44,7 +44,7 @@ pub(crate) fn advice_on_diagram_look(look: Look) -> Option<&'static str>
 {
     match look {
         Look::Blank => Some(
-            "The input is empty. With --kif a problem is the board diagram of a KIF file.\n",
+            "The input is empty. A KIF file has a board diagram: lines that begin with |.\n",
         ),
         Look::Utf16 => Some("The text looks like UTF-16. Save it as UTF-8.\n"),
         Look::GaveUp => Some(ON_GIVING_UP),
@@ -146,7 +146,7 @@ pub(crate) fn advice_on_diagram(fault: KifFault) -> &'static str
 {
     match fault {
         KifFault::NotUtf8(_) => {
-            "Expected: UTF-8. Many KIF files are Shift-JIS, which can be converted:\niconv -f CP932 -t UTF-8 FILE | tsume solve --kif\n"
+            "Expected: UTF-8. Many KIF files are Shift-JIS, which can be converted:\niconv -f CP932 -t UTF-8 FILE > NEW_FILE\n"
         }
         KifFault::HandicapName(_) => {
             "Names of a handicap game aren't read. Write 先手 for 下手 (Black) and 後手 for\n上手 (White), or leave the line out.\n"
@@ -168,7 +168,7 @@ pub(crate) fn advice_on_diagram(fault: KifFault) -> &'static str
             "Expected: each piece once in a hand, with its count behind it: 金二 and not\n金　金\n"
         }
         KifFault::NoDiagram => {
-            "Expected: nine rows of a diagram, lines that begin with |, before the moves.\nMoves aren't played: save the position with its diagram.\n"
+            "Expected: nine rows of a diagram, lines that begin with |, before the moves.\nA position is read from its diagram alone: save it with that.\n"
         }
         KifFault::BadPosition(BadPosition::NoDefenderKing) => {
             "The side to move attacks, so the other side needs a king. If White is the\nattacker, a line 後手番 says so.\n"
@@ -178,7 +178,8 @@ pub(crate) fn advice_on_diagram(fault: KifFault) -> &'static str
 }
 
 /// What is said of an SFEN that is given where a diagram is expected.
-pub(crate) const ON_SFEN_WITH_KIF: &str = "This looks like an SFEN, which is read without --kif.\n";
+pub(crate) const ON_SFEN_WITH_KIF: &str =
+    "This looks like an SFEN, which `tsume solve` reads without --kif.\n";
 
 /// What is said where White is to move, and Black has no king.
 pub(crate) const ON_NO_BLACK_KING: &str =

@@ -24,7 +24,7 @@ pub enum Trouble {
     Words,
     /// The text that the words give for a certificate's problem is no position: its first fault.
     Asked(TextFault),
-    /// A line of a collection is no problem, which is no fault of the run. The input is how the text
-    /// begins; what is told of it, if anything, is all that is told.
+    /// A line of a collection is no problem, which is no fault of the run. The input is how the
+    /// text begins; what is told of it, if anything, is all that is told.
     Collection,
 }

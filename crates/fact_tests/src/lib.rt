@@ -15,6 +15,8 @@ mod checking;
 #[cfg(test)]
 mod derivations;
 #[cfg(test)]
+mod dominance;
+#[cfg(test)]
 mod extraction;
 #[cfg(test)]
 mod letters;

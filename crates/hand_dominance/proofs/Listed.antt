@@ -1,5 +1,6 @@
 -- What lists of positions bear out by dominance.
-use Rattle.std.proofs.Common.{◌≡◌, ◌≤◌, ℕ, zero, suc, List, Contains, arith, ap, sym, refl, ◌∙◌, subst}
+use Rattle.std.proofs.Common.{◌≡◌, ◌≤◌, ℕ, zero, suc, List, [], Contains, arith, ap, sym, refl, ◌∙◌, subst}
+use Rattle.list_laws.proofs.Standing.{in_first}
 use Rattle.bit_boards.specs.declared.piece.Side.{Side}
 use Rattle.bit_boards.specs.Kind.{other, place_of}
 use Rattle.board_core.specs.declared.moves.Move.{Move}
@@ -8,15 +9,19 @@ use Rattle.board_core.specs.Kept.{IsKept}
 use Rattle.shogi_rules.specs.Rules.{after}
 use Rattle.shogi_rules.specs.Tsume.{IsCheck, IsEvasion}
 use Rattle.shogi_rules.proofs.Offered.{kept_after}
-use Rattle.mate_def.specs.Mate.{after_both, RankAtMost}
+use Rattle.mate_def.specs.Mate.{after_both, RankAtMost, IsClosed}
 use Rattle.mate_facts.specs.declared.entry.MateEntry.{MateEntry}
+use Rattle.mate_facts.specs.Entries.{IsBorneOut}
 use Rattle.hand_dominance.specs.Dominance.{Dominates}
-use Rattle.hand_dominance.specs.BorneOut.{AreBorneOutAbove, IsClosedBelow, IsBelowListed}
+use Rattle.hand_dominance.specs.BorneOut.{AreBorneOutByDominance, AreKept, IsBorneOutByDominance, IsClosedByDominance, IsDominatedByListed}
 use Rattle.hand_dominance.proofs.Hands.{less_count, more_count}
 use Rattle.hand_dominance.proofs.Moves.{handed, same_board, after_handed}
 use Rattle.hand_dominance.proofs.Carried.{IsShifted, less_in, more_in, shifted_under, rank_up, carries_up, check_up, evasion_down, shifted_check, shifted_evasion}
 
 -- 1. DOMINANCE.
+
+pub itself : (attacker : Side) (b : Board) → Dominates attacker b b
+itself attacker b = record { cells = refl; turn = refl; more = λ k. omega arith; less = λ k. omega arith }
 
 pub above_too : (attacker : Side) (a b c : Board) → Dominates attacker a b → Dominates attacker b c → Dominates attacker a c
 above_too attacker a b c one two = record {
@@ -47,7 +52,7 @@ both_kept attacker b check evasion k is answers =
 
 -- 2. MATES.
 
-rank_within : (attacker : Side) (entries : List MateEntry) → AreBorneOutAbove entries attacker → (n : ℕ) (entry : MateEntry) → Contains entries entry
+rank_within : (attacker : Side) (entries : List MateEntry) → AreBorneOutByDominance entries attacker → (n : ℕ) (entry : MateEntry) → Contains entries entry
     → entry.rank.number ≤ n → RankAtMost attacker n entry.at
 rank_within attacker entries borne zero entry listed low = absurd (let some = entry.rank.some in omega (arith, low, some))
 rank_within attacker entries borne (suc n) entry listed low =
@@ -62,25 +67,51 @@ rank_within attacker entries borne (suc n) entry listed low =
           (borne next.entry next.listed).0 next.above (rank_within attacker entries borne n next.entry next.listed (omega (arith, low, lower))),
     )
 
-pub rank_above : (attacker : Side) (entries : List MateEntry) (entry : MateEntry) (position : Board) → AreBorneOutAbove entries attacker
+pub rank_above : (attacker : Side) (entries : List MateEntry) (entry : MateEntry) (position : Board) → AreBorneOutByDominance entries attacker
     → Contains entries entry → IsKept position → Dominates attacker position entry.at → RankAtMost attacker entry.rank.number position
 rank_above attacker entries entry position borne listed kept above =
     carries_up (λ side it. RankAtMost side entry.rank.number it)
     (λ side less more it black white s h. rank_up side less more entry.rank.number it black white s h) attacker position entry.at kept
     (borne entry listed).0 above (rank_within attacker entries borne entry.rank.number entry listed (omega arith))
 
+pub borne_out_stays : (attacker : Side) (entries : List MateEntry) (entry : MateEntry) → IsBorneOut entries attacker entry
+    → IsBorneOutByDominance entries attacker entry
+borne_out_stays attacker entries entry borne = record {
+  check = borne.check;
+  evasions = λ evasion is.
+      let next = borne.evasions evasion is in
+      record {
+        entry = next.entry;
+        listed = next.listed;
+        above = subst (λ (b : Board). Dominates attacker b next.entry.at) next.same (itself attacker next.entry.at);
+        lower = next.lower;
+      };
+}
+
 -- 3. ESCAPES.
+
+pub closed_stays : (attacker : Side) (s : List Board) → IsClosed attacker s [] → IsClosedByDominance attacker s
+closed_stays attacker s closed = record {
+  turn = closed.turn;
+  answered = λ b check inside is.
+      let e = closed.answered b check inside is in
+      record {
+        evasion = e.evasion;
+        is_evasion = e.is_evasion;
+        leads = record { listed = after_both b check e.evasion; inside = in_first s (after_both b check e.evasion) e.leads; below = itself attacker (after_both b check e.evasion) };
+      };
+}
 
 -- the evasion that answers a check at the position above answers it below, and leads below what it
 -- led to
-pub none_below : (attacker : Side) (s : List Board) → IsClosedBelow attacker s → (n : ℕ) (position : Board) → IsKept position
-    → IsBelowListed attacker s position → RankAtMost attacker n position → ⊥
-none_below attacker s closed zero position kept low h = h
-none_below attacker s closed (suc n) position kept low h =
+pub none_below : (attacker : Side) (s : List Board) → AreKept s → IsClosedByDominance attacker s → (n : ℕ) (position : Board) → IsKept position
+    → IsDominatedByListed attacker s position → RankAtMost attacker n position → ⊥
+none_below attacker s all closed zero position kept low h = h
+none_below attacker s all closed (suc n) position kept low h =
     let b = low.listed in
     let less = less_in attacker b position in
     let more = more_in attacker b position in
-    let begun = shifted_under attacker b position (closed.kept b low.inside) kept low.below in
+    let begun = shifted_under attacker b position (all b low.inside) kept low.below in
     let as_handed = same_board b position low.below.cells low.below.turn in
     let is = subst (λ (it : Board). IsCheck attacker it h.0) as_handed h.1 in
     let mid = after b h.0 in
@@ -101,7 +132,7 @@ none_below attacker s closed (suc n) position kept low h =
     let under : Dominates attacker (after mid e.evasion) (after_both position h.0 e.evasion) =
     subst (Dominates attacker (after mid e.evasion)) (sym whole)
     (above_shifted attacker less more (after mid e.evasion) ends.black ends.white last) in
-    none_below attacker s closed n (after_both position h.0 e.evasion) (both_kept attacker position h.0 e.evasion kept h.1 answers)
+    none_below attacker s all closed n (after_both position h.0 e.evasion) (both_kept attacker position h.0 e.evasion kept h.1 answers)
     (record {
       listed = e.leads.listed;
       inside = e.leads.inside;

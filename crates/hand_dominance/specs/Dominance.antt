@@ -16,14 +16,23 @@ pub record Dominates (attacker : Side) (over under : Board) : Type 0 where
   pub more : (kind : Kind) → hand_count (hand_of under attacker) kind ≤ hand_count (hand_of over attacker) kind
   pub less : (kind : Kind) → hand_count (hand_of over (other attacker)) kind ≤ hand_count (hand_of under (other attacker)) kind
 
--- What carries up: of two positions, both kept, one of which dominates the other, it is true of
--- that one if of the other.
+-- P carries up: where one position dominates another, and both keep what every position keeps, P of
+-- the other gives P of the one.
 abbrev pub CarriesUp : (Side → Board → Type 0) → Type 0
 CarriesUp P = (attacker : Side) (over under : Board) → IsKept over → IsKept under → Dominates attacker over under → P attacker under → P attacker over
 
--- What carries down: it is true of the other if of that one.
+-- P carries down: where one position dominates another, and both keep what every position keeps, P
+-- of the one gives P of the other.
 abbrev pub CarriesDown : (Side → Board → Type 0) → Type 0
 CarriesDown P = (attacker : Side) (over under : Board) → IsKept over → IsKept under → Dominates attacker over under → P attacker over → P attacker under
+
+-- A law: each position dominates itself.
+abbrev pub EachDominatesItself : Type 0
+EachDominatesItself = (attacker : Side) (b : Board) → Dominates attacker b b
+
+-- A law: what dominates a position dominates each that this one dominates.
+abbrev pub DominanceGoesOn : Type 0
+DominanceGoesOn = (attacker : Side) (over between under : Board) → Dominates attacker over between → Dominates attacker between under → Dominates attacker over under
 
 -- A law: a mate within a number of moves carries up.
 abbrev pub MatesCarryUp : Type 0

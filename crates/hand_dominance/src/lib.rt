@@ -1,5 +1,5 @@
-//! Hand dominance: a position that differs from another in the hands alone, and not to the
-//! attacker's loss.
+//! Hand dominance: a position that differs from another in the hands alone, if at all, and not to
+//! the attacker's loss.
 //!
 //! [`dominance_laws`] says what that is worth: a mate carries over to each position that dominates
 //! it, within as many moves, and an escape to each that it dominates. So what is known of one hand
@@ -8,18 +8,21 @@
 //! of being one: fewer entries say as much (`specs/BorneOut.antt`). Takes no memory.
 #![tactic(auto)]
 
-ghost use Rattle.hand_dominance.specs.BorneOut.{NoMateByDominance, RanksByDominance};
-ghost use Rattle.hand_dominance.specs.Dominance.{EscapesCarryDown, EvasionsCarryDown, MatedCarryUp, MatesCarryUp};
+ghost use Rattle.hand_dominance.specs.BorneOut.{BorneOutStays, ClosedStays, NoMateByDominance, RanksByDominance};
+ghost use Rattle.hand_dominance.specs.Dominance.{DominanceGoesOn, EachDominatesItself, EscapesCarryDown, EvasionsCarryDown, MatedCarryUp, MatesCarryUp};
 
-/// Laws of dominating positions: to which a mate, and to which an escape carries over, whoever is
-/// to move. Does nothing; whoever uses what is known of other hands calls it to know this. Takes no
-/// memory.
+/// Laws of dominating positions: which dominate which, and to which a mate, and to which an escape
+/// carries over, whoever is to move. Does nothing; whoever uses what is known of other hands calls
+/// it to know this. Takes no memory.
 pub fn dominance_laws()
+    // Each position dominates itself, and what those dominate that it dominates.
+    ensures itself { EachDominatesItself }
+    ensures goes_on { DominanceGoesOn }
     // What dominates a position that is mate within so many moves is mate within as many.
     ensures mates { MatesCarryUp }
     // And so it is where the defender is to move.
     ensures mated { MatedCarryUp }
-    // What a position dominates from which the defender escapes, he escapes from too.
+    // Where the defender escapes from a position, he escapes from each that it dominates.
     ensures escapes { EscapesCarryDown }
     // And so it is where the defender is to move.
     ensures evasions { EvasionsCarryDown }
@@ -32,4 +35,7 @@ pub fn listing_laws()
     ensures ranks { RanksByDominance }
     // What a listed position of an escape dominates is no mate.
     ensures none { NoMateByDominance }
+    // What is borne out, or closed, by the listed positions themselves is so by dominance.
+    ensures borne_out { BorneOutStays }
+    ensures closed { ClosedStays }
 {}

@@ -6,3 +6,4 @@ pub mod Rows
 pub mod Said
 pub mod Many
 pub mod Outcome
+pub mod Offered

@@ -7,7 +7,7 @@ ghost use Rattle.kif_text.specs.Characters.{kind_of, plain_of, piece_of, side_of
 
 use board_core::{Kind, Piece, Side};
 
-// The first character of a text, and what stands behind it.
+/// The first character of a text, and what stands behind it. Takes no memory.
 pub fn split_first(text: &str) -> Option<(char, &str)>
     ensures split { MatchOption result (chars text.now ≡ []) (λ x. chars text.now
         ≡ x.0 ∷ chars x.1.now) }
@@ -55,7 +55,9 @@ fn plain_of(side: Side, character: char) -> Option<Piece>
     Some(Piece::plain(kind, side))
 }
 
-fn piece_of(side: Side, character: char) -> Option<Piece>
+/// The side's piece that a character shows on the board, where it shows one (KIF: board diagrams).
+/// Takes no memory.
+pub fn piece_of(side: Side, character: char) -> Option<Piece>
     ensures { result ≡ piece_of side character }
 {
     match character {
@@ -92,8 +94,10 @@ pub fn cell_of(mark: char, shown: char) -> Option<Option<Piece>>
     Some(Some(piece))
 }
 
-fn number_of(character: char) -> Option<u8>
+/// The number that a numeral names, 一 to 十; none for any other character. Takes no memory.
+pub fn number_of(character: char) -> Option<u8>
     ensures number { result ≡ number_of character }
+    ensures some { IfSome result (λ n. 1 ≤ n) }
     ensures small { IfSome result (λ n. n ≤ 10) }
 {
     match character {

@@ -90,3 +90,19 @@ pub fn diagram_of(text: &str) -> Result<Diagram, KifFault>
     }
     Ok(diagram)
 }
+
+/// The number of lines before the first that begins with `手数----`; of all lines, where none does.
+/// Takes no memory.
+pub fn header_length(text: &str) -> usize
+    ensures lines { result ≡ length (header_lines text.now) }
+    ensures few { result ≤ length text.now + 1 }
+{
+    let mut number = 0;
+    for line in text.lines() {
+        if begins(line, "手数----") {
+            return number;
+        }
+        number += 1;
+    }
+    number
+}

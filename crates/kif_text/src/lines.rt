@@ -21,6 +21,7 @@ pub enum Line<'a> {
     Turn(Side),
 }
 
+/// Whether a line begins with a word. Takes no memory.
 pub fn begins(line: &str, word: &str) -> bool
     ensures { result ≡ starts_with nat_eq line.now word.now }
 {
@@ -78,7 +79,7 @@ pub fn line_of(line: &str) -> Line<'_>
     board_line(line)
 }
 
-// A text without the byte-order mark in front.
+/// A text without the byte-order mark in front. Takes no memory.
 pub fn without_mark(text: &str) -> &str
     ensures { result.now ≡ without_mark text.now }
 {

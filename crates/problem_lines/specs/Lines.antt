@@ -16,8 +16,8 @@ pub record NumberedLine : Type 0 where
 abbrev pub without_remark : List ℕ → List ℕ
 without_remark line = before_first (λ byte. byte == 9) line
 
--- Whether a line without its remark is skipped: it is empty or holds spaces alone, or it begins with
--- `#`.
+-- Whether a line without its remark is skipped: it is empty or holds spaces alone, or it begins
+-- with `#`.
 abbrev pub is_skipped : List ℕ → Bool
 is_skipped content = list_all (λ byte. byte == 32) content || starts_with nat_eq content (35 ∷ [])
 

@@ -1,7 +1,7 @@
 // A line that holds a problem.
 
-/// The most bytes that the text of a problem may have; of a line with one, its remark among them, and
-/// its end not.
+/// The most bytes that the text of a problem may have; of a line with one, its remark among them,
+/// and its end not.
 pub const MOST_PROBLEM_BYTES: usize = 65_536;
 
 /// A line of a collection that holds a problem.

@@ -15,8 +15,8 @@ use tsume_words::{Format, WordsEnd};
 // `kif` where `--kif` does, `until` the deadline, and `telling` where `--progress` stands; or the
 // problem, and `by` the workers; and the file. Of the commands over many problems the seed, the
 // count and the expansions; or the settings, whether `--rest` stands, `told` where `--certificates`
-// does, and `by` the threads.
-static ASKED: [(&str, &str); 61] = [
+// does, `until` the deadline, and `by` the threads.
+static ASKED: [(&str, &str); 68] = [
     ("solve", "solve 1 1000000 1000000000 65536 64 false"),
     ("solve --rest", "solve 1 1000000 1000000000 65536 64 true"),
     (
@@ -124,6 +124,14 @@ static ASKED: [(&str, &str); 61] = [
         "collection 1 100000 1000000000 65536 64 false by 64",
     ),
     (
+        "collection --deadline 1",
+        "collection 1 100000 1000000000 65536 64 false until 1",
+    ),
+    (
+        "collection --threads 2 --deadline 86400000 --progress",
+        "collection 1 100000 1000000000 65536 64 false until 86400000 telling by 2",
+    ),
+    (
         "collection --progress",
         "collection 1 100000 1000000000 65536 64 false telling",
     ),
@@ -190,10 +198,15 @@ static ASKED: [(&str, &str); 61] = [
         "collection --rows 128",
         "collection 1 100000 1000000000 128 64 false",
     ),
+    ("solution", "solution"),
+    ("solution a.kif", "solution of a.kif"),
+    ("solution -", "solution"),
+    ("record", "record"),
+    ("record -- -a.cert", "record of -a.cert"),
 ];
 
 // A line that is refused, and how its text begins.
-static REFUSED: [(&str, &str); 39] = [
+static REFUSED: [(&str, &str); 41] = [
     ("solve --rows 16 --shards 32", "more shards than rows"),
     ("", "Solves tsume-shogi problems"),
     ("dance", "error: unrecognized subcommand 'dance'"),
@@ -212,6 +225,8 @@ static REFUSED: [(&str, &str); 39] = [
     ),
     ("solve a b", "error: unexpected argument 'b' found"),
     ("check --kif", "error: unexpected argument '--kif' found"),
+    ("record --kif", "error: unexpected argument '--kif' found"),
+    ("solution a b", "error: unexpected argument 'b' found"),
     (
         "check --rows 16",
         "error: unexpected argument '--rows' found",
@@ -313,8 +328,8 @@ static REFUSED: [(&str, &str); 39] = [
         "error: unexpected argument '--kif' found",
     ),
     (
-        "collection --deadline 5",
-        "error: unexpected argument '--deadline' found",
+        "collection --deadline 0",
+        "error: invalid value '0' for '--deadline <MS>': 0 is not in 1..=86400000",
     ),
     (
         "collection --progress=yes",
@@ -327,7 +342,7 @@ static REFUSED: [(&str, &str); 39] = [
 ];
 
 // A request for help or for the version, and a part of its text.
-static HELPED: [(&str, &str); 29] = [
+static HELPED: [(&str, &str); 32] = [
     ("--version", "tsume 0.1.0\n"),
     ("-V --help", "tsume 0.1.0\n"),
     ("--help", "Usage: tsume <COMMAND>\n"),
@@ -369,6 +384,8 @@ static HELPED: [(&str, &str); 29] = [
         "Every interposition\ncounts, also one that only delays",
     ),
     ("help check", "Usage: tsume check [OPTIONS] [FILE]\n"),
+    ("help record", "Usage: tsume record [FILE]\n"),
+    ("solution -h", "Usage: tsume solution [FILE]\n"),
     (
         "check --help",
         "\n      --problem <SFEN>  Accept the certificate for this problem alone",
@@ -413,6 +430,10 @@ static HELPED: [(&str, &str); 29] = [
         "\n      --threads <N>     Problems that are decided side by side, 1 to 64; where\n                        nothing is said, as many as there are processors. It\n",
     ),
     (
+        "collection -h",
+        "\n      --deadline <MS>   Milliseconds after which each search gives up, 1 to\n",
+    ),
+    (
         "collection --help",
         "\n      --progress        Tell on standard error, about once a second, how many\n",
     ),
@@ -429,6 +450,8 @@ fn command_text(alloc: Global, command: &Command) -> Result<String, AllocError> 
         Command::Check(asked) => check_text(alloc, asked),
         Command::Survey(asked) => survey_text(alloc, asked),
         Command::Collection(asked) => collection_text(alloc, asked),
+        Command::Solution(_) => format!(in alloc; "solution"),
+        Command::Record(_) => format!(in alloc; "record"),
     }
 }
 
@@ -487,8 +510,12 @@ fn collection_text(alloc: Global, asked: &Collection) -> Result<String, AllocErr
     let rest = asked.form.rest;
     let told = if asked.form.certificates { " told" } else { "" };
     let telling = if asked.form.progress { " telling" } else { "" };
+    let until = match asked.form.deadline {
+        Some(deadline) => format!(in alloc; " until {deadline}")?,
+        None => String::new(alloc),
+    };
     let collection = format!(in alloc;
-        "collection {workers} {expansions} {room} {rows} {shards} {rest}{told}{telling}"
+        "collection {workers} {expansions} {room} {rows} {shards} {rest}{told}{until}{telling}"
     )?;
     match asked.form.threads {
         Some(threads) => format!(in alloc; "{collection} by {threads}"),

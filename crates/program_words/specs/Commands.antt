@@ -8,6 +8,8 @@ use Rattle.cmd_solve.specs as solve
 use Rattle.cmd_check.specs as check
 use Rattle.cmd_survey.specs as survey
 use Rattle.cmd_collection.specs as collection
+use Rattle.cmd_solution.specs as solution
+use Rattle.cmd_record.specs as record_command
 use Rattle.program_words.specs.declared.command.Command.{Command}
 use Rattle.program_words.specs.declared.command.Command.TheVariants as asks
 
@@ -17,6 +19,8 @@ pub data CommandView : Type 0 where
   to_check : check.Words.CheckView → CommandView
   to_survey : survey.Words.SurveyView → CommandView
   to_collect : collection.Words.CollectView → CommandView
+  to_judge : CommandView
+  to_record : CommandView
 
 -- What a command is asked.
 abbrev pub command_view : Command → CommandView
@@ -24,6 +28,8 @@ command_view (asks.Solve asked) = to_solve (solve.Asked.solve_in asked)
 command_view (asks.Check asked) = to_check (check.Words.check_view asked)
 command_view (asks.Survey asked) = to_survey (survey.Words.survey_in asked)
 command_view (asks.Collection asked) = to_collect (collection.Asked.collect_in asked)
+command_view (asks.Solution asked) = to_judge
+command_view (asks.Record asked) = to_record
 
 -- The numbers of the search that is asked for, where the words give them: they are tested.
 abbrev pub numbers_of : CommandView → Option SettingsView
@@ -62,6 +68,8 @@ command name words view others = record {
 abbrev pub commands : Offer
 commands =
     let more = nothing_more in
+    let more = command (codes "record") record_command.Words.record_words (λ asked. to_record) more in
+    let more = command (codes "solution") solution.Words.solution_words (λ asked. to_judge) more in
     let more = command (codes "collection") collection.Words.collection_words to_collect more in
     let more = command (codes "survey") survey.Words.survey_words to_survey more in
     let more = command (codes "check") check.Words.check_words to_check more in

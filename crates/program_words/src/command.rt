@@ -12,6 +12,10 @@ pub enum Command {
     Survey(cmd_survey::SurveyRange),
     /// Decide each problem of the text that is read.
     Collection(cmd_collection::Collection),
+    /// Judge the moves of the KIF text that is read.
+    Solution(cmd_solution::JudgeSolution),
+    /// Write the KIF record of the mate whose certificate is read.
+    Record(cmd_record::Record),
 }
 
 /// All that the words ask for.

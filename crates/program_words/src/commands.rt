@@ -21,6 +21,8 @@ macro_rules! with_each_command {
             "check" Check cmd_check::Check,
             "survey" Survey cmd_survey::SurveyRange,
             "collection" Collection cmd_collection::Collection,
+            "solution" Solution cmd_solution::JudgeSolution,
+            "record" Record cmd_record::Record,
         )
     };
 }

@@ -4,6 +4,8 @@ use Rattle.explanations.specs.declared.trouble.Trouble.{Trouble}
 use Rattle.explanations.specs.Shown.{IsHarmless, IsPlain, IsReadable}
 use Rattle.app_texts.specs.declared.fault.ProblemFault.{ProblemFault}
 use Rattle.app_texts.specs.declared.fault.ProblemFault.TheVariants.{Text, Diagram, DefenderInCheck}
+use Rattle.kif_moves.specs.declared.fault.KifMovesFault.{KifMovesFault}
+use Rattle.kif_moves.specs.declared.fault.KifMovesFault.TheVariants as moves
 use Rattle.one_run.specs.declared.ended.Ended.{Ended}
 use Rattle.one_run.specs.declared.ended.Ended.TheVariants.{Answered, CutShort, Failed}
 use Rattle.one_run.specs.declared.ended.Fault.{Fault}
@@ -17,6 +19,12 @@ abbrev pub MayFollowProblem : ProblemFault → List ℕ → Type 0
 MayFollowProblem (Text fault) explanation = IsPlain explanation
 MayFollowProblem (Diagram fault) explanation = IsReadable explanation
 MayFollowProblem DefenderInCheck explanation = IsPlain explanation
+
+-- What stands for a reader behind the line of a fault of a text with moves: of a diagram's the
+-- characters of Japanese texts too.
+abbrev pub MayFollowMoves : KifMovesFault → List ℕ → Type 0
+MayFollowMoves (moves.Diagram fault) explanation = IsReadable explanation
+MayFollowMoves fault explanation = IsPlain explanation
 
 -- What the user is told of a run: a line in words, if any; and what may stand behind it for a
 -- reader, which can't steer a terminal.

@@ -2,6 +2,7 @@
 use app_texts::ProblemFault;
 use cert_text::CertFault;
 use explanations::Trouble;
+use kif_moves::KifMovesFault;
 use shortest_text::ShortestFault;
 use std::alloc::{AllocError, Global};
 
@@ -82,5 +83,30 @@ impl Explained for ShortestFault {
     // The lines before the certificate aren't those that its explanations count.
     fn trouble(&self) -> Option<Trouble> {
         None
+    }
+}
+
+impl Explained for KifMovesFault {
+    ghost use Rattle.kif_moves.specs.FaultText.{moves_fault_text};
+    ghost use Rattle.run_telling.specs.Telling.{MayFollowMoves};
+
+    ghost text_of = { moves_fault_text };
+
+    ghost MayFollow = { MayFollowMoves };
+
+    fn line(&self, alloc: Global) -> Result<String, AllocError> {
+        format!(in alloc; "{self}")
+    }
+
+    // A line's fault names the line, and says what is wrong with its move.
+    fn trouble(&self) -> Option<Trouble> {
+        match self {
+            KifMovesFault::Diagram(fault) => Some(Trouble::Diagram(*fault)),
+            KifMovesFault::DefenderInCheck => Some(Trouble::DefenderInCheck),
+            KifMovesFault::BadMove(_)
+            | KifMovesFault::IllegalMove(_)
+            | KifMovesFault::WrongPiece(_)
+            | KifMovesFault::NoCheck(_) => None,
+        }
     }
 }

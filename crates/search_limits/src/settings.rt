@@ -8,7 +8,8 @@ ghost use Rattle.search_limits.specs.declared.settings.TheConstants.{MOST_WORKER
 /// The most workers of a search.
 pub const MOST_WORKERS: u32 = 64;
 
-/// The most notes that a search may make. As a visit makes at most one, this is no limit of its own.
+/// The most notes that a search may make. As a visit makes at most one, this is no limit of its
+/// own.
 pub const MOST_ROOM: u32 = 1_000_000_000;
 
 /// The fewest rows of a table of positions.

@@ -81,8 +81,8 @@ IsQuiet before after schedule log =
 
 -- A search with one worker goes on so: the world of one worker comes by a schedule to where table,
 -- desk and worker stand; no stop waits to be told; the worker stands by the log, and winds up where
--- it was told to; what was said of the desk holds, whose visits and room are the settings'; the stop
--- was polled as often as it polls, and not armed; and unless the stop signalled, no stop was
+-- it was told to; what was said of the desk holds, whose visits and room are the settings'; the
+-- stop was polled as often as it polls, and not armed; and unless the stop signalled, no stop was
 -- signalled to the worker.
 pub record IsUnderWay (problem : Board) (s : SettingsView) (before after : Signal) (port : LonePortView) (worker : WorkerView) : Type 0 where
   pub schedule : List Event

@@ -3,12 +3,12 @@ ghost use Rattle.std.specs.Prelude.{◌≡◌, ℕ, IfOk};
 ghost use Rattle.search_limits.specs.Settings.{settings_in};
 ghost use Rattle.worker_core.specs.Port.{Suits};
 ghost use Rattle.lone_port.specs.Lone.{alone_at_first, worker_at_first, book_of};
-ghost use Rattle.search_pool.specs.End.{IsAlone, IsSolution};
+ghost use Rattle.search_pool.specs.End.{HeedsStop, IsAlone, IsAloneUntil, IsSolution};
 
 use crate::SearchEnd;
 use crate::alone::search_over;
 use lone_port::LonePort;
-use search_gate::{OpenGate, QuietStop};
+use search_gate::{Gate, OpenGate, QuietStop, Stop};
 use search_limits::Settings;
 use shogi_rules::Problem;
 use std::alloc::{AllocError, Global};
@@ -64,6 +64,33 @@ impl Table {
     {
         let mut port = ready(alloc, self.port.take(), problem, settings)?;
         let end = search_quietly(alloc, problem, settings, &mut port);
+        self.port = Some(port);
+        end
+    }
+
+    /// The same with a gate, which is passed for each visit as worker 1, and a stop, which is
+    /// polled before each: as [`search_alone_until`](crate::search_alone_until). Errors: want of
+    /// memory alone.
+    pub fn search_until<G: Gate, T: Stop>(
+        &mut self,
+        alloc: Global,
+        problem: &Problem,
+        settings: &Settings,
+        gate: &G,
+        stop: &mut T,
+    ) -> Result<SearchEnd, AllocError>
+        ensures alone { IfOk result
+            (IsAloneUntil problem.now.position (settings_in settings.now) (T.signal stop.old)
+            (T.signal stop.new)) }
+        ensures solution { IfOk result (IsSolution problem.now.position) }
+        ensures heeds { IfOk result (HeedsStop (T.signal stop.old) (T.signal stop.new)) }
+        // A stop is polled, and nothing else.
+        ensures armed { (T.signal stop.new).armed ≡ (T.signal stop.old).armed }
+        ensures arms { (T.signal stop.new).arms ≡ (T.signal stop.old).arms }
+        ensures early { (T.signal stop.new).early ≡ (T.signal stop.old).early }
+    {
+        let mut port = ready(alloc, self.port.take(), problem, settings)?;
+        let end = search_over(alloc, problem, settings, &mut port, gate, stop);
         self.port = Some(port);
         end
     }

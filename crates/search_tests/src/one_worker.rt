@@ -19,8 +19,8 @@ use worker_core::{Worker, work, work_until};
 #[test]
 fn one_worker_searches_to_each_end(rt: HostRuntime) -> Result<(), Fail> {
     let alloc = rt.alloc();
-    // A problem, the visits and the room; how the worker ends, what is posted, and the visits and the
-    // room that were taken.
+    // A problem, the visits and the room; how the worker ends, what is posted, and the visits and
+    // the room that were taken.
     let rows = [
         (
             GOLD,

@@ -26,11 +26,13 @@ impl Numbers {
 
 // A thread counts the jobs that it did.
 impl Jobs for Numbers {
-    ghost use Rattle.std.specs.Prelude.{◌≡◌};
+    ghost use Rattle.std.specs.Prelude.{◌≡◌, ⊤};
 
     type Tools = u64;
 
     type Answer = usize;
+
+    ghost is_ready = { λ jobs. ⊤ };
 
     ghost size = { λ jobs. jobs.count };
 

@@ -14,6 +14,10 @@ pub trait Jobs: Sync {
     /// What a job answers.
     type Answer: Send + Drop;
 
+    /// What has to hold for a job to be done: nothing, unless the jobs stand on a function that
+    /// asks for something.
+    ghost is_ready: { Self → Type 0 };
+
     /// How many jobs there are.
     ghost size: { Self → ℕ };
 
@@ -34,6 +38,7 @@ pub trait Jobs: Sync {
         tools: &mut Self::Tools,
         number: usize,
     ) -> Result<Self::Answer, AllocError>
-        requires { number < size self.now }
+        requires ready { is_ready self.now }
+        requires number { number < size self.now }
         ensures { IfOk result (is_answer self.now number) };
 }

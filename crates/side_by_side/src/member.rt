@@ -43,6 +43,7 @@ fn do_jobs<J: Jobs>(
     tools: &mut J::Tools,
     next: &AtomicU64,
 ) -> Vec<Made<J::Answer>>
+    requires { J.is_ready jobs.now }
     ensures { AreMade (J.is_answer jobs.now) result.items }
 {
     let mut all = Vec::new(alloc);
@@ -69,6 +70,7 @@ pub(crate) fn work<J: Jobs>(
     member: &mut Member<J::Tools, J::Answer>,
     next: &AtomicU64,
 )
+    requires { J.is_ready jobs.now }
     ensures { AreMade (J.is_answer jobs.now) member.new.made.items }
 {
     let mut tools = match member.tools.take() {

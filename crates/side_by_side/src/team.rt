@@ -40,6 +40,7 @@ fn work_all<J: Jobs, R: Threads + Sync>(
     jobs: &J,
     members: &mut [Member<J::Tools, J::Answer>],
 )
+    requires { J.is_ready jobs.now }
     ensures count { length members.new ≡ length members.old }
     ensures made { All (λ member. AreMade (J.is_answer jobs.now) member.made.items) members.new }
 {
@@ -48,6 +49,7 @@ fn work_all<J: Jobs, R: Threads + Sync>(
         rt,
         members,
         |_: usize, member: &mut Member<J::Tools, J::Answer>|
+            requires { J.is_ready jobs.now }
             ensures { AreMade (J.is_answer jobs.entry.now) member.new.made.items }
         { work(alloc, jobs, member, &next) },
     );
@@ -86,6 +88,7 @@ fn answer_at<J: Jobs>(
     slots: &mut [Option<J::Answer>],
     number: usize,
 ) -> Result<J::Answer, AllocError>
+    requires ready { J.is_ready jobs.now }
     requires number { number < length slots.old }
     requires count { length slots.old ≡ J.size jobs.now }
     requires slots { AreAnswersAt (J.is_answer jobs.now) slots.old }
@@ -105,6 +108,7 @@ fn in_order<J: Jobs>(
     jobs: &J,
     slots: &mut [Option<J::Answer>],
 ) -> Result<Vec<J::Answer>, AllocError>
+    requires ready { J.is_ready jobs.now }
     requires count { length slots.old ≡ J.size jobs.now }
     requires slots { AreAnswersAt (J.is_answer jobs.now) slots.old }
     ensures { IfOk result
@@ -163,6 +167,7 @@ impl<T: Send + Drop, A: Send + Drop> Team<T, A> {
         alloc: Global,
         jobs: &J,
     ) -> Result<Vec<A>, AllocError>
+        requires { J.is_ready jobs.now }
         ensures { IfOk result
             (λ answers. AreAnswers (J.size jobs.now) (J.is_answer jobs.now) answers.items) }
     {

@@ -39,8 +39,8 @@ pub record ComesTo (problem : Board) (s : SettingsView) (tally : Tally) : Type 0
   pub told : tally ≡ tally_of end
   pub is_true : IsTrueOf problem tally
 
--- The settings of each search: one worker, so many visits, all the room that there can be, and 1,024
--- rows in one part.
+-- The settings of each search: one worker, so many visits, all the room that there can be, and
+-- 1,024 rows in one part.
 abbrev pub survey_settings : ℕ → SettingsView
 survey_settings expansions = numbers_of 1 expansions MOST_ROOM 1024 1
 

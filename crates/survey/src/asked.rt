@@ -23,12 +23,14 @@ pub(crate) struct Asked {
 
 // The problem of each number is searched over the thread's table.
 impl Jobs for Asked {
-    ghost use Rattle.std.specs.Prelude.{◌+◌};
+    ghost use Rattle.std.specs.Prelude.{◌+◌, ⊤};
     ghost use Rattle.survey.specs.Tally.{IsTallied};
 
     type Tools = Table;
 
     type Answer = Tally;
+
+    ghost is_ready = { λ jobs. ⊤ };
 
     ghost size = { λ asked. asked.count };
 

@@ -168,7 +168,7 @@ const DIAGRAMS: &[(&str, &str)] = &[
     ),
     (
         "手合割：平手\n手数----指手\n",
-        "Expected: nine rows of a diagram, lines that begin with |, before the moves.\nMoves aren't played: save the position with its diagram.\n",
+        "Expected: nine rows of a diagram, lines that begin with |, before the moves.\nA position is read from its diagram alone: save it with that.\n",
     ),
 ];
 
@@ -176,15 +176,15 @@ const DIAGRAMS: &[(&str, &str)] = &[
 const BYTES: &[(&[u8], &str)] = &[
     (
         b"# KIF\n\x8c\xe3\x8e\xe8",
-        "line 2, column 1:\n    ????\n    ^ byte 6\nExpected: UTF-8. Many KIF files are Shift-JIS, which can be converted:\niconv -f CP932 -t UTF-8 FILE | tsume solve --kif\n",
+        "line 2, column 1:\n    ????\n    ^ byte 6\nExpected: UTF-8. Many KIF files are Shift-JIS, which can be converted:\niconv -f CP932 -t UTF-8 FILE > NEW_FILE\n",
     ),
     (
         b"9/4k4/8R/9/9/9/9/9/9 b R",
-        "This looks like an SFEN, which is read without --kif.\n",
+        "This looks like an SFEN, which `tsume solve` reads without --kif.\n",
     ),
     (
         b"\n",
-        "The input is empty. With --kif a problem is the board diagram of a KIF file.\n",
+        "The input is empty. A KIF file has a board diagram: lines that begin with |.\n",
     ),
     (
         b"\xff\xfe#\x00",

@@ -8,7 +8,7 @@ use std::test::Fail;
 // A mate in one: the white king on 5a, a black pawn on 5c, a gold in Black's hand. The lines are
 // the comment, White's hand, the files, the frame, the rows a to i in the lines 5 to 13, the frame,
 // Black's hand in line 15, and the first line of the moves.
-const DIAGRAM: &str = "# KIF
+pub const DIAGRAM: &str = "# KIF
 後手の持駒：なし
   ９ ８ ７ ６ ５ ４ ３ ２ １
 +---------------------------+

@@ -1,4 +1,5 @@
-//! The public calls on texts (moves, positions, certificates, bounds, shortest mates, collections)
+//! The public calls on texts (moves, positions, solutions, certificates, bounds, shortest mates,
+//! collections)
 //! and on problems by number, by examples.
 //!
 //! The tests of this layer stand here and not in its libraries, so that no library is proved twice.
@@ -20,8 +21,12 @@ mod generated;
 #[cfg(test)]
 mod moves;
 #[cfg(test)]
+mod records;
+#[cfg(test)]
 mod same;
 #[cfg(test)]
 mod sfen;
 #[cfg(test)]
 mod shortest;
+#[cfg(test)]
+mod solutions;

@@ -15,10 +15,13 @@ use Rattle.app_texts.specs.declared.fault.ProblemFault.{ProblemFault}
 use Rattle.one_run.specs.Outside.{Shown, NeverFailed, IsUntouched}
 use Rattle.one_run.specs.Stops.{Signals}
 use Rattle.run_telling.specs.Status.{ended_status, written_status, solution_status, judgement_status}
-use Rattle.run_telling.specs.Telling.{Telling, BeginsAsTold, MayFollowProblem, alone, plainly, ended_telling, written_telling}
+use Rattle.run_telling.specs.Telling.{Telling, BeginsAsTold, MayFollowMoves, MayFollowProblem, alone, plainly, ended_telling, written_telling}
 use Rattle.cmd_collection.specs.Counts.{counts_status}
 use Rattle.cmd_bound.specs.Text.{bound_status}
 use Rattle.shortest_text.specs.FaultText.{shortest_fault_text}
+use Rattle.cmd_record.specs.Text.{answer_status, fault_text}
+use Rattle.cmd_solution.specs.Text.{verdict_status}
+use Rattle.kif_moves.specs.FaultText.{moves_fault_text}
 use Rattle.tsume_app.specs.declared.ended.Ended.{Ended}
 use Rattle.tsume_app.specs.declared.ended.Ended.TheVariants as ends
 use Rattle.one_run.specs.declared.ended.Ended.{Ended as Reading}
@@ -78,6 +81,8 @@ left_by (ends.Check ended) = by_reading judgement_status certificate_fault_text 
 left_by (ends.Bound ended) = by_reading bound_status shortest_fault_text (λ fault. IsPlain) ended
 left_by (ends.Survey ended) = by_writing (λ summary. 0) ended
 left_by (ends.Collection ended) = by_reading counts_status (λ fault. []) (λ fault explanation. explanation ≡ []) ended
+left_by (ends.Solution ended) = by_reading verdict_status moves_fault_text MayFollowMoves ended
+left_by (ends.Record ended) = by_reading answer_status fault_text (λ fault. IsPlain) ended
 left_by (ends.Help ended) = by_writing (λ text. 0) ended
 left_by (ends.Refused refusal) = by_refusing refusal
 

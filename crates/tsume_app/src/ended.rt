@@ -70,6 +70,10 @@ pub enum Ended {
     Survey(Written<cmd_survey::Summary>),
     /// As `collection`.
     Collection(one_run::Ended<cmd_collection::Counts, cmd_collection::NoFault>),
+    /// As `solution`.
+    Solution(one_run::Ended<cmd_solution::SolutionVerdict, kif_moves::KifMovesFault>),
+    /// As `record`.
+    Record(one_run::Ended<cmd_record::RecordAnswer, cmd_record::RecordFault>),
     /// With help, or with the version, as clap made it.
     Help(Written<String>),
     /// No command was begun.
@@ -85,6 +89,8 @@ macro_rules! with_ending {
             Ended::Bound($ending) => $then,
             Ended::Survey($ending) => $then,
             Ended::Collection($ending) => $then,
+            Ended::Solution($ending) => $then,
+            Ended::Record($ending) => $then,
             Ended::Help($ending) => $then,
             Ended::Refused($ending) => $then,
         }
@@ -131,11 +137,11 @@ impl Refusal {
 }
 
 impl Ended {
-    /// The exit status: 0 for a verdict, an accepted certificate or bound, a survey or help, 1
-    /// where a search gave up, 7 where a certificate or a bound is refused; of a collection 3 where
-    /// a line is no problem, else 1 where a search gave up, else 0; 2 where the words are refused,
-    /// 3 where the input is, 4 where the source failed, 5 where the sink failed, 6 for want of
-    /// memory.
+    /// The exit status: 0 for a verdict, an accepted certificate or bound, a survey, a solution, a
+    /// record or help, 1 where a search gave up, 7 where a certificate or a bound is refused; of a
+    /// collection 3 where a line is no problem, else 1 where a search gave up, else 0; 2 where the
+    /// words are refused, 3 where the input is, 4 where the source failed, 5 where the sink failed,
+    /// 6 for want of memory.
     pub fn status(&self) -> u8
         ensures { result ≡ status_of self.now }
     {

@@ -21,6 +21,8 @@ use app_texts::ProblemFault;
 use cmd_bound::check_with_bound;
 use cmd_check::{Check, asked_problem, check};
 use cmd_collection::{Onlooker, collection};
+use cmd_record::record;
+use cmd_solution::solution;
 use cmd_solve::solve;
 use cmd_survey::survey;
 use one_run::{Written, write};
@@ -105,6 +107,8 @@ fn command_ended<
         Command::Solve(asked) => Ended::Solve(solve(rt, asked, source, sink, gate, stops)),
         Command::Check(asked) => check_ended(rt, alloc, asked, source, sink),
         Command::Survey(range) => Ended::Survey(survey(rt, alloc, range, sink)),
+        Command::Solution(asked) => Ended::Solution(solution(alloc, asked, source, sink)),
+        Command::Record(asked) => Ended::Record(record(alloc, asked, source, sink)),
         Command::Collection(asked) => {
             Ended::Collection(collection(rt, alloc, asked, source, sink, gate))
         }
@@ -252,7 +256,8 @@ pub(crate) fn tells_accepted(words: &WordsRead) -> bool {
 /// want of memory. The whole text is made before the first write, but for a collection, whose
 /// reports are written one by one. `solve` passes the gate for each visit of a position,
 /// as the worker that visits it (no clause says it), and no other command does. Where the
-/// words ask for it, `collection` tells the gate which lines are decided. The stops, one for
+/// words ask for it, `collection` tells the gate which lines are decided, and its deadlines go by
+/// the gate's clock, with stops of its own. The stops, one for
 /// each worker that there may be, are armed once, with the deadline that the words give or with
 /// none, when `solve` has accepted its problem, and before that they aren't used; then each worker
 /// polls the one at its place. Only `solve` with several workers waits, for them: who asks for

@@ -274,7 +274,7 @@ impl<'a, R: io::Eprint + Clock + Sync> Gate for Progress<'a, R> {
     }
 }
 
-impl<'a, R: io::Eprint + Clock> Onlooker for Progress<'a, R> {
+impl<'a, R: io::Eprint + Clock + Sync> Onlooker for Progress<'a, R> {
     fn now(&self) -> u64 {
         self.time().unwrap_or(0)
     }

@@ -4,8 +4,9 @@
 //! at its last value).
 //!
 //! `read_all` and `write_all` are the two calls that the layers above make. `StdSource` and
-//! `StdSink` adapt std's readers and writers, and `StdClock` its clock; `Opened` and `Remembering` are
-//! readers for a file that may not open; `MemSource`, `MemSink` and `NeverFails` stand in memory.
+//! `StdSink` adapt std's readers and writers, and `StdClock` its clock; `Opened` and `Remembering`
+//! are readers for a file that may not open; `MemSource`, `MemSink` and `NeverFails` stand in
+//! memory.
 #![tactic(auto)]
 
 mod clock;

@@ -10,8 +10,8 @@ use Rattle.search_limits.specs.Sizes.{IsFromTo}
 use Rattle.search_limits.specs.declared.expansions.TheConstants.{MOST_EXPANSIONS}
 use Rattle.search_limits.specs.declared.settings.TheConstants.{MOST_ROOM}
 
--- The problem's position, how many visits and notes there may be, how many visits were drawn and for
--- how many notes room was claimed, and the note that is posted.
+-- The problem's position, how many visits and notes there may be, how many visits were drawn and
+-- for how many notes room was claimed, and the note that is posted.
 pub record DeskView : Type 0 where
   pub position : Board
   pub expansions : ℕ
@@ -44,8 +44,8 @@ fresh position expansions room = record { position = position; expansions = expa
 abbrev pub HasPosted : DeskView → Type 0
 HasPosted desk = IsSome desk.posted
 
--- What a draw answers, and the desk after it. Done: a note is posted. Spent: none is, and all visits
--- were drawn. Go: none is, and the next visit is drawn. Nothing else changes.
+-- What a draw answers, and the desk after it. Done: a note is posted. Spent: none is, and all
+-- visits were drawn. Go: none is, and the next visit is drawn. Nothing else changes.
 abbrev pub Draws : DeskView → Draw → DeskView → Type 0
 Draws desk Done after = HasPosted desk × (after ≡ desk)
 Draws desk Spent after = (¬ HasPosted desk) × (desk.drawn ≡ desk.expansions) × (after ≡ desk)

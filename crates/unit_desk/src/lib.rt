@@ -2,8 +2,9 @@
 //! that answers the problem.
 //!
 //! A worker draws each visit of a position here before it makes it, and claims room for each note
-//! that it makes. Both are counted against the [`Settings`](search_limits::Settings) of the search. What is
-//! posted first stays, and it is an answer: it holds on every path, and it is about the problem.
+//! that it makes. Both are counted against the [`Settings`](search_limits::Settings) of the search.
+//! What is posted first stays, and it is an answer: it holds on every path, and it is about the
+//! problem.
 //!
 //! Contracts see a desk as its counts, its limits, the problem's position and what is posted
 //! (`specs/Desk.antt`).

@@ -47,8 +47,8 @@ rest_length : (fs : List FrameView) → length (rest_of fs) ≤ length fs
 rest_length [] = omega arith
 rest_length (f ∷ fs) = omega arith
 
--- 2. THE DRAWN VISITS COVER IT. Each visit that is going on may still ask for room, but for one that has
--- asked already.
+-- 2. THE DRAWN VISITS COVER IT. Each visit that is going on may still ask for room, but for one
+-- that has asked already.
 
 -- how many visits may still ask for room
 abbrev unclaimed : Stage → List FrameView → ℕ

@@ -131,8 +131,8 @@ abbrev pub unseen_in : List FrameView → ℕ
 unseen_in [] = 0
 unseen_in (f ∷ fs) = unseen f.children
 
--- How many requests are to come, at most, until the stage is another, beside what the visits and the
--- visits that go on allow.
+-- How many requests are to come, at most, until the stage is another, beside what the visits and
+-- the visits that go on allow.
 abbrev pub cost : Stage → List FrameView → ℕ
 cost (Polling entry) fs = 2
 cost (Drawing entry) fs = 1

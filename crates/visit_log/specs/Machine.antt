@@ -35,8 +35,8 @@ use Rattle.visit_log.specs.Children.{AreChildren}
 use Rattle.visit_log.specs.Round.{own, Solves, GivesUp, LooksNext, Choice, GoesDown, child_place, Sight, looked, MayShow, Tells, came_back, IsMade, IsRefusal}
 use Rattle.visit_log.specs.Visit.{path_at, kept_by}
 
--- What it does next, the visits that are going on, the innermost first, and how many were drawn and how
--- much room it got.
+-- What it does next, the visits that are going on, the innermost first, and how many were drawn and
+-- how much room it got.
 pub record State : Type 0 where
   pub stage : Stage
   pub frames : List FrameView

@@ -32,13 +32,15 @@ pub(crate) fn stretch_end(from: usize, size: usize, count: usize) -> usize
 
 // Each stretch is heard by itself.
 impl<'h, 'c> Jobs for Stretches<'h, 'c> {
-    ghost use Rattle.std.specs.Prelude.{◌-◌};
+    ghost use Rattle.std.specs.Prelude.{◌-◌, ⊤};
     ghost use Rattle.std.specs.Int.{div_ceil};
     ghost use Rattle.wide_check.specs.Stretches.{IsFoundInStretch};
 
     type Tools = ();
 
     type Answer = Option<Objection>;
+
+    ghost is_ready = { λ jobs. ⊤ };
 
     ghost size = { λ stretches. div_ceil (stretches.to - stretches.from) stretches.size };
 

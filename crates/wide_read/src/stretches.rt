@@ -16,12 +16,14 @@ pub(crate) struct Stretches<'s, 'a, E> {
 
 // Each stretch is read by itself.
 impl<'s, 'a, E: Entry + Send + Sync> Jobs for Stretches<'s, 'a, E> {
-    ghost use Rattle.std.specs.Prelude.{length};
+    ghost use Rattle.std.specs.Prelude.{length, ⊤};
     ghost use Rattle.wide_read.specs.Stretches.{IsReadAt};
 
     type Tools = ();
 
     type Answer = ReadLines<'a, E>;
+
+    ghost is_ready = { λ jobs. ⊤ };
 
     ghost size = { λ stretches. length stretches.texts.now };
 

@@ -116,8 +116,8 @@ once_to last number = if nat_le 1 number && nat_le number last then 1 else 0
 abbrev pub AreEachTo : ℕ → List ℕ → Type 0
 AreEachTo last numbers = (number : ℕ) → times number numbers ≡ once_to last number
 
--- What a desk comes to, by the seat to which all others were joined: how many visits were drawn, for
--- how many notes room was claimed, and the note that was posted first.
+-- What a desk comes to, by the seat to which all others were joined: how many visits were drawn,
+-- for how many notes room was claimed, and the note that was posted first.
 pub record Ends (seat : DeskSeatView) (its_drawn its_claimed : ℕ) (its_note : Option Derivation) : Type 0 where
   pub drawn : its_drawn ≡ length seat.visits
   pub claimed : its_claimed ≡ length seat.claims

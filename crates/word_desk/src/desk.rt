@@ -22,12 +22,12 @@ const VISITS: usize = 0;
 // The word of the claims.
 const CLAIMS: usize = 1;
 
-/// Hands out the visits and the room of a search to threads that share it by `&`. Its counts are two
-/// words side by side; a draw and a claim are one instruction on one of them. None of its calls
+/// Hands out the visits and the room of a search to threads that share it by `&`. Its counts are
+/// two words side by side; a draw and a claim are one instruction on one of them. None of its calls
 /// waits, and none fails or takes memory but [`make`](WordDesk::make).
 ///
-/// Contracts see which words it has, the problem's position, and how many visits and notes there may
-/// be.
+/// Contracts see which words it has, the problem's position, and how many visits and notes there
+/// may be.
 #[derive(Drop)]
 pub struct WordDesk {
     table: Table<u8, View, (), NumbersOnce, Global>,
@@ -97,8 +97,8 @@ impl WordDesk {
         Ok((desk, first))
     }
 
-    /// The next visit: Done where a note is posted; else Spent where all visits were drawn;
-    /// else the number of the visit, from 1, which no other draw gets. A seat that got none draws no
+    /// The next visit: Done where a note is posted; else Spent where all visits were drawn; else
+    /// the number of the visit, from 1, which no other draw gets. A seat that got none draws no
     /// more. That a note was posted, or all visits drawn, [`close`](WordDesk::close) tells; a draw
     /// tells its own seat alone.
     pub fn draw(&self, seat: &mut DeskSeat) -> Draw
@@ -155,8 +155,8 @@ impl WordDesk {
         }
     }
 
-    /// A new seat of the same desk, of one part of a seat that has another, and that got a visit and
-    /// room whenever it asked.
+    /// A new seat of the same desk, of one part of a seat that has another, and that got a visit
+    /// and room whenever it asked.
     pub fn make_seat(&self, seat: &mut DeskSeat) -> DeskSeat
         requires seat { seat.old.desk ≡ self.now }
         requires parts { 1 < seat.old.parts }

@@ -1,8 +1,8 @@
 //! The desk of a search by several threads: it hands out the visits and the room for notes,
 //! and keeps the note that answers the problem.
 //!
-//! Two words count the visits and the claims, and say whether a note is posted. Each thread steps on
-//! them with a seat of its own, which keeps what it drew, claimed and posted; what is shared is
+//! Two words count the visits and the claims, and say whether a note is posted. Each thread steps
+//! on them with a seat of its own, which keeps what it drew, claimed and posted; what is shared is
 //! kept by proof alone. The visits that all seats drew are different numbers from 1, and so are the
 //! claims: each is handed out once, whatever the threads do.
 //!

@@ -85,8 +85,8 @@ entering Entering = 1
 entering stage = 0
 
 -- What a worker needs of a port to run over it: both are of one problem; the port goes on, or the
--- worker winds up; its own slots are held; and the port gave at least its visits, at most a billion,
--- and holds no more slots than it gave visits, with the one that is about to be entered.
+-- worker winds up; its own slots are held; and the port gave at least its visits, at most a
+-- billion, and holds no more slots than it gave visits, with the one that is about to be entered.
 pub record Suits (worker : WorkerView) (book : Book) : Type 0 where
   pub problem : worker.task.problem ≡ book.problem
   pub going : (book.going ≡ true) ⊎ ((end : WorkEnd) × (worker.state.stage ≡ Winding end))

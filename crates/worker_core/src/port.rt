@@ -11,9 +11,9 @@ use std::alloc::AllocError;
 /// The table of positions and the desk of a search, as one worker has them: alone, beside others
 /// under some schedule, or on a thread.
 ///
-/// What it tells of itself is its book: the problem; how many visits it gave, at most a billion, and
-/// for how many notes it gave room; whether it goes on; which word each slot of a key's row has,
-/// and how often the slot of a word is entered and not left. Each call changes the book as its
+/// What it tells of itself is its book: the problem; how many visits it gave, at most a billion,
+/// and for how many notes it gave room; whether it goes on; which word each slot of a key's row
+/// has, and how often the slot of a word is entered and not left. Each call changes the book as its
 /// request and answer say (`IsBooked`), and is one step of the port (`turn`).
 pub trait Port {
     ghost use Rattle.std.specs.Prelude.{◌≡◌, ◌<◌, ◌≤◌, ℕ, true, IfOk, Some, Option, List};

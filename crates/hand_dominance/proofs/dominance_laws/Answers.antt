@@ -1,5 +1,6 @@
 use Rattle.mate_def.specs.Mate.{RankAtMost, IsMatedWithin, Escapes, CanEvadeTo}
 use Rattle.hand_dominance.proofs.Carried.{rank_up, mated_up, escape_down, evade_down, carries_up, carries_down}
+use Rattle.hand_dominance.proofs.Listed.{itself, above_too}
 use Rattle.hand_dominance.proofs.dominance_laws.Goals as goal
 
 pub returns-clause-mates : goal.returns-clause-mates
@@ -13,3 +14,9 @@ returns-clause-escapes c = carries_down (λ attacker b. Escapes attacker b) (λ 
 
 pub returns-clause-evasions : goal.returns-clause-evasions
 returns-clause-evasions c = carries_down (λ attacker b. CanEvadeTo attacker (Escapes attacker) b) (λ attacker less more b black white s h. evade_down attacker less more b black white s h)
+
+pub returns-clause-itself : goal.returns-clause-itself
+returns-clause-itself c = itself
+
+pub returns-clause-goes_on : goal.returns-clause-goes_on
+returns-clause-goes_on c = above_too

@@ -48,6 +48,8 @@ fn answer_and_input(ended: &Ended) -> (bool, usize) {
         Ended::Bound(ended) => own(ended),
         Ended::Survey(ended) => own_written(ended),
         Ended::Collection(ended) => own(ended),
+        Ended::Solution(ended) => own(ended),
+        Ended::Record(ended) => own(ended),
         Ended::Help(ended) => own_written(ended),
         Ended::Refused(_) => (false, 0),
     }

@@ -132,6 +132,74 @@ fn a_deadline_counts_from_when_the_search_begins(rt: HostRuntime) -> Result<(), 
     Ok(())
 }
 
+// Somebody whose clock shows a millisecond more each time it is read.
+#[derive(Drop)]
+struct Ticking {
+    shown: AtomicU64,
+}
+
+impl Gate for Ticking {
+    fn pass(&self, _worker: u32, _expansion: u64) {}
+}
+
+impl Onlooker for Ticking {
+    fn now(&self) -> u64 {
+        self.shown.fetch_add(1, Ordering::SeqCst)
+    }
+
+    fn begin(&self, _lines: usize) {}
+
+    fn begin_round(&self) {}
+
+    fn see(&self, _report: &Report) {}
+}
+
+// Two problems that take more than one visit, and one line that is none.
+const THREE_LINES: &str =
+    "9/4k4/8R/9/9/9/9/9/9 b R 1\n9/4k4/8R/9/9/9/9/9/9 b R 1\n4k4/9/4X4/9/9/9/9/9/9 b G\n";
+
+// Words, and what is kept: the clock is read when a stop is armed and at each poll, once before
+// each visit.
+static EACH_UNTIL: [(&str, &str); 5] = [
+    (
+        "collection --threads 1 --deadline 1",
+        "1 unknown stopped\n2 unknown stopped\n3 fault bad piece at 7\nproblems 3 mate 0 nomate 0 unknown 2 fault 1\n",
+    ),
+    (
+        "collection --threads 1 --deadline 2 --expansions 1",
+        "1 unknown stopped\n2 unknown stopped\n3 fault bad piece at 7\nproblems 3 mate 0 nomate 0 unknown 2 fault 1\n",
+    ),
+    (
+        "collection --threads 1 --deadline 3 --expansions 1",
+        "1 unknown expansions 1\n2 unknown expansions 1\n3 fault bad piece at 7\nproblems 3 mate 0 nomate 0 unknown 2 fault 1\n",
+    ),
+    (
+        "collection --threads 2 --deadline 86400000",
+        "1 mate R*2b 5b4a 1c1a\n2 mate R*2b 5b4a 1c1a\n3 fault bad piece at 7\nproblems 3 mate 2 nomate 0 unknown 0 fault 1\n",
+    ),
+    (
+        "collection",
+        "1 mate R*2b 5b4a 1c1a\n2 mate R*2b 5b4a 1c1a\n3 fault bad piece at 7\nproblems 3 mate 2 nomate 0 unknown 0 fault 1\n",
+    ),
+];
+
+#[test]
+fn each_problem_of_a_collection_has_its_time(rt: HostRuntime) -> Result<(), Fail> {
+    for (words, kept) in EACH_UNTIL {
+        let clock = Ticking {
+            shown: AtomicU64::new(0),
+        };
+        // A collection leaves these as they are.
+        let mut stops = stops_at(rt.alloc(), 1)?;
+        let seen = seen_by(&rt, words, THREE_LINES, (7, 0), (11, 0), &clock, &mut stops)?;
+        same(&rt, words, (seen.status, seen.kept.as_str()), (3, kept));
+        for stop in stops.as_slice() {
+            same(&rt, words, stop.polls(), 0);
+        }
+    }
+    Ok(())
+}
+
 #[test]
 fn a_search_ends_where_it_is_stopped(rt: HostRuntime) -> Result<(), Fail> {
     let stopped = "checkmate timeout\nunknown stopped\n";

@@ -6,6 +6,7 @@ use Rattle.cmd_collection.specs.declared.asked.NoFault.{NoFault}
 use Rattle.cmd_collection.specs.declared.counts.Counts.{Counts}
 use Rattle.cmd_collection.specs.Asked.{collect_in}
 use Rattle.cmd_collection.specs.Meaning.{collection_meaning}
+use Rattle.cmd_collection.proofs.Finding.{means_stopped}
 use Rattle.cmd_collection.proofs.running.collection.Goals as goal
 
 pub returns-clause-collected : goal.returns-clause-collected
@@ -17,3 +18,6 @@ returns-clause-collected g c = λ counts is.
 pub returns-clause-complete : goal.returns-clause-complete
 returns-clause-complete g c = λ given sound kept.
     c.collect_through.ensures.complete (record { input = given.input; told = given.told; short = given.short; faultless = λ fault is. is }) sound kept
+
+pub returns-clause-stopped : goal.returns-clause-stopped
+returns-clause-stopped g c = means_stopped (collect_in c.args.asked.now).settings (collect_in c.args.asked.now).form

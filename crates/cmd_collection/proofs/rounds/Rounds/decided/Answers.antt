@@ -1,19 +1,9 @@
--- A table may cross threads, and so may what is told of a line.
 use Rattle.std.proofs.Common.{All, map, ap, sym, subst, ◌∙◌}
-use denote.Param.Send.{sendable}
 use Rattle.search_limits.specs.Settings.{settings_in}
-use Rattle.search_pool.proofs.Offered.{table_send}
 use Rattle.cmd_collection.specs.Words.{collection_in}
 use Rattle.cmd_collection.specs.Inside.{IsReportOn}
 use Rattle.cmd_collection.proofs.Places.{told_in_order, all_told}
-use Rattle.cmd_collection.proofs.Sent.{reported_send}
 use Rattle.cmd_collection.proofs.rounds.Rounds.decided.Goals as goal
-
-pub answers-requires-send-T : goal.answers-requires-send-T
-answers-requires-send-T g c κs within = search (table_send, sendable) depth 20
-
-pub answers-requires-send-A : goal.answers-requires-send-A
-answers-requires-send-A g c κs within = search (reported_send, sendable) depth 20
 
 pub returns-clause-lines : goal.returns-clause-lines
 returns-clause-lines g c =

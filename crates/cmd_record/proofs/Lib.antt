@@ -1,0 +1,4 @@
+pub mod Line
+pub mod Promises
+pub mod Taken
+pub mod Offered

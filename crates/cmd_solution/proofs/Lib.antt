@@ -1,0 +1,4 @@
+pub mod Replaying
+pub mod Taken
+pub mod Offered
+pub mod Promises

@@ -1,0 +1,4 @@
+-- What of a list a position dominates.
+pub mod Best
+pub mod Found
+pub mod Hands

@@ -1,0 +1,15 @@
+mod Again
+mod Cells
+mod Hand
+mod Hands
+mod Header
+mod Lines
+mod Moves
+mod Numbered
+mod Numbers
+mod Play
+mod Rows
+mod Shown
+mod Whole
+mod Words
+mod Written

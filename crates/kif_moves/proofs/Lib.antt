@@ -1,0 +1,4 @@
+pub mod Naming
+pub mod Apart
+pub mod Following
+pub mod Outcomes

@@ -1,0 +1,2 @@
+mod Mated
+mod Writing
