@@ -70,14 +70,14 @@ as_many_picked xs (o ∷ os) [] p = absurd p
 as_many_picked xs (o ∷ os) (z ∷ zs) p = ap suc (as_many_picked xs os zs p.1)
 
 -- what each listed item has, all have
-all_listed : {X : Type 0} (P : X → Type 0) (xs : List X) → ((x : X) → Contains xs x → P x) → AllByRecursion P xs
+pub all_listed : {X : Type 0} (P : X → Type 0) (xs : List X) → ((x : X) → Contains xs x → P x) → AllByRecursion P xs
 all_listed P [] each = tt
 all_listed P (x ∷ xs) each = (
   each x (zero, omega arith, refl),
   all_listed P xs (λ y c. each y (suc c.0, (let inside = c.1 in omega (arith, inside)), c.2)),
 )
 
-picked_map : {X Y : Type 0} (f : X → Y) (xs : List X) (order : List ℕ) (ys : List X) → ArePicked xs order ys → ArePicked (map f xs) order (map f ys)
+pub picked_map : {X Y : Type 0} (f : X → Y) (xs : List X) (order : List ℕ) (ys : List X) → ArePicked xs order ys → ArePicked (map f xs) order (map f ys)
 picked_map {X} {Y} f xs [] [] p = tt
 picked_map {X} {Y} f xs [] (z ∷ zs) p = absurd p
 picked_map {X} {Y} f xs (o ∷ os) [] p = absurd p

@@ -1,4 +1,4 @@
--- For the functions of the crate alone: the places of positions in the order of their texts, and
+-- The places of positions in the order of their texts, and
 -- what is picked by places.
 use Rattle.std.specs.Prelude.{◌≡◌, ◌<◌, ℕ, List, [], ◌∷◌, Some, Contains, length, slice_get}
 use Rattle.std.specs.List.{AllZip}

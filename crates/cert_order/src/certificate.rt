@@ -13,8 +13,9 @@ use mate_facts::MateEntry;
 use shogi_rules::Problem;
 use std::alloc::{AllocError, Global};
 
-// The items at these places, in this order.
-fn items_at<T: Copy>(alloc: Global, items: &[T], order: &[usize]) -> Result<Vec<T>, AllocError>
+/// The items at these places, in this order, each place below the number of items. Errors: want of
+/// memory alone.
+pub fn items_at<T: Copy>(alloc: Global, items: &[T], order: &[usize]) -> Result<Vec<T>, AllocError>
     requires { (place : ℕ) → Contains order.now place → place < length items.now }
     ensures { IfOk result (λ picked. ArePicked items.now order.now picked.items) }
 {

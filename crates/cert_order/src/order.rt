@@ -11,8 +11,8 @@ use std::alloc::{AllocError, Global};
 use std::collections::BTreeMap;
 
 /// The places of positions, of which none stands twice, in the order of the bytes of their SFEN
-/// texts.
-pub(crate) fn text_order(alloc: Global, positions: &[Position]) -> Result<Vec<usize>, AllocError>
+/// texts. Errors: want of memory alone.
+pub fn text_order(alloc: Global, positions: &[Position]) -> Result<Vec<usize>, AllocError>
     requires apart { AreApart positions.now }
     requires kept { (b : Board) → Contains positions.now b → IsKept b }
     ensures { IfOk result (λ order. IsTextOrder positions.now order.items) }
