@@ -1,5 +1,5 @@
 -- How a search with one worker begins and ends.
-use Rattle.std.proofs.Common.{◌≡◌, ◌⊎◌, inl, inr, List, [], ◌∷◌, refl, sym, ap, ◌∙◌, subst, arith, Bool, true, false}
+use Rattle.std.proofs.Common.{◌≡◌, ◌⊎◌, inl, inr, ℕ, List, [], ◌∷◌, refl, sym, ap, ◌∙◌, subst, arith, Bool, true, false}
 use Rattle.std.specs.Prelude.{Some, None, Result, Ok, Err, All, IsSome, IfOk}
 use Rattle.std.proofs.lemmas.List.Elements.{All-nil}
 use Rattle.board_core.specs.Board.{Board}
@@ -23,7 +23,7 @@ use Rattle.lone_port.specs.declared.event.Event.{Event}
 use Rattle.lone_port.specs.Alone.{IsOwn, IsOwnStep, RunsAlone, HasCause}
 use Rattle.search_pool.specs.declared.end.SearchEnd.{SearchEnd}
 use Rattle.search_pool.specs.declared.end.SearchEnd.TheVariants.{Solved, Unknown}
-use Rattle.search_pool.specs.End.{IsAlone, IsAloneUntil, HeedsStop}
+use Rattle.search_pool.specs.End.{IsAlone, IsAloneUntil, IsAloneDrawing, HeedsStop}
 use Rattle.search_pool.specs.Inside.{WasSaid, says_stop, IsQuiet, IsUnderWay, IsWatched, HadAll, IsCauseOf}
 use Rattle.search_pool.proofs.Winding.{ends_so}
 
@@ -98,10 +98,11 @@ quietly before after schedule log (inr q) = inr q.1
 abbrev shown : LonePortView → Bool → Bool → LonePortView
 shown port its_going its_stops = record port { going = its_going; stops = its_stops }
 
--- With a note that is posted.
-pub ends_solved : (problem : Board) (s : SettingsView) (before after : Signal) (port : LonePortView) (worker : WorkerView) (end : WorkEnd) (note : Derivation)
-    → IsWatched problem s before after port worker → end_of worker.state ≡ Some end → Some note ≡ port.desk.posted → IsAloneUntil problem s before after (Solved note)
-ends_solved problem s before after port worker end note way ended posted = (
+-- With a note that is posted; and how many visits were drawn.
+pub draws_solved : (problem : Board) (s : SettingsView) (before after : Signal) (port : LonePortView) (worker : WorkerView) (end : WorkEnd) (note : Derivation)
+    → IsWatched problem s before after port worker → end_of worker.state ≡ Some end → Some note ≡ port.desk.posted
+    → IsAloneDrawing problem s before after (Solved note) port.desk.drawn
+draws_solved problem s before after port worker end note way ended posted = (
   way.2.schedule,
   quietly before after way.2.schedule way.2.log way.2.quiet,
   record {
@@ -113,7 +114,13 @@ ends_solved problem s before after port worker end note way ended posted = (
     outcome = sym posted;
   },
   way.2.polls,
+  refl,
 )
+
+-- That is what a search until then answers.
+pub undrawn : (problem : Board) (s : SettingsView) (before after : Signal) (end : SearchEnd) (drawn : ℕ) → IsAloneDrawing problem s before after end drawn
+    → IsAloneUntil problem s before after end
+undrawn problem s before after end drawn told = (told.0, told.1, told.2, told.3)
 
 posted_not_stopped : {A : Type 0} (worker : WorkerView) → worker.state.stage ≡ Winding Posted → worker.state.stage ≡ Winding Stopped → A
 posted_not_stopped worker one two = (let e : Winding Posted ≡ Winding Stopped = sym one ∙ two in absurd (cc))
@@ -151,11 +158,11 @@ cause_by problem s before after port worker end (StoppedFirst number) way had en
 cause_by problem s before after port worker end (Entries number) way had ended law whole is = absurd is
 
 -- Without one, for a cause.
-pub ends_unknown : (problem : Board) (s : SettingsView) (before after : Signal) (port : LonePortView) (worker : WorkerView) (end : WorkEnd) (cause : Cause) (crew : List WorkerView)
+pub draws_unknown : (problem : Board) (s : SettingsView) (before after : Signal) (port : LonePortView) (worker : WorkerView) (end : WorkEnd) (cause : Cause) (crew : List WorkerView)
     → IsWatched problem s before after port worker → HadAll port worker → end_of worker.state ≡ Some end → EndsHaveCauses
     → ((l : List Exchange) (e : WorkEnd) → IsReached worker l → end_of worker.state ≡ Some e → IsVisitLog worker.task l e) → IsCauseOf s end cause
-    → port.desk.posted ≡ None → crew ≡ worker ∷ [] → IsAloneUntil problem s before after (Unknown cause crew)
-ends_unknown problem s before after port worker end cause crew way had ended law whole is none one = (
+    → port.desk.posted ≡ None → crew ≡ worker ∷ [] → IsAloneDrawing problem s before after (Unknown cause crew) port.desk.drawn
+draws_unknown problem s before after port worker end cause crew way had ended law whole is none one = (
   way.2.schedule,
   quietly before after way.2.schedule way.2.log way.2.quiet,
   record {
@@ -167,6 +174,7 @@ ends_unknown problem s before after port worker end cause crew way had ended law
     outcome = (none, one, cause_by problem s before after (shown port way.0 way.1) worker end cause way.2 had ended law whole is);
   },
   way.2.polls,
+  refl,
 )
 
 not_stopped : (problem : Board) (s : SettingsView) (before after : Signal) (port : LonePortView) (worker : WorkerView) (end : WorkEnd) → IsUnderWay problem s before after port worker

@@ -48,6 +48,12 @@ IsAloneUntil problem s before after end =
     (schedule : List Event) × (All IsOwnStep schedule ⊎ (after.raised ≡ one_more before.raised)) × (run : IsEndBy problem s schedule end)
     × (after.polls ≡ polls_after run.log before.polls)
 
+-- The same, and so many visits were drawn in it.
+abbrev pub IsAloneDrawing : Board → SettingsView → Signal → Signal → SearchEnd → ℕ → Type 0
+IsAloneDrawing problem s before after end drawn =
+    (schedule : List Event) × (All IsOwnStep schedule ⊎ (after.raised ≡ one_more before.raised)) × (run : IsEndBy problem s schedule end)
+    × (after.polls ≡ polls_after run.log before.polls) × (run.port.desk.drawn ≡ drawn)
+
 -- A note that solved the search answers the problem: it is valid, holds on every path, is about the
 -- problem's position and for its attacker.
 abbrev pub IsSolution : Board → SearchEnd → Type 0

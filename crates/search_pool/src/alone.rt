@@ -3,7 +3,7 @@ ghost use Rattle.std.specs.Prelude.{◌≡◌, ℕ, IfOk, IfSome, IfNone, ◌⊎
 ghost use Rattle.search_limits.specs.Settings.{settings_in};
 ghost use Rattle.visit_log.specs.Machine.{end_of};
 ghost use Rattle.visit_log.specs.declared.words.WorkEnd.TheVariants.{Posted, NoMemory};
-ghost use Rattle.search_pool.specs.End.{IsAlone, IsAloneUntil, IsSolution, HeedsStop};
+ghost use Rattle.search_pool.specs.End.{IsAlone, IsAloneDrawing, IsAloneUntil, IsSolution, HeedsStop};
 ghost use Rattle.search_pool.specs.Inside.{IsWatched, HadAll, IsCauseOf};
 ghost use Rattle.worker_core.specs.Port.{Suits};
 ghost use Rattle.lone_port.specs.Lone.{alone_at_first, worker_at_first, book_of};
@@ -104,6 +104,9 @@ pub(crate) fn search_over<G: Gate, T: Stop>(
     ensures alone { IfOk result
         (IsAloneUntil problem.now.position (settings_in settings.now) (T.signal stop.old)
         (T.signal stop.new)) }
+    ensures drawing { IfOk result (λ end.
+        IsAloneDrawing problem.now.position (settings_in settings.now) (T.signal stop.old)
+        (T.signal stop.new) end port.new.desk.drawn) }
     ensures solution { IfOk result (IsSolution problem.now.position) }
     ensures heeds { IfOk result (HeedsStop (T.signal stop.old) (T.signal stop.new)) }
     ensures armed { (T.signal stop.new).armed ≡ (T.signal stop.old).armed }
@@ -159,8 +162,32 @@ pub fn search_alone_until<G: Gate, T: Stop>(
     search_over(alloc, problem, settings, &mut port, gate, stop)
 }
 
-/// The same with a stop that never signals: it answers what the world of one worker does under its
-/// own steps. Errors: want of memory alone.
+/// The same, and how many visits were drawn. Errors: want of memory alone.
+pub fn search_alone_counted<G: Gate, T: Stop>(
+    alloc: Global,
+    problem: &Problem,
+    settings: &Settings,
+    gate: &G,
+    stop: &mut T,
+) -> Result<(SearchEnd, u64), AllocError>
+    ensures alone { IfOk result (λ found.
+        IsAloneDrawing problem.now.position (settings_in settings.now) (T.signal stop.old)
+        (T.signal stop.new) found.0 found.1) }
+    ensures solution { IfOk result (λ found. IsSolution problem.now.position found.0) }
+    ensures heeds { IfOk result (λ found.
+        HeedsStop (T.signal stop.old) (T.signal stop.new) found.0) }
+    // A stop is polled, and nothing else.
+    ensures armed { (T.signal stop.new).armed ≡ (T.signal stop.old).armed }
+    ensures arms { (T.signal stop.new).arms ≡ (T.signal stop.old).arms }
+    ensures early { (T.signal stop.new).early ≡ (T.signal stop.old).early }
+{
+    let mut port = LonePort::make(alloc, problem, settings)?;
+    let end = search_over(alloc, problem, settings, &mut port, gate, stop)?;
+    Ok((end, port.drawn()))
+}
+
+/// As [`search_alone_until`] with a stop that never signals: it answers what the world of one
+/// worker does under its own steps. Errors: want of memory alone.
 pub fn search_alone_gated<G: Gate>(
     alloc: Global,
     problem: &Problem,

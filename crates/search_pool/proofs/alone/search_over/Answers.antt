@@ -1,11 +1,12 @@
 use Rattle.std.proofs.Common.{Some, sym, ap, ◌∙◌}
 use Rattle.search_limits.specs.Settings.{settings_in}
-use Rattle.search_pool.proofs.Ends.{ends_solved, heeds_solved, ends_unknown, heeds_unknown}
+use Rattle.search_pool.specs.declared.end.SearchEnd.TheVariants.{Solved, Unknown}
+use Rattle.search_pool.proofs.Ends.{draws_solved, heeds_solved, draws_unknown, heeds_unknown, undrawn}
 use Rattle.search_pool.proofs.alone.search_over.Goals as goal
 
-pub returns-in-Some-clause-alone : goal.returns-in-Some-clause-alone
-returns-in-Some-clause-alone g c =
-    ends_solved c.args.problem.now.position (settings_in c.args.settings.now) (g.T.Stop.signal c.args.stop.now) (g.T.Stop.signal c.work_alone-end.new.stop)
+pub returns-in-Some-clause-drawing : goal.returns-in-Some-clause-drawing
+returns-in-Some-clause-drawing g c =
+    draws_solved c.args.problem.now.position (settings_in c.args.settings.now) (g.T.Stop.signal c.args.stop.now) (g.T.Stop.signal c.work_alone-end.new.stop)
     c.work_alone-end.new.port c.work_alone-end.new.worker c.work_alone-end.result c.in_ok-note.note c.work_alone-end.ensures.way c.work_alone-end.ensures.ended
     (ap Some c.in_ok-note.ensures ∙ c.in-Some.ensures)
 
@@ -15,9 +16,9 @@ returns-in-Some-clause-heeds g c =
     c.work_alone-end.new.port c.work_alone-end.new.worker c.in_ok-note.note c.work_alone-end.ensures.way
     (ap Some c.in_ok-note.ensures ∙ c.in-Some.ensures)
 
-pub returns-clause-alone : goal.returns-clause-alone
-returns-clause-alone g c =
-    ends_unknown c.args.problem.now.position (settings_in c.args.settings.now) (g.T.Stop.signal c.args.stop.now) (g.T.Stop.signal c.work_alone-end.new.stop)
+pub returns-clause-drawing : goal.returns-clause-drawing
+returns-clause-drawing g c =
+    draws_unknown c.args.problem.now.position (settings_in c.args.settings.now) (g.T.Stop.signal c.args.stop.now) (g.T.Stop.signal c.work_alone-end.new.stop)
     c.work_alone-end.new.port c.work_alone-end.new.worker c.work_alone-end.result c.in-Some-cause_of.cause c.new.result c.work_alone-end.ensures.way
     c.work_alone-end.ensures.had c.work_alone-end.ensures.ended
     c.visit_laws.ensures.causes c.laws-2.ensures.whole c.in-Some-cause_of.ensures.cause
@@ -28,3 +29,13 @@ returns-clause-heeds g c =
     heeds_unknown c.args.problem.now.position (settings_in c.args.settings.now) (g.T.Stop.signal c.args.stop.now) (g.T.Stop.signal c.work_alone-end.new.stop)
     c.work_alone-end.new.port c.work_alone-end.new.worker c.work_alone-end.result c.in-Some-cause_of.cause c.new.result c.work_alone-end.ensures.way c.work_alone-end.ensures.ended
     c.visit_laws.ensures.causes c.laws-2.ensures.whole c.in-Some-cause_of.ensures.cause
+
+pub returns-in-Some-clause-alone : goal.returns-in-Some-clause-alone
+returns-in-Some-clause-alone g c =
+    undrawn c.args.problem.now.position (settings_in c.args.settings.now) (g.T.Stop.signal c.args.stop.now) (g.T.Stop.signal c.work_alone-end.new.stop)
+    (Solved c.in_ok-note.note) c.work_alone-end.new.port.desk.drawn (returns-in-Some-clause-drawing g c)
+
+pub returns-clause-alone : goal.returns-clause-alone
+returns-clause-alone g c =
+    undrawn c.args.problem.now.position (settings_in c.args.settings.now) (g.T.Stop.signal c.args.stop.now) (g.T.Stop.signal c.work_alone-end.new.stop)
+    (Unknown c.in-Some-cause_of.cause c.new.result) c.work_alone-end.new.port.desk.drawn (returns-clause-drawing g c)
