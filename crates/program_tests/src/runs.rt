@@ -7,6 +7,7 @@ mod failing;
 mod looked_on;
 mod records;
 mod seen;
+mod shortest;
 mod solutions;
 mod stopped;
 mod telling;

@@ -3,20 +3,22 @@ use crate::lines::words_of;
 use crate::same::same;
 use cmd_check::Check;
 use cmd_collection::Collection;
+use cmd_shortest::Shortest;
 use cmd_solve::Solve;
 use cmd_survey::SurveyRange;
 use program_words::{Asked, Command, read_words};
 use search_limits::Settings;
 use std::alloc::{AllocError, Global};
 use std::test::Fail;
-use tsume_words::{Format, WordsEnd};
+use tsume_words::{Format, ProblemForm, Watch, WordsEnd};
 
 // A line, and what it asks for: the numbers in the order of the settings, whether `--rest` stands,
 // `kif` where `--kif` does, `until` the deadline, and `telling` where `--progress` stands; or the
-// problem, and `by` the workers; and the file. Of the commands over many problems the seed, the
-// count and the expansions; or the settings, whether `--rest` stands, `told` where `--certificates`
-// does, `until` the deadline, and `by` the threads.
-static ASKED: [(&str, &str); 68] = [
+// limit and the expansions, and then the same; or the problem, and `by` the workers; and the file.
+// Of the commands over many problems the seed, the count and the expansions; or the settings,
+// whether `--rest` stands, `told` where `--certificates` does, `until` the deadline, and `by` the
+// threads.
+static ASKED: [(&str, &str); 73] = [
     ("solve", "solve 1 1000000 1000000000 65536 64 false"),
     ("solve --rest", "solve 1 1000000 1000000000 65536 64 true"),
     (
@@ -81,6 +83,20 @@ static ASKED: [(&str, &str); 68] = [
         "solve --progress --deadline 86400000",
         "solve 1 1000000 1000000000 65536 64 false until 86400000 telling",
     ),
+    ("shortest", "shortest 50 1000000 false"),
+    (
+        "shortest --limit 2000 --expansions 1",
+        "shortest 2000 1 false",
+    ),
+    (
+        "shortest --rest --limit 1 --kif a.kif",
+        "shortest 1 1000000 true kif of a.kif",
+    ),
+    (
+        "shortest --progress --deadline 5 --expansions 1000000000",
+        "shortest 50 1000000000 false until 5 telling",
+    ),
+    ("shortest --limit +7 -", "shortest 7 1000000 false"),
     ("check", "check"),
     ("check --workers 3", "check by 3"),
     ("check --problem 4k4/9 --workers 2", "check 4k4/9 by 2"),
@@ -206,7 +222,7 @@ static ASKED: [(&str, &str); 68] = [
 ];
 
 // A line that is refused, and how its text begins.
-static REFUSED: [(&str, &str); 41] = [
+static REFUSED: [(&str, &str); 45] = [
     ("solve --rows 16 --shards 32", "more shards than rows"),
     ("", "Solves tsume-shogi problems"),
     ("dance", "error: unrecognized subcommand 'dance'"),
@@ -287,6 +303,22 @@ static REFUSED: [(&str, &str); 41] = [
         "solve --rest --rest",
         "error: the argument '--rest' cannot be used multiple times",
     ),
+    (
+        "shortest --limit 0",
+        "error: invalid value '0' for '--limit <N>': 0 is not in 1..=2000",
+    ),
+    (
+        "shortest --limit 2001",
+        "error: invalid value '2001' for '--limit <N>': 2001 is not in 1..=2000",
+    ),
+    (
+        "shortest --expansions 1000000001",
+        "error: invalid value '1000000001' for '--expansions <N>'",
+    ),
+    (
+        "shortest --workers 2",
+        "error: unexpected argument '--workers' found",
+    ),
     // Of the commands over many problems.
     (
         "survey --seed 1000000001",
@@ -342,7 +374,7 @@ static REFUSED: [(&str, &str); 41] = [
 ];
 
 // A request for help or for the version, and a part of its text.
-static HELPED: [(&str, &str); 32] = [
+static HELPED: [(&str, &str); 36] = [
     ("--version", "tsume 0.1.0\n"),
     ("-V --help", "tsume 0.1.0\n"),
     ("--help", "Usage: tsume <COMMAND>\n"),
@@ -382,6 +414,19 @@ static HELPED: [(&str, &str); 32] = [
     (
         "solve -h",
         "Every interposition\ncounts, also one that only delays",
+    ),
+    (
+        "-h",
+        "\n  shortest    Finds the shortest mate of a problem, and that none is shorter\n",
+    ),
+    ("help shortest", "Usage: tsume shortest [OPTIONS] [FILE]\n"),
+    (
+        "shortest --help",
+        "\n      --limit <N>       Moves of the attacker up to which it looks for a mate,\n",
+    ),
+    (
+        "shortest -h",
+        " search comes back to it [default: 1000000]\n",
     ),
     ("help check", "Usage: tsume check [OPTIONS] [FILE]\n"),
     ("help record", "Usage: tsume record [FILE]\n"),
@@ -447,6 +492,7 @@ static HIDDEN: [&str; 2] = ["--workers", "--shards"];
 fn command_text(alloc: Global, command: &Command) -> Result<String, AllocError> {
     match command {
         Command::Solve(asked) => solve_text(alloc, asked),
+        Command::Shortest(asked) => shortest_text(alloc, asked),
         Command::Check(asked) => check_text(alloc, asked),
         Command::Survey(asked) => survey_text(alloc, asked),
         Command::Collection(asked) => collection_text(alloc, asked),
@@ -463,18 +509,33 @@ fn solve_text(alloc: Global, asked: &Solve) -> Result<String, AllocError> {
         rows,
         shards,
     } = asked.settings;
-    let rest = asked.form.rest;
-    let kif = match asked.form.format {
+    let form = form_text(alloc, asked.form)?;
+    let solve = format!(in alloc; "solve {workers} {expansions} {room} {rows} {shards} {form}")?;
+    watched_text(alloc, solve, asked.watch)
+}
+
+fn shortest_text(alloc: Global, asked: &Shortest) -> Result<String, AllocError> {
+    let limit = asked.limit;
+    let expansions = asked.expansions.count;
+    let form = form_text(alloc, asked.form)?;
+    let shortest = format!(in alloc; "shortest {limit} {expansions} {form}")?;
+    watched_text(alloc, shortest, asked.watch)
+}
+
+fn form_text(alloc: Global, form: ProblemForm) -> Result<String, AllocError> {
+    let rest = form.rest;
+    let kif = match form.format {
         Format::Sfen => "",
         Format::Kif => " kif",
     };
-    let telling = if asked.watch.progress { " telling" } else { "" };
-    let solve = format!(in alloc;
-        "solve {workers} {expansions} {room} {rows} {shards} {rest}{kif}"
-    )?;
-    match asked.watch.deadline {
-        Some(end) => format!(in alloc; "{solve} until {end}{telling}"),
-        None => format!(in alloc; "{solve}{telling}"),
+    format!(in alloc; "{rest}{kif}")
+}
+
+fn watched_text(alloc: Global, search: String, watch: Watch) -> Result<String, AllocError> {
+    let telling = if watch.progress { " telling" } else { "" };
+    match watch.deadline {
+        Some(end) => format!(in alloc; "{search} until {end}{telling}"),
+        None => format!(in alloc; "{search}{telling}"),
     }
 }
 

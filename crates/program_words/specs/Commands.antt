@@ -5,6 +5,7 @@ use Rattle.clap.specs.Words.{App, Row, Text, with_subcommand}
 use Rattle.search_limits.specs.Sizes.{SettingsView}
 use Rattle.tsume_words.specs.Meaning.{CommandMeaning}
 use Rattle.cmd_solve.specs as solve
+use Rattle.cmd_shortest.specs as shortest
 use Rattle.cmd_check.specs as check
 use Rattle.cmd_survey.specs as survey
 use Rattle.cmd_collection.specs as collection
@@ -16,6 +17,7 @@ use Rattle.program_words.specs.declared.command.Command.TheVariants as asks
 -- What words ask for: what one of the commands is asked.
 pub data CommandView : Type 0 where
   to_solve : solve.Meaning.SolveView → CommandView
+  to_shortest : shortest.Asked.ShortestView → CommandView
   to_check : check.Words.CheckView → CommandView
   to_survey : survey.Words.SurveyView → CommandView
   to_collect : collection.Words.CollectView → CommandView
@@ -25,6 +27,7 @@ pub data CommandView : Type 0 where
 -- What a command is asked.
 abbrev pub command_view : Command → CommandView
 command_view (asks.Solve asked) = to_solve (solve.Asked.solve_in asked)
+command_view (asks.Shortest asked) = to_shortest (shortest.Asked.shortest_in asked)
 command_view (asks.Check asked) = to_check (check.Words.check_view asked)
 command_view (asks.Survey asked) = to_survey (survey.Words.survey_in asked)
 command_view (asks.Collection asked) = to_collect (collection.Asked.collect_in asked)
@@ -73,5 +76,6 @@ commands =
     let more = command (codes "collection") collection.Words.collection_words to_collect more in
     let more = command (codes "survey") survey.Words.survey_words to_survey more in
     let more = command (codes "check") check.Words.check_words to_check more in
+    let more = command (codes "shortest") shortest.Words.shortest_words to_shortest more in
     let more = command (codes "solve") solve.Words.solve_words to_solve more in
     more

@@ -5,6 +5,8 @@
 pub enum Command {
     /// Solve the problem that is read.
     Solve(cmd_solve::Solve),
+    /// Look for the shortest mate of the problem that is read.
+    Shortest(cmd_shortest::Shortest),
     /// Check the certificate that is read.
     Check(cmd_check::Check),
     /// Solve the problems of this range, as the generator makes them, and count how they end;

@@ -18,6 +18,7 @@ macro_rules! with_each_command {
     ($then:ident, $($given:ident),*) => {
         $then!($($given),*;
             "solve" Solve cmd_solve::Solve,
+            "shortest" Shortest cmd_shortest::Shortest,
             "check" Check cmd_check::Check,
             "survey" Survey cmd_survey::SurveyRange,
             "collection" Collection cmd_collection::Collection,

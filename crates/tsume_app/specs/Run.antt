@@ -1,9 +1,9 @@
 -- What a run of the program did: what the command promises that the words asked for.
-use Rattle.std.specs.Prelude.{◌≡◌, ◌⊎◌, true, false, List, Option, Some, None, String, ⊤, string_bytes}
+use Rattle.std.specs.Prelude.{◌≡◌, ◌⊎◌, true, false, List, Option, Some, None, String, ⊤, drop, string_bytes, take}
 use Rattle.std.specs.Global.{Global}
 use Rattle.clap.specs.Words.{Text as Word}
 use Rattle.program_words.specs.Commands.{CommandView}
-use Rattle.program_words.specs.Commands.CommandView.{to_solve, to_check, to_survey, to_collect, to_judge, to_record}
+use Rattle.program_words.specs.Commands.CommandView.{to_solve, to_shortest, to_check, to_survey, to_collect, to_judge, to_record}
 use Rattle.program_words.specs.Meaning.{IsRefusalOf, MayAskForHelp}
 use Rattle.app_texts.specs.declared.fault.ProblemFault.{ProblemFault}
 use Rattle.one_run.specs.declared.written.Written.TheVariants.{Whole, NoMemory as HelpNoMemory}
@@ -11,6 +11,7 @@ use Rattle.one_run.specs.Outside.{Shown, IsUntouched}
 use Rattle.one_run.specs.Stops.{Signals, AreUnused}
 use Rattle.one_run.specs.Written.{Statement, IsStatedRun}
 use Rattle.cmd_solve.specs.Headline.{IsSolveRun}
+use Rattle.cmd_shortest.specs.Headline.{IsShortestRun}
 use Rattle.cmd_check.specs.Asked.{IsFaultInWords, AnyProblemIsSound}
 use Rattle.cmd_check.specs.Headline.{IsCheckRun}
 use Rattle.cmd_bound.specs.Headline.{IsBoundRun}
@@ -48,6 +49,14 @@ IsRefusal words view NoMemory = ⊤
 abbrev pub IsUnasked : Signals → Shown → Type 0
 IsUnasked stops source = IsUntouched source × AreUnused stops
 
+-- The first of the stops alone.
+abbrev pub first_of : Signals → Signals
+first_of stops = record { before = take 1 stops.before; after = take 1 stops.after }
+
+-- The stops behind the first.
+abbrev pub others_of : Signals → Signals
+others_of stops = record { before = drop 1 stops.before; after = drop 1 stops.after }
+
 -- What a request for help or for the version means: its text is clap's.
 abbrev pub help_meaning : Statement (String Global)
 help_meaning = record { IsTrue = λ text. ⊤; text_of = string_bytes }
@@ -59,6 +68,8 @@ help_meaning = record { IsTrue = λ text. ⊤; text_of = string_bytes }
 abbrev pub IsKept : Ended → Option CommandView → List Word → Signals → Shown → Shown → Type 0
 IsKept (ends.Solve ended) (Some (to_solve asked)) words stops source sink =
     IsSolveRun asked stops source sink ended
+IsKept (ends.Shortest ended) (Some (to_shortest asked)) words stops source sink =
+    IsShortestRun asked (first_of stops) source sink ended × AreUnused (others_of stops)
 IsKept (ends.Check ended) (Some (to_check asked)) words stops source sink =
     (asked.bound ≡ false) × IsCheckRun asked.problem source sink ended × AreUnused stops
 IsKept (ends.Bound ended) (Some (to_check asked)) words stops source sink =

@@ -7,7 +7,7 @@ use Rattle.explanations.specs.Shown.{IsPlain}
 use Rattle.cert_text.specs.FaultText.{certificate_fault_text}
 use Rattle.tsume_words.specs.FaultText.{word_fault_text}
 use Rattle.program_words.specs.Commands.{CommandView}
-use Rattle.program_words.specs.Commands.CommandView.{to_solve}
+use Rattle.program_words.specs.Commands.CommandView.{to_solve, to_shortest}
 use Rattle.program_words.specs.Meaning.{AsksForHelp, FailsFirst, command_of}
 use Rattle.tsume_words.specs.declared.faults.WordFault.{WordFault}
 use Rattle.app_texts.specs.FaultText.{problem_fault_text}
@@ -17,6 +17,7 @@ use Rattle.one_run.specs.Stops.{Signals}
 use Rattle.run_telling.specs.Status.{ended_status, written_status, solution_status, judgement_status}
 use Rattle.run_telling.specs.Telling.{Telling, BeginsAsTold, MayFollowMoves, MayFollowProblem, alone, plainly, ended_telling, written_telling}
 use Rattle.cmd_collection.specs.Counts.{counts_status}
+use Rattle.cmd_shortest.specs.Text.{answer_status as shortest_status}
 use Rattle.cmd_bound.specs.Text.{bound_status}
 use Rattle.shortest_text.specs.FaultText.{shortest_fault_text}
 use Rattle.cmd_record.specs.Text.{answer_status, fault_text}
@@ -36,6 +37,7 @@ use Rattle.tsume_app.specs.Run.{IsKept, GivesFault, GivesHelp, WantsMemory}
 -- asked for.
 abbrev pub limit_told : CommandView → Option ℕ
 limit_told (to_solve asked) = if asked.watch.progress then Some asked.settings.expansions else None
+limit_told (to_shortest asked) = if asked.watch.progress then Some asked.expansions else None
 limit_told other = None
 
 -- The status where no command was begun: 2 where the words are refused, 6 for want of memory.
@@ -77,6 +79,7 @@ by_refusing refusal = record { status = refusal_status refusal; telling = refusa
 -- a survey and of help.
 abbrev pub left_by : Ended → Left
 left_by (ends.Solve ended) = by_reading solution_status problem_fault_text MayFollowProblem ended
+left_by (ends.Shortest ended) = by_reading shortest_status problem_fault_text MayFollowProblem ended
 left_by (ends.Check ended) = by_reading judgement_status certificate_fault_text (λ fault. IsPlain) ended
 left_by (ends.Bound ended) = by_reading bound_status shortest_fault_text (λ fault. IsPlain) ended
 left_by (ends.Survey ended) = by_writing (λ summary. 0) ended

@@ -62,6 +62,8 @@ pub enum Refusal {
 pub enum Ended {
     /// As `solve`.
     Solve(one_run::Ended<app_texts::Solution, ProblemFault>),
+    /// As `shortest`.
+    Shortest(one_run::Ended<cmd_shortest::ShortestAnswer, ProblemFault>),
     /// As `check`.
     Check(one_run::Ended<app_texts::Judgement, cert_text::CertFault>),
     /// As `check` where it is asked for a bound.
@@ -85,6 +87,7 @@ macro_rules! with_ending {
     ($ended:expr, $ending:ident => $then:expr) => {
         match $ended {
             Ended::Solve($ending) => $then,
+            Ended::Shortest($ending) => $then,
             Ended::Check($ending) => $then,
             Ended::Bound($ending) => $then,
             Ended::Survey($ending) => $then,

@@ -11,6 +11,8 @@ ghost use Rattle.app_texts.specs.declared.fault.ProblemFault.{ProblemFault};
 ghost use Rattle.one_run.specs.Outside.{shown};
 ghost use Rattle.one_run.specs.Stops.{AreUnused, Signals, signals};
 ghost use Rattle.one_run.specs.Written.{IsStatedRun};
+ghost use Rattle.cmd_shortest.specs.Asked.{one_stop, shortest_in};
+ghost use Rattle.cmd_shortest.specs.Headline.{IsShortestRun};
 ghost use Rattle.cmd_check.specs.Asked.{IsFaultInWords, check_in};
 ghost use Rattle.cmd_check.specs.Words.{check_view};
 ghost use Rattle.tsume_app.specs.Run.{IsKept, GivesFault, GivesHelp, WantsMemory, help_meaning};
@@ -22,6 +24,7 @@ use cmd_bound::check_with_bound;
 use cmd_check::{Check, asked_problem, check};
 use cmd_collection::{Onlooker, collection};
 use cmd_record::record;
+use cmd_shortest::{Shortest, ShortestAnswer, shortest};
 use cmd_solution::solution;
 use cmd_solve::solve;
 use cmd_survey::survey;
@@ -79,6 +82,23 @@ fn check_ended<R: Threads + Sync, S: Source, K: Sink>(
     }
 }
 
+// Looks for a shortest mate, by one worker.
+fn shortest_ended<S: Source, K: Sink, G: Gate, T: Stop>(
+    alloc: Global,
+    asked: &Shortest,
+    source: &mut S,
+    sink: &mut K,
+    gate: &G,
+    stop: &mut T,
+) -> one_run::Ended<ShortestAnswer, ProblemFault>
+    ensures { IsShortestRun (shortest_in asked.now)
+        (one_stop (T.signal stop.old) (T.signal stop.new))
+        (shown S.left S.faults source.old source.new)
+        (shown K.kept K.faults sink.old sink.new) result }
+{
+    shortest(alloc, asked, source, sink, gate, stop)
+}
+
 // Writes help, or the version.
 fn help<K: Sink>(alloc: Global, text: String, sink: &mut K) -> Written<String>
     ensures { IsStatedRun help_meaning (shown K.kept K.faults sink.old sink.new) result }
@@ -105,6 +125,10 @@ fn command_ended<
     let alloc = rt.alloc();
     match command {
         Command::Solve(asked) => Ended::Solve(solve(rt, asked, source, sink, gate, stops)),
+        Command::Shortest(asked) => {
+            let stop = &mut stops[0];
+            Ended::Shortest(shortest_ended(alloc, asked, source, sink, gate, stop))
+        }
         Command::Check(asked) => check_ended(rt, alloc, asked, source, sink),
         Command::Survey(range) => Ended::Survey(survey(rt, alloc, range, sink)),
         Command::Solution(asked) => Ended::Solution(solution(alloc, asked, source, sink)),
@@ -193,6 +217,13 @@ fn limit_told(command: &Command) -> Option<u64>
                 None
             }
         }
+        Command::Shortest(asked) => {
+            if asked.watch.progress {
+                Some(asked.expansions.count)
+            } else {
+                None
+            }
+        }
         _ => None,
     }
 }
@@ -234,13 +265,15 @@ pub(crate) fn tells_accepted(words: &WordsRead) -> bool {
 /// the board nor in a hand. It writes to the sink the USI answer that the problem is a mate, with a
 /// main line, or that it is none, and the certificate, which `check` reads; or, where a limit was
 /// used up first, a stop was signalled, or the certificate might have more entries than are read,
-/// that it is unknown, and why. `check` reads a certificate, perhaps behind the line of the USI
-/// answer, and writes whether it is valid for its own problem, or for the one that `--problem`
-/// gives (SFEN), or the first reason why it isn't; a certificate of another problem isn't valid for
-/// it. With `--bound` it reads a mate's certificate with a bound behind it, or a bound alone, and
-/// writes that no mate is shorter, that there is none within so many moves, or what speaks against
-/// it. Positions are compared, and not texts. A `--problem` that is none refuses the words, before
-/// anything is read.
+/// that it is unknown, and why. `shortest` reads a problem likewise, and writes how many moves its
+/// shortest mate takes, with the certificate and a bound, which `check --bound` reads, or that
+/// there is none up to a limit, or that it is unknown. `check` reads a certificate, perhaps behind
+/// the line of the USI answer, and writes whether it is valid for its own problem, or for the one
+/// that `--problem` gives (SFEN), or the first reason why it isn't; a certificate of another
+/// problem isn't valid for it. With `--bound` it reads a mate's certificate with a bound behind it,
+/// or a bound alone, and writes that no mate is shorter, that there is none within so many moves,
+/// or what speaks against it. Positions are compared, and not texts. A `--problem` that is none
+/// refuses the words, before anything is read.
 ///
 /// `survey` reads nothing: it decides the problems that the generator makes of a range of numbers,
 /// over threads, and writes how many are mates, have none, or were given up. `collection` reads a
@@ -254,13 +287,13 @@ pub(crate) fn tells_accepted(words: &WordsRead) -> bool {
 /// [`MOST_CERTIFICATE_BYTES`](crate::MOST_CERTIFICATE_BYTES) of a certificate; a text that is no
 /// problem or no certificate, with its first fault; a source or a sink whose count of faults rose;
 /// want of memory. The whole text is made before the first write, but for a collection, whose
-/// reports are written one by one. `solve` passes the gate for each visit of a position,
-/// as the worker that visits it (no clause says it), and no other command does. Where the
-/// words ask for it, `collection` tells the gate which lines are decided, and its deadlines go by
-/// the gate's clock, with stops of its own. The stops, one for
-/// each worker that there may be, are armed once, with the deadline that the words give or with
-/// none, when `solve` has accepted its problem, and before that they aren't used; then each worker
-/// polls the one at its place. Only `solve` with several workers waits, for them: who asks for
+/// reports are written one by one. `solve` and `shortest` pass the gate for visits of positions, as
+/// the worker that visits it (no clause says it), and no other command does. Where the words ask
+/// for it, `collection` tells the gate which lines are decided, and its deadlines go by the gate's
+/// clock, with stops of its own. The stops, one for each worker that there may be, are armed once,
+/// with the deadline that the words give or with none, when `solve` has accepted its problem, and
+/// before that they aren't used; then each worker polls the one at its place. `shortest` uses the
+/// first alone in the same way. Only `solve` with several workers waits, for them: who asks for
 /// another command may call it in its own crate, without the handle for waiting. (The tsume rule;
 /// USI protocol: `checkmate`.)
 pub fn run<
@@ -272,7 +305,8 @@ pub fn run<
 >(rt: &R, words: WordsRead, source: &mut S, sink: &mut K, gate: &G, stops: &mut Vec<T>) -> Ended
     requires { length stops.old.items ≡ MOST_WORKERS }
     // Whatever command ended the run is the one that the words asked for, and it kept all that it
-    // promises, clause by clause: see `solve`, `check`, `survey` and `collection` of their crates.
+    // promises, clause by clause: see `solve`, `shortest`, `check`, `survey` and `collection` of
+    // their crates.
     // Where none was begun, the words asked for none, and help was written, where they may ask for
     // it, or they are refused with the cause; or they gave a problem that is none; or memory was
     // wanted. Nothing was read then, and no stop used.

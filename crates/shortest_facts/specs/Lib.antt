@@ -1,0 +1,3 @@
+-- This project's: docs/shortest.md.
+pub mod Facts
+pub mod Keys

@@ -1,0 +1,241 @@
+// The search for the shortest mate.
+ghost use Rattle.std.specs.Prelude.{◌≡◌, ◌≤◌, ◌<◌, ◌⊎◌, ℕ, Ok, IfOk, IfSome};
+ghost use Rattle.board_core.specs.Board.{Board};
+ghost use Rattle.search_gate.specs.Stop.{Signal};
+ghost use Rattle.search_limits.specs.declared.expansions.TheConstants.{MOST_EXPANSIONS};
+ghost use Rattle.shortest_facts.specs.Facts.{AreBorneOut};
+ghost use Rattle.shortest_facts.specs.Keys.{known_of};
+ghost use Rattle.shortest_search.specs.Visit.{IsLength, IsPolled, IsStopped};
+ghost use Rattle.shortest_mate.specs.declared.search.TheConstants.{MOST_LIMIT};
+ghost use Rattle.shortest_mate.specs.Finding.{HasLine, HeedsStop, IsTrueOf};
+ghost use Rattle.cert_check.specs.Valid.{ValidEscape, ValidMate};
+ghost use Rattle.cert_text.specs.declared.limits.TheConstants.{MOST_ENTRIES};
+ghost use Rattle.search_limits.specs.declared.cause.Cause.TheVariants.{Entries};
+ghost use Rattle.shortest_mate.specs.declared.finding.Finding.TheVariants.{Unknown};
+
+use crate::Finding;
+use crate::escape::bound_of_escape;
+use crate::first::{First, search_first};
+use crate::learning::learn;
+use bound_check::valid_bound_is_accepted;
+use cert_check::valid_is_accepted;
+use cert_text::{Certificate, EscapeCertificate, MOST_ENTRIES, MateCertificate};
+use mate_facts::Rank;
+use search_gate::{Gate, Stop};
+use search_limits::{Cause, Settings};
+use shogi_rules::Problem;
+use shortest_facts::Facts;
+use shortest_lists::{ListEnd, bound_of, line_of, mate_of};
+use shortest_search::{Run, VisitEnd, find_length};
+use std::alloc::{AllocError, Global};
+
+/// The most moves of the attacker up to which a mate is looked for.
+pub const MOST_LIMIT: u32 = 2_000;
+
+// Notes that the first search may make.
+const ROOM: u32 = 1_048_576;
+
+// Rows of its table.
+const ROWS: u64 = 65_536;
+
+// What is found where certificate or bound list more entries than are read.
+fn too_many() -> Finding
+    ensures { result ≡ Unknown (Entries MOST_ENTRIES) }
+{
+    Finding::Unknown(Cause::Entries(MOST_ENTRIES))
+}
+
+// What is found where the length of the mate is known.
+fn found(alloc: Global, problem: &Problem, facts: &Facts, limit: u32) -> Result<Finding, ListEnd>
+    requires same { (known_of facts.now).attacker ≡ problem.now.position.side }
+    requires borne_out { AreBorneOut (known_of facts.now) }
+    requires length { IsLength (known_of facts.now) problem.now.position limit }
+    requires small { limit ≤ MOST_LIMIT }
+    ensures finding { IfOk result (λ finding. (expansions : ℕ)
+        → IsTrueOf problem.now.position limit expansions finding) }
+    ensures line { IfOk result HasLine }
+    ensures quiet { IfOk result (λ finding. (before after_it : Signal)
+        → after_it.raised ≡ before.raised → HeedsStop before after_it finding) }
+{
+    // What valid certificates and bounds show.
+    valid_is_accepted();
+    valid_bound_is_accepted();
+    problem.position.laws();
+    let number = facts.fact(&problem.position).most;
+    let entries = MOST_ENTRIES as usize;
+    let certificate = mate_of(alloc, problem, facts, entries)?;
+    certificate.laws();
+    let bound = bound_of(alloc, problem, facts, number - 1, entries)?;
+    let line = line_of(alloc, problem, &certificate, &bound, number)?;
+    Ok(Finding::Found {
+        rank: Rank { number },
+        certificate,
+        bound,
+        line,
+    })
+}
+
+// What is found where a mate is known to take more moves than the limit.
+fn none_within(
+    alloc: Global,
+    problem: &Problem,
+    facts: &Facts,
+    limit: Rank,
+) -> Result<Finding, ListEnd>
+    requires same { (known_of facts.now).attacker ≡ problem.now.position.side }
+    requires borne_out { AreBorneOut (known_of facts.now) }
+    requires more { limit.number < ((known_of facts.now).at problem.now.position).least }
+    ensures finding { IfOk result (λ finding. (expansions : ℕ)
+        → IsTrueOf problem.now.position limit.number expansions finding) }
+    ensures line { IfOk result HasLine }
+    ensures quiet { IfOk result (λ finding. (before after_it : Signal)
+        → after_it.raised ≡ before.raised → HeedsStop before after_it finding) }
+{
+    // What a valid bound shows.
+    valid_bound_is_accepted();
+    let bound = bound_of(alloc, problem, facts, limit.number, MOST_ENTRIES as usize)?;
+    Ok(Finding::NoneWithin { limit, bound })
+}
+
+// What was listed; or what is found where it is too much.
+fn or_too_many(listed: Result<Finding, ListEnd>) -> Result<Finding, AllocError>
+    ensures { IfOk result (λ finding. (listed ≡ Ok finding)
+        ⊎ (finding ≡ Unknown (Entries MOST_ENTRIES))) }
+{
+    match listed {
+        Ok(finding) => Ok(finding),
+        Err(ListEnd::TooMany) => Ok(too_many()),
+        Err(ListEnd::NoMemory) => Err(AllocError),
+    }
+}
+
+// What is found where the first search answers that there is no mate.
+fn escaped(
+    alloc: Global,
+    problem: &Problem,
+    escape: &EscapeCertificate,
+    limit: Rank,
+) -> Result<Finding, AllocError>
+    requires { ValidEscape escape.now problem.now.position }
+    ensures finding { IfOk result (λ finding. (expansions : ℕ)
+        → IsTrueOf problem.now.position limit.number expansions finding) }
+    ensures line { IfOk result HasLine }
+    ensures quiet { IfOk result (λ finding. (before after_it : Signal)
+        → after_it.raised ≡ before.raised → HeedsStop before after_it finding) }
+{
+    if escape.entries().len() > MOST_ENTRIES as usize {
+        return Ok(too_many());
+    }
+    let bound = bound_of_escape(alloc, problem, escape, limit)?;
+    Ok(Finding::NoneWithin { limit, bound })
+}
+
+// A search by lengths that begins with what a mate's certificate shows, if there is one.
+fn run_from(
+    alloc: Global,
+    problem: &Problem,
+    expansions: u64,
+    made: u64,
+    mate: Option<&MateCertificate>,
+) -> Result<Run, AllocError>
+    requires { IfSome mate (λ mate. ValidMate mate.now problem.now.position) }
+    ensures same { IfOk result
+        (λ run. (known_of run.facts).attacker ≡ problem.now.position.side) }
+    ensures borne_out { IfOk result (λ run. AreBorneOut (known_of run.facts)) }
+    ensures made { IfOk result (λ run. run.made ≤ run.most) }
+    ensures most { IfOk result (λ run. run.most ≡ expansions) }
+{
+    let mut facts = Facts::new(alloc, problem.attacker());
+    if let Some(mate) = mate {
+        learn(alloc, problem, &mut facts, mate)?;
+    }
+    // (The first search makes no more than half of them.)
+    Ok(Run {
+        alloc,
+        facts,
+        made: made.min(expansions),
+        most: expansions,
+    })
+}
+
+// What a search by lengths finds.
+fn by_lengths<T: Stop>(
+    problem: &Problem,
+    mut run: Run,
+    stop: &mut T,
+    limit: Rank,
+) -> Result<Finding, AllocError>
+    requires same { (known_of run.facts).attacker ≡ problem.now.position.side }
+    requires borne_out { AreBorneOut (known_of run.facts) }
+    requires made { run.made ≤ run.most }
+    requires small { limit.number ≤ MOST_LIMIT }
+    ensures finding { IfOk result (IsTrueOf problem.now.position limit.number run.most) }
+    ensures line { IfOk result HasLine }
+    ensures heeds { IfOk result (HeedsStop (T.signal stop.old) (T.signal stop.new)) }
+    ensures polled { IsPolled (T.signal stop.old) (T.signal stop.new) }
+{
+    match find_length(problem, &mut run, stop, limit.number) {
+        Ok(true) => or_too_many(found(run.alloc, problem, &run.facts, limit.number)),
+        Ok(false) => or_too_many(none_within(run.alloc, problem, &run.facts, limit)),
+        Err(VisitEnd::Spent) => Ok(Finding::Unknown(Cause::Expansions(run.most))),
+        Err(VisitEnd::Stopped) => Ok(Finding::Unknown(Cause::Stopped(1))),
+        Err(VisitEnd::NoMemory) => Err(AllocError),
+    }
+}
+
+// With what the first search is run: half of the expansions; none where that is none.
+fn first_settings(expansions: u64) -> Option<Settings> {
+    match Settings::new(1, expansions / 2, ROOM, ROWS, 1) {
+        Ok(settings) => Some(settings),
+        Err(_) => None,
+    }
+}
+
+/// The shortest mate of the problem, up to a limit, 1 to [`MOST_LIMIT`] moves of the attacker, with
+/// so many expansions at most, 1 to [`search_limits::MOST_EXPANSIONS`]. Half of them are for a
+/// search by proof numbers with one worker (`search_pool`), whose answer is the beginning: no mate
+/// is no mate within the limit, and a mate's certificate is known to the search by lengths
+/// (`shortest_search`) that makes the others. The gate is passed for each visit of the first
+/// search, as worker 1. The stop is polled before each expansion. Takes some 100 bytes for an
+/// expansion; the first search's table, some 64 MB, is given back before. Errors: want of memory
+/// alone.
+pub fn shortest<G: Gate, T: Stop>(
+    alloc: Global,
+    problem: &Problem,
+    limit: u32,
+    expansions: u64,
+    gate: &G,
+    stop: &mut T,
+) -> Result<Finding, AllocError>
+    requires limit { (1 ≤ limit) × (limit ≤ MOST_LIMIT) }
+    requires expansions { (1 ≤ expansions) × (expansions ≤ MOST_EXPANSIONS) }
+    // What is found is true, and shown.
+    ensures finding { IfOk result (IsTrueOf problem.now.position limit expansions) }
+    ensures line { IfOk result HasLine }
+    // It was stopped exactly where the stop signalled, which it does once; then it is polled no
+    // more.
+    ensures heeds { IfOk result (HeedsStop (T.signal stop.old) (T.signal stop.new)) }
+    // A stop is polled, and nothing else.
+    ensures armed { (T.signal stop.new).armed ≡ (T.signal stop.old).armed }
+    ensures arms { (T.signal stop.new).arms ≡ (T.signal stop.old).arms }
+    ensures early { (T.signal stop.new).early ≡ (T.signal stop.old).early }
+{
+    let limit = Rank { number: limit };
+    let Some(settings) = first_settings(expansions) else {
+        let run = run_from(alloc, problem, expansions, 0, None)?;
+        return by_lengths(problem, run, stop, limit);
+    };
+    let (first, drawn) = search_first(alloc, problem, &settings, gate, stop)?;
+    match first {
+        First::Stopped => Ok(Finding::Unknown(Cause::Stopped(1))),
+        First::Answered(Certificate::Escape(escape)) => escaped(alloc, problem, &escape, limit),
+        First::Answered(Certificate::Mate(mate)) => {
+            let run = run_from(alloc, problem, expansions, drawn, Some(&mate))?;
+            by_lengths(problem, run, stop, limit)
+        }
+        First::Unanswered => {
+            let run = run_from(alloc, problem, expansions, drawn, None)?;
+            by_lengths(problem, run, stop, limit)
+        }
+    }
+}
