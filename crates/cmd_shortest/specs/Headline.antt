@@ -64,8 +64,8 @@ pub record StandsForNone (form : ProblemForm) (limit : ℕ) (input : List ℕ) (
   pub is_limit : told.number ≡ limit
   pub names : NamesNone told b
 
--- The bytes stand for a problem of which neither is told, for this cause: all expansions that were
--- asked for were made; or the stop signalled, once, which it did nowhere else; or what was found
+-- The bytes stand for a problem of which neither is told, for this cause: the expansions, as many
+-- as were asked for; or the stop signalled, once, which it did nowhere else; or what was found
 -- lists more positions than are read.
 pub record StandsForUnknown (asked : ShortestView) (stops : Signals) (input : List ℕ) (cause : Cause) : Type 0 where
   pub problem : Board

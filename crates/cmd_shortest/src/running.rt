@@ -51,11 +51,12 @@ fn shortest_through<S: Source, K: Sink, G: Gate, T: Stop>(
 /// [`MOST_PROBLEM_BYTES`](problem_lines::MOST_PROBLEM_BYTES): writes to the sink how many of the
 /// attacker's moves it takes, behind the USI answer with a line of play that is as long, and with
 /// the certificate of the mate and the bound that none is shorter; or that there is none up to the
-/// limit, with the bound; or, where all expansions were made, the stop signalled, or what was found
-/// has more entries than are read, that it is unknown, and why. What is written of a mate, or of
-/// none, `check --bound` accepts. Errors: a text that is no problem, with its first fault, or is
-/// too long; a source or a sink that failed; want of memory. The gate is passed for visits of
-/// positions, as worker 1 (no clause says it). (The tsume rule; USI protocol: `checkmate`.)
+/// limit, with the bound; or that it is unknown, and why: for the expansions that were asked for,
+/// since the stop signalled, or as what was found has more entries than are read. What is written
+/// of a mate, or of none, `check --bound` accepts. Errors: a text that is no problem, with its
+/// first fault, or is too long; a source or a sink that failed; want of memory. The gate is passed
+/// for visits of positions, as worker 1 (no clause says it). (The tsume rule; USI protocol:
+/// `checkmate`.)
 pub fn shortest<S: Source, K: Sink, G: Gate, T: Stop>(
     alloc: Global,
     asked: &Shortest,
@@ -78,8 +79,8 @@ pub fn shortest<S: Source, K: Sink, G: Gate, T: Stop>(
         → S.left source.old ≡ Some input → Tells result (findings.NoneWithin limit b)
         → StandsForNone asked.now.form asked.now.limit input limit b }
 
-    // Where neither is told, all expansions were made, the stop signalled, or what was found has
-    // more entries than are read.
+    // Where neither is told, it is for the expansions, as many as were asked for, since the stop
+    // signalled, or as what was found has more entries than are read.
     ensures gave_up { (input : List ℕ) (cause : Cause) → S.left source.old ≡ Some input
         → Tells result (findings.Unknown cause) → StandsForUnknown (shortest_in asked.now)
         (once_armed (shortest_in asked.now).watch.deadline

@@ -10,13 +10,13 @@ mod desk;
 #[cfg(test)]
 mod first_numbers;
 #[cfg(test)]
+mod lengths;
+#[cfg(test)]
 mod limits;
 #[cfg(test)]
 mod many_workers;
 #[cfg(test)]
 mod one_worker;
-#[cfg(test)]
-mod plain;
 #[cfg(test)]
 mod problems;
 #[cfg(test)]

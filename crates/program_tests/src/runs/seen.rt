@@ -69,6 +69,19 @@ fn words_told(alloc: Global, ended: &Ended) -> Result<String, Fail> {
     Ok(String::from_str(alloc, words)?)
 }
 
+// What a run did that ended so, with what the sink kept.
+fn seen_in(alloc: Global, ended: &Ended, kept: &[u8]) -> Result<Seen, Fail> {
+    let kept = Vec::from_slice(alloc, kept)?;
+    let (answered, read) = answer_and_input(ended);
+    Ok(Seen {
+        status: ended.status(),
+        answered,
+        fault: words_told(alloc, ended)?,
+        read,
+        kept: String::from_utf8(kept)?,
+    })
+}
+
 // A stop for each worker that there may be; the first signals at its poll of this number, 0 for
 // none.
 pub(crate) fn stops_at(alloc: Global, poll: u64) -> Result<Vec<MemStop>, AllocError>
@@ -117,13 +130,5 @@ pub(crate) fn seen_by<R: Threads + Wait + AllocGlobal + Sync, G: Gate + Onlooker
     let mut to = MemSink::make(alloc, 65_536, sink.0, Vec::from_slice(alloc, &[sink.1])?)?;
     let words = WordsRead::new(alloc, words);
     let ended = run(rt, words, &mut from, &mut to, gate, stops);
-    let kept = Vec::from_slice(alloc, to.kept())?;
-    let (answered, read) = answer_and_input(&ended);
-    Ok(Seen {
-        status: ended.status(),
-        answered,
-        fault: words_told(alloc, &ended)?,
-        read,
-        kept: String::from_utf8(kept)?,
-    })
+    seen_in(alloc, &ended, to.kept())
 }
