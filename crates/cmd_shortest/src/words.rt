@@ -26,7 +26,8 @@ fn limit_option<'a>(alloc: Global) -> Arg<'a>
         u64::from(MOST_LIMIT),
         "50",
         "Moves of the attacker up to which it looks for a mate,\n\
-         1 to 2000. It costs nothing where there is a mate",
+         1 to 2000. Where there is a mate, a greater number\n\
+         costs nothing",
     )
 }
 
