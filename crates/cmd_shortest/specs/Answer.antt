@@ -1,12 +1,12 @@
 -- When an answer to `shortest` is true.
-use Rattle.std.specs.Prelude.{ℕ, List, [], ◌∷◌, Ok}
+use Rattle.std.specs.Prelude.{◌≤◌, ℕ, List, [], ◌∷◌, Ok}
 use Rattle.board_core.specs.Board.{Board}
 use Rattle.board_core.specs.Kept.{IsKept}
 use Rattle.search_gate.specs.Stop.{Signal}
 use Rattle.problem_answers.specs.Reading.{StandsFor}
 use Rattle.one_run.specs.Stops.{Signals}
 use Rattle.shortest_mate.specs.declared.finding.Finding.{Finding}
-use Rattle.shortest_mate.specs.Finding.{HasLine, HeedsStop, IsTrueOf}
+use Rattle.shortest_mate.specs.Finding.{IsPrintable, HeedsStop, IsTrueOf}
 use Rattle.cmd_shortest.specs.Asked.{ShortestView}
 use Rattle.cmd_shortest.specs.declared.answer.ShortestAnswer.{ShortestAnswer}
 
@@ -17,11 +17,12 @@ IsOneHeeded finding (before ∷ []) (after ∷ []) = HeedsStop before after find
 IsOneHeeded finding before after = ⊥
 
 -- The bytes of an input are a problem of which the answer is true, for the limit and the expansions
--- that were asked for; its line, if there is one, can be printed; and the stop was heeded.
+-- that were asked for, of which no more were made; it can be printed; and the stop was heeded.
 pub record IsAnswered (asked : ShortestView) (stops : Signals) (input : List ℕ) (answer : ShortestAnswer) : Type 0 where
   pub problem : Board
   pub stands_for : StandsFor asked.form input (Ok problem)
   pub kept : IsKept problem
-  pub true_of : IsTrueOf problem asked.limit asked.expansions answer.finding
-  pub line : HasLine answer.finding
+  pub true_of : IsTrueOf problem asked.limit asked.expansions answer.made answer.finding
+  pub few : answer.made ≤ asked.expansions
+  pub printable : IsPrintable answer.finding
   pub heeded : IsOneHeeded answer.finding stops.before stops.after

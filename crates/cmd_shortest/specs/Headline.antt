@@ -29,9 +29,13 @@ use Rattle.cmd_shortest.specs.Meaning.{shortest_meaning}
 use Rattle.cmd_shortest.specs.Text.{finding_text}
 use Rattle.cmd_shortest.specs.declared.answer.ShortestAnswer.{ShortestAnswer}
 
+-- The run ended with this, which was printed, when so many expansions were made.
+abbrev pub TellsAfter : ℕ → Ended ShortestAnswer ProblemFault → Finding → Type 0
+TellsAfter made ended finding = ended ≡ Answered (record { finding = finding; made = made })
+
 -- The run ended with this, which was printed.
 abbrev pub Tells : Ended ShortestAnswer ProblemFault → Finding → Type 0
-Tells ended finding = ended ≡ Answered (record { finding = finding })
+Tells ended finding = (made : ℕ) × TellsAfter made ended finding
 
 -- The problem that the certificate names is a mate in so many of the attacker's moves, and in no
 -- fewer. The text that is printed says so, by the certificate and the bound, which can be read from
@@ -64,13 +68,13 @@ pub record StandsForNone (form : ProblemForm) (limit : ℕ) (input : List ℕ) (
   pub is_limit : told.number ≡ limit
   pub names : NamesNone told b
 
--- The bytes stand for a problem of which neither is told, for this cause: the expansions, as many
--- as were asked for; or the stop signalled, once, which it did nowhere else; or what was found
--- lists more positions than are read.
-pub record StandsForUnknown (asked : ShortestView) (stops : Signals) (input : List ℕ) (cause : Cause) : Type 0 where
+-- The bytes stand for a problem of which neither is told, after so many expansions, for this cause:
+-- all expansions that were asked for were made; or the stop signalled, once, which it did nowhere
+-- else; or what is known, or an escape, leads to more positions than are read.
+pub record StandsForUnknown (asked : ShortestView) (stops : Signals) (input : List ℕ) (made : ℕ) (cause : Cause) : Type 0 where
   pub problem : Board
   pub stands_for : StandsFor asked.form input (Ok problem)
-  pub why : IsTrueOf problem asked.limit asked.expansions (Unknown cause)
+  pub why : IsTrueOf problem asked.limit asked.expansions made (Unknown cause)
   pub heeded : IsOneHeeded (Unknown cause) stops.before stops.after
 
 -- The bytes that the source has left are a problem, and short enough.
@@ -87,8 +91,8 @@ pub record IsShortestRun (asked : ShortestView) (stops : Signals) (source sink :
       → source.told ≡ Some input → Tells ended (Found rank c b moves) → StandsForShortest asked.form asked.limit input rank c b moves
   pub none_within : (input : List ℕ) (limit : Rank) (b : CertificateView BoundEntry) → source.told ≡ Some input
       → Tells ended (NoneWithin limit b) → StandsForNone asked.form asked.limit input limit b
-  pub gave_up : (input : List ℕ) (cause : Cause) → source.told ≡ Some input → Tells ended (Unknown cause)
-      → StandsForUnknown asked (once_armed asked.watch.deadline stops) input cause
+  pub gave_up : (input : List ℕ) (made : ℕ) (cause : Cause) → source.told ≡ Some input → TellsAfter made ended (Unknown cause)
+      → StandsForUnknown asked (once_armed asked.watch.deadline stops) input made cause
   pub own_found : (rank : Rank) (c : Mating) (b : CertificateView BoundEntry) (moves : Vec Move Global)
       → Tells ended (Found rank c b moves) → NamesShortest rank c b moves
   pub own_none : (limit : Rank) (b : CertificateView BoundEntry) → Tells ended (NoneWithin limit b) → NamesNone limit b

@@ -5,7 +5,7 @@ use Rattle.problem_answers.specs.Reading.{StandsFor}
 use Rattle.problem_lines.specs.declared.line.TheConstants.{MOST_PROBLEM_BYTES}
 use Rattle.one_run.specs.Command.{Meaning}
 use Rattle.one_run.specs.Stops.{AreUsed, once_armed}
-use Rattle.shortest_mate.specs.Finding.{HasLine}
+use Rattle.shortest_mate.specs.Finding.{IsPrintable}
 use Rattle.cmd_shortest.specs.Answer.{IsAnswered}
 use Rattle.cmd_shortest.specs.Asked.{ShortestView}
 use Rattle.cmd_shortest.specs.Text.{finding_text}
@@ -19,7 +19,7 @@ shortest_meaning asked = record {
   limit = MOST_PROBLEM_BYTES;
   IsTrue = λ stops. IsAnswered asked (once_armed asked.watch.deadline stops);
   IsFault = λ input fault. StandsFor asked.form input (Err fault);
-  HasText = λ answer. HasLine answer.finding;
+  HasText = λ answer. IsPrintable answer.finding;
   text_of = λ answer. finding_text answer.finding;
   Uses = AreUsed 1 asked.watch.deadline;
 }

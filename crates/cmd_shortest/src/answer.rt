@@ -7,6 +7,8 @@ use shortest_mate::Finding;
 pub struct ShortestAnswer {
     /// How many moves it takes, that none is within the limit, or why neither was found.
     pub finding: Finding,
+    /// How many expansions were made.
+    pub made: u64,
 }
 
 impl Status for ShortestAnswer {

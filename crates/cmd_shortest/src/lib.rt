@@ -17,4 +17,5 @@ mod words;
 pub use answer::ShortestAnswer;
 pub use asked::Shortest;
 pub use running::shortest;
+pub use shortest_mate::LengthOnlooker;
 pub use text::shortest_text;

@@ -12,7 +12,7 @@ ghost use Rattle.one_run.specs.Outside.{shown};
 ghost use Rattle.one_run.specs.Run.{AreUsedTill, IsAnswered, IsCounted, IsEnded, IsRun, WantsMemory};
 ghost use Rattle.one_run.specs.Stops.{once_armed};
 ghost use Rattle.cmd_shortest.specs.Asked.{one_stop, shortest_in};
-ghost use Rattle.cmd_shortest.specs.Headline.{HasProblemLeft, NamesNone, NamesShortest, StandsForNone, StandsForShortest, StandsForUnknown, Tells};
+ghost use Rattle.cmd_shortest.specs.Headline.{HasProblemLeft, NamesNone, NamesShortest, StandsForNone, StandsForShortest, StandsForUnknown, Tells, TellsAfter};
 ghost use Rattle.cmd_shortest.specs.Meaning.{shortest_meaning};
 
 use crate::deciding::answer;
@@ -21,11 +21,12 @@ use app_texts::ProblemFault;
 use one_run::{Ended, read, tell};
 use problem_answers::problem_laws;
 use search_gate::{Gate, Stop};
+use shortest_mate::LengthOnlooker;
 use std::alloc::Global;
 use tsume_io::{Sink, Source};
 
 // Reads the text, answers it, and tells the answer.
-fn shortest_through<S: Source, K: Sink, G: Gate, T: Stop>(
+fn shortest_through<S: Source, K: Sink, G: Gate + LengthOnlooker, T: Stop>(
     alloc: Global,
     asked: &Shortest,
     source: &mut S,
@@ -55,9 +56,9 @@ fn shortest_through<S: Source, K: Sink, G: Gate, T: Stop>(
 /// since the stop signalled, or as what was found has more entries than are read. What is written
 /// of a mate, or of none, `check --bound` accepts. Errors: a text that is no problem, with its
 /// first fault, or is too long; a source or a sink that failed; want of memory. The gate is passed
-/// for visits of positions, as worker 1 (no clause says it). (The tsume rule; USI protocol:
-/// `checkmate`.)
-pub fn shortest<S: Source, K: Sink, G: Gate, T: Stop>(
+/// for visits of positions, as worker 1, and told which lengths are asked about (no clause says
+/// it). (The tsume rule; USI protocol: `checkmate`.)
+pub fn shortest<S: Source, K: Sink, G: Gate + LengthOnlooker, T: Stop>(
     alloc: Global,
     asked: &Shortest,
     source: &mut S,
@@ -79,12 +80,13 @@ pub fn shortest<S: Source, K: Sink, G: Gate, T: Stop>(
         → S.left source.old ≡ Some input → Tells result (findings.NoneWithin limit b)
         → StandsForNone asked.now.form asked.now.limit input limit b }
 
-    // Where neither is told, it is for the expansions, as many as were asked for, since the stop
+    // Where neither is told, it is as all expansions that were asked for were made, since the stop
     // signalled, or as what was found has more entries than are read.
-    ensures gave_up { (input : List ℕ) (cause : Cause) → S.left source.old ≡ Some input
-        → Tells result (findings.Unknown cause) → StandsForUnknown (shortest_in asked.now)
+    ensures gave_up { (input : List ℕ) (made : ℕ) (cause : Cause) → S.left source.old ≡ Some input
+        → TellsAfter made result (findings.Unknown cause)
+        → StandsForUnknown (shortest_in asked.now)
         (once_armed (shortest_in asked.now).watch.deadline
-        (one_stop (T.signal stop.old) (T.signal stop.new))) input cause }
+        (one_stop (T.signal stop.old) (T.signal stop.new))) input made cause }
 
     // Whatever the source tells of its bytes, as a file tells nothing: what was printed names the
     // problem of which it is so, and shows it.

@@ -3,9 +3,10 @@ ghost use Rattle.std.specs.Prelude.{◌≡◌, ◌++◌, OnOk, IfOk};
 ghost use Rattle.usi_text.specs.Lines.{AllHaveText, mate_text};
 ghost use Rattle.cert_text.specs.Text.{certificate_text};
 ghost use Rattle.cert_text.specs.declared.certificate.Certificate.TheVariants.{Mate};
+ghost use Rattle.hand_dominance.specs.declared.version.Version.TheVariants.{One};
 ghost use Rattle.bound_text.specs.Text.{bound_text};
 ghost use Rattle.shortest_text.specs.Text.{found_text, none_text};
-ghost use Rattle.shortest_mate.specs.Finding.{HasLine};
+ghost use Rattle.shortest_mate.specs.Finding.{IsPrintable};
 ghost use Rattle.cmd_shortest.specs.Text.{finding_text, unknown_text};
 
 use crate::ShortestAnswer;
@@ -27,7 +28,8 @@ fn append_found(
     bound: &Bound,
     line: &[Move],
 ) -> Result<(), AllocError>
-    requires { AllHaveText line.now }
+    requires line { AllHaveText line.now }
+    requires version { bound.now.version ≡ One }
     ensures { OnOk result (out.new.items ≡ out.old.items
         ++ found_text (mate_text line.now) rank (certificate_text (Mate certificate.now))
         (bound_text bound.now)) }
@@ -40,6 +42,7 @@ fn append_found(
 }
 
 fn append_none(out: &mut Vec<u8>, limit: Rank, bound: &Bound) -> Result<(), AllocError>
+    requires { bound.now.version ≡ One }
     ensures { OnOk result (out.new.items
         ≡ out.old.items ++ none_text limit bound.now.problem (bound_text bound.now)) }
 {
@@ -61,7 +64,7 @@ fn append_unknown(out: &mut Vec<u8>, cause: Cause) -> Result<(), AllocError>
 }
 
 fn append_finding(out: &mut Vec<u8>, finding: &Finding) -> Result<(), AllocError>
-    requires { HasLine finding.now }
+    requires { IsPrintable finding.now }
     ensures { OnOk result (out.new.items ≡ out.old.items ++ finding_text finding.now) }
 {
     match finding {
@@ -80,7 +83,7 @@ fn append_finding(out: &mut Vec<u8>, finding: &Finding) -> Result<(), AllocError
 /// none within the limit one that [`read_shortest`](shortest_text::read_shortest) reads. Errors:
 /// want of memory alone. (USI protocol: `checkmate`.)
 pub fn shortest_text(alloc: Global, answer: &ShortestAnswer) -> Result<Vec<u8>, AllocError>
-    requires { HasLine answer.now.finding }
+    requires { IsPrintable answer.now.finding }
     ensures { IfOk result (λ text. text.items ≡ finding_text answer.now.finding) }
 {
     let mut text = Vec::new(alloc);

@@ -27,7 +27,7 @@ use cert_text::{Certificate, MOST_ENTRIES};
 use notes::Note;
 use problem_gen::problem_of;
 use problem_lines::Lines;
-use search_gate::QuietStop;
+use search_gate::{OpenGate, QuietStop};
 use search_limits::Settings;
 use search_pool::{SearchEnd, search_alone};
 use sfen_text::read_sfen;
@@ -226,7 +226,7 @@ fn by_lengths(alloc: Global, problem: &Problem) -> io::Result<Option<Length>> {
         made: 0,
         most: EXPANSIONS,
     };
-    match find_length(problem, &mut run, &mut QuietStop::new(), LIMIT) {
+    match find_length(problem, &mut run, &mut QuietStop::new(), LIMIT, &OpenGate) {
         Ok(true) => Ok(Some(shortest(alloc, problem, &run.facts)?)),
         Ok(false) => {
             bounded(alloc, problem, &run.facts, LIMIT)?;

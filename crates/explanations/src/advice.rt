@@ -207,7 +207,7 @@ pub(crate) fn advice_on_certificate(fault: CertFault) -> &'static str
 {
     match fault {
         CertFault::BadHead => {
-            "Expected: `certificate 1 mate N` or `certificate 1 escape N`, then `problem`\nand an SFEN as `tsume solve` writes it; at most `checkmate ..` before these.\n"
+            "Expected: `certificate V mate N` or `certificate V escape N`, V 1 or 2, then\n`problem` and an SFEN as `tsume solve` writes it; at most `checkmate ..` before\nthese.\n"
         }
         CertFault::BadLine(_) => {
             "Expected: `end`, or an entry of this certificate's kind, just as `tsume solve`\nwrites it: RANK MOVE SFEN of a mate, SFEN of an escape.\n"

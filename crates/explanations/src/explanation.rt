@@ -112,10 +112,16 @@ fn is_number(text: &[u8]) -> bool {
 }
 
 fn is_claim(line: &[u8]) -> bool {
-    let behind = line
-        .strip_prefix(b"certificate 1 mate ")
-        .or(line.strip_prefix(b"certificate 1 escape "));
-    behind.is_some_and(is_number)
+    let version = line
+        .strip_prefix(b"certificate 1 ")
+        .or(line.strip_prefix(b"certificate 2 "));
+    let Some(claim) = version else {
+        return false;
+    };
+    let count = claim
+        .strip_prefix(b"mate ")
+        .or(claim.strip_prefix(b"escape "));
+    count.is_some_and(is_number)
 }
 
 // The line of the head that isn't as it has to be: the one with the claim; else the problem's,

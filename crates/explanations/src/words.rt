@@ -16,6 +16,8 @@ const ON_NUMBER: &str =
 const ON_WORKERS_OF_SOLVE: &str =
     "`tsume solve` searches one problem with --workers N, a thread each.\n";
 
+const ON_WORKERS_OF_SHORTEST: &str = "`tsume shortest` searches with one worker.\n";
+
 const ON_WORKERS_OF_CHECK: &str = "`tsume check` judges with --workers N, a thread each.\n";
 
 const ON_THREADS_OF_COLLECTION: &str =
@@ -50,6 +52,9 @@ fn advice_on_threads(told: &[u8]) -> Option<&'static str>
 {
     if holds(told, b"Usage: tsume solve") {
         return Some(ON_WORKERS_OF_SOLVE);
+    }
+    if holds(told, b"Usage: tsume shortest") {
+        return Some(ON_WORKERS_OF_SHORTEST);
     }
     if holds(told, b"Usage: tsume check") {
         return Some(ON_WORKERS_OF_CHECK);

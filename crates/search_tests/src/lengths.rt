@@ -35,7 +35,7 @@ fn each_length_is_found(rt: HostRuntime) -> Result<(), Fail> {
         (ROOKS, 50, 1, ("spent", 1, 0)),
     ];
     for (text, limit, expansions, wanted) in table {
-        let found = shortest(
+        let (found, made) = shortest(
             rt.alloc(),
             &problem(&rt, text),
             limit,
@@ -44,6 +44,7 @@ fn each_length_is_found(rt: HostRuntime) -> Result<(), Fail> {
             &mut QuietStop::new(),
         )?;
         same(&rt, text, told(&found), wanted);
+        same(&rt, text, made <= expansions, true);
     }
     Ok(())
 }

@@ -4,9 +4,12 @@ use Rattle.std.proofs.lemmas.List.{take_more, take_all, map-id}
 use Rattle.std.proofs.lemmas.List.Elements.{Contains-push_cases}
 use Rattle.board_core.specs.Board.{Board}
 use Rattle.board_core.specs.Kept.{IsKept}
-use Rattle.list_laws.proofs.Standing.{contained, at_place, from_map, contains_map, none_in_none}
+use Rattle.list_laws.proofs.Standing.{contained, at_place, from_map, contains_map}
 use Rattle.shogi_rules.specs.Tsume.{IsProblem}
 use Rattle.mate_facts.specs.declared.rank.Rank.{Rank}
+use Rattle.hand_dominance.specs.declared.version.Version.{Version}
+use Rattle.hand_dominance.specs.declared.version.Version.TheVariants.{One}
+use Rattle.hand_dominance.specs.BorneOut.{Covers, IsCovered}
 use Rattle.cert_text.specs.Certificate.{CertificateView, Escaping, IsListing, IsRising, IsEntry, MayBeListed, escape_form}
 use Rattle.cert_order.proofs.Picked.{all_listed}
 use Rattle.bound_text.specs.declared.entry.BoundEntry.{BoundEntry}
@@ -38,7 +41,7 @@ one_more limit positions n entries longer b inside is kept e listed =
     })
 
 module _ (limit : Rank) (p : Board) (c : Escaping) (items : List Board) (n : ℕ) (entries : List BoundEntry) (same : items ≡ c.entries) (long : length items ≤ n)
-    (listed : AreListed limit items n entries) (valid : ValidEscape c p) (keeps : IsListing (escape_form c.problem) c) (accepted : IsProblem p) (kept : IsKept p) where
+    (listed : AreListed limit items n entries) (valid : ValidEscape c p) (one : c.version ≡ One) (keeps : IsListing (escape_form c.problem) c) (accepted : IsProblem p) (kept : IsKept p) where
   all_at : map (λ (entry : BoundEntry). entry.at) entries ≡ c.entries
   all_at = listed.at ∙ (take_all n items long ∙ same)
 
@@ -58,7 +61,7 @@ module _ (limit : Rank) (p : Board) (c : Escaping) (items : List Board) (n : ℕ
   rises : IsRising (map (λ (entry : BoundEntry). entry.at) entries)
   rises = subst IsRising (sym all_at) (subst IsRising (map-id c.entries) keeps.rising)
 
-  pub listing : IsListing (bound_form p) (record { problem = p; entries = entries })
+  pub listing : IsListing (bound_form p) (record { version = One; problem = p; entries = entries })
   listing = record { is_problem = accepted; rising = rises; listed = may_stand }
 
   listed_from : (b : Board) (least : ℕ) → Contains c.entries b → least ≤ limit.number → IsListedFrom entries least b
@@ -66,21 +69,27 @@ module _ (limit : Rank) (p : Board) (c : Escaping) (items : List Board) (n : ℕ
       let e = entry_of b there in
       record { entry = e.0; listed = e.1; same = e.2; enough = (let n = ap (λ (r : Rank). r.number) (listed.bound e.0 e.1) in omega (arith, n, few)) }
 
+  -- in version 1 what is covered is listed
+  inside : (b : Board) → IsCovered c.version c.entries p.side b → Contains c.entries b
+  inside b covered =
+      let same : covered.listed ≡ b = subst (λ (v : Version). Covers v p.side covered.listed b) one covered.covers in
+      subst (λ (q : Board). Contains c.entries q) same covered.inside
+
   bounded : IsValidBound entries p limit.number
   bounded = record {
-    root = λ some. listed_from p limit.number valid.listed (omega arith);
+    root = λ some. listed_from p limit.number (inside p valid.listed) (omega arith);
     held = λ entry there check is.
-        let a = valid.closed.answered entry.at check (position_of entry there) is in
+        let a = valid.closed.held entry.at (position_of entry there) check is in
         record {
           evasion = a.evasion;
           is_evasion = a.is_evasion;
           leads = λ more.
-              ⊎_elim (λ inside. listed_from _ (entry.bound.number - 1) inside (let n = ap (λ (r : Rank). r.number) (listed.bound entry there) in omega (arith, n)))
-              (λ none. absurd (none_in_none _ none)) a.leads;
+              listed_from _ (entry.bound.number - 1) (inside _ a.leads)
+              (let n = ap (λ (r : Rank). r.number) (listed.bound entry there) in omega (arith, n));
         };
   }
 
-  pub none_within : (b : CertificateView BoundEntry) → b ≡ record { problem = p; entries = entries } → length entries < 2 ^ 64
+  pub none_within : (b : CertificateView BoundEntry) → b ≡ record { version = One; problem = p; entries = entries } → length entries < 2 ^ 64
       → ((es : List BoundEntry) (q : Board) (within : ℕ) → IsValidBound es q within → ShowsBound es q within) → IsNoneWithin p limit.number b
   none_within b is few shows =
       subst (IsNoneWithin p limit.number) (sym is) (record {
@@ -89,6 +98,7 @@ module _ (limit : Rank) (p : Board) (c : Escaping) (items : List Board) (n : ℕ
         none = (shows entries p limit.number bounded).no_mate;
         bound_readable = record {
           same = refl;
+          version = refl;
           good = record {
             fit = all_listed (MayBeListed (bound_form p)) entries (λ entry there. record { kept = listed.kept entry there; listed = may_stand entry there });
             rising = rises;

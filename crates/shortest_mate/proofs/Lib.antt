@@ -1,3 +1,4 @@
 mod Escapes
 mod Faster
 mod Shown
+mod Told

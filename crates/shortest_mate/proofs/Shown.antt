@@ -5,7 +5,7 @@ use Rattle.board_core.specs.Board.{Board}
 use Rattle.mate_def.specs.Mate.{RankAtMost}
 use Rattle.mate_facts.specs.declared.entry.MateEntry.{MateEntry}
 use Rattle.cert_text.specs.Certificate.{Mating}
-use Rattle.play_line.specs.Line.{IsRankAt}
+use Rattle.shortest_lists.specs.Line.{IsRankAt}
 
 pub rank_shown : (c : Mating) (b : Board) (attacker : Side) (rank : ℕ) → IsRankAt c b rank
     → ((entry : MateEntry) → Contains c.entries entry → RankAtMost attacker entry.rank.number entry.at) → RankAtMost attacker rank b

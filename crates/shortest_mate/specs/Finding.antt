@@ -1,17 +1,19 @@
 -- When a finding about the shortest mate of a problem is true.
-use Rattle.std.specs.Prelude.{◌≡◌, ◌-◌, ◌≤◌, ◌<◌, ℕ, List, length, ⊤}
+use Rattle.std.specs.Prelude.{◌≡◌, ◌⊎◌, ◌-◌, ◌≤◌, ◌<◌, ℕ, List, length, ⊤}
 use Rattle.board_core.specs.declared.moves.Move.{Move}
 use Rattle.board_core.specs.Board.{Board}
 use Rattle.mate_def.specs.Mate.{RankAtMost}
 use Rattle.mate_facts.specs.declared.rank.Rank.{Rank}
-use Rattle.cert_text.specs.Certificate.{CertificateView, Mating, mate_form}
+use Rattle.hand_dominance.specs.declared.version.Version.TheVariants.{One}
+use Rattle.cert_text.specs.Certificate.{CertificateView, Escaping, IsEscaping, Mating, mate_form}
 use Rattle.cert_text.specs.Reading.{IsReadableOf}
-use Rattle.cert_check.specs.Valid.{ValidMate}
+use Rattle.cert_check.specs.Valid.{ValidEscape, ValidMate}
 use Rattle.bound_text.specs.declared.entry.BoundEntry.{BoundEntry}
 use Rattle.bound_text.specs.Reading as bounds
 use Rattle.bound_check.specs.Valid.{IsValidBound}
-use Rattle.play_line.specs.Line.{IsRankAt}
-use Rattle.shortest_lists.specs.Line.{IsShortestLine}
+use Rattle.shortest_facts.specs.Facts.{Known, AreBorneOut}
+use Rattle.shortest_lists.specs.Line.{IsRankAt, IsShortestLine}
+use Rattle.shortest_lists.specs.Reached.{HasMoreThan, IsBoundStep, IsMateStep}
 use Rattle.usi_text.specs.Lines.{AllHaveText}
 use Rattle.cert_text.specs.declared.limits.TheConstants.{MOST_ENTRIES}
 use Rattle.search_gate.specs.Stop.{Signal, one_more}
@@ -19,12 +21,14 @@ use Rattle.search_limits.specs.declared.cause.Cause.TheVariants.{Expansions, Roo
 use Rattle.shortest_mate.specs.declared.finding.Finding.{Finding}
 use Rattle.shortest_mate.specs.declared.finding.Finding.TheVariants.{Found, NoneWithin, Unknown}
 
--- The shortest mate of the problem takes so many of the attacker's moves: the certificate is valid
--- for the problem and has it with that rank; the bound, which is for the problem, is valid for one
--- move less; the line goes to the mate by both. So the problem is mate within that number and
--- within none that is less. Certificate and bound can be read once they are written.
+-- The shortest mate of the problem takes so many of the attacker's moves: the certificate, of
+-- version 1, is valid for the problem and has it with that rank; the bound, which is for the
+-- problem, is valid for one move less; the line goes to the mate by both. So the problem is mate
+-- within that number and within none that is less. Certificate and bound can be read once they are
+-- written.
 pub record IsShortest (problem : Board) (rank : Rank) (c : Mating) (b : CertificateView BoundEntry) (line : List Move) : Type 0 where
   pub valid : ValidMate c problem
+  pub version : c.version ≡ One
   pub own_rank : IsRankAt c problem rank.number
   pub about : b.problem ≡ problem
   pub bound : IsValidBound b.entries problem (rank.number - 1)
@@ -42,22 +46,43 @@ pub record IsNoneWithin (problem : Board) (limit : ℕ) (b : CertificateView Bou
   pub none : ¬ RankAtMost problem.side limit problem
   pub bound_readable : bounds.IsReadable problem b
 
--- When a finding about the shortest mate of a problem, up to a limit and with so many expansions,
--- is true.
-abbrev pub IsTrueOf : Board → ℕ → ℕ → Finding → Type 0
-IsTrueOf problem limit expansions (Found rank c b line) = IsShortest problem rank c b line.items × (rank.number ≤ limit)
-IsTrueOf problem limit expansions (NoneWithin found b) = (found.number ≡ limit) × IsNoneWithin problem limit b
-IsTrueOf problem limit expansions (Unknown (Expansions number)) = number ≡ expansions
-IsTrueOf problem limit expansions (Unknown (Stopped worker)) = worker ≡ 1
-IsTrueOf problem limit expansions (Unknown (Entries number)) = number ≡ MOST_ENTRIES
-IsTrueOf problem limit expansions (Unknown (Room number)) = ⊥
-IsTrueOf problem limit expansions (Unknown (Height number)) = ⊥
+-- What is known of lengths, which is borne out, leads along such steps from the problem to more
+-- positions than are read.
+pub record LeadsTooFar (problem : Board) (Step : Known → Board → Board → Type 0) : Type 0 where
+  pub known : Known
+  pub for_attacker : known.attacker ≡ problem.side
+  pub borne_out : AreBorneOut known
+  pub more : HasMoreThan (Step known) problem MOST_ENTRIES
 
--- A line that is found can be printed: it has a move, and each has a text.
-abbrev pub HasLine : Finding → Type 0
-HasLine (Found rank c b line) = (0 < length line.items) × AllHaveText line.items
-HasLine (NoneWithin limit b) = ⊤
-HasLine (Unknown cause) = ⊤
+-- A certificate that the problem is no mate, which is valid and keeps what each keeps, lists more
+-- positions than are read.
+pub record ListsTooMany (problem : Board) : Type 0 where
+  pub certificate : Escaping
+  pub keeps : IsEscaping certificate
+  pub valid : ValidEscape certificate problem
+  pub more : MOST_ENTRIES < length certificate.entries
+
+-- More positions than are read would have to be listed: along the mate, along the bound, or of an
+-- escape.
+abbrev pub HasTooMany : Board → Type 0
+HasTooMany problem = LeadsTooFar problem IsMateStep ⊎ (LeadsTooFar problem IsBoundStep ⊎ ListsTooMany problem)
+
+-- When a finding about the shortest mate of a problem, up to a limit, with so many expansions at
+-- most, of which so many were made, is true.
+abbrev pub IsTrueOf : Board → ℕ → ℕ → ℕ → Finding → Type 0
+IsTrueOf problem limit expansions made (Found rank c b line) = IsShortest problem rank c b line.items × (rank.number ≤ limit)
+IsTrueOf problem limit expansions made (NoneWithin found b) = (found.number ≡ limit) × IsNoneWithin problem limit b
+IsTrueOf problem limit expansions made (Unknown (Expansions number)) = (number ≡ expansions) × (made ≡ expansions)
+IsTrueOf problem limit expansions made (Unknown (Stopped worker)) = worker ≡ 1
+IsTrueOf problem limit expansions made (Unknown (Entries number)) = (number ≡ MOST_ENTRIES) × HasTooMany problem
+IsTrueOf problem limit expansions made (Unknown (Room number)) = ⊥
+IsTrueOf problem limit expansions made (Unknown (Height number)) = ⊥
+
+-- What is found can be printed: a line has a move, and each has a text; a bound is of version 1.
+abbrev pub IsPrintable : Finding → Type 0
+IsPrintable (Found rank c b line) = (0 < length line.items) × AllHaveText line.items × (b.version ≡ One)
+IsPrintable (NoneWithin limit b) = b.version ≡ One
+IsPrintable (Unknown cause) = ⊤
 
 -- A stop is heeded: where it signalled, which it did once, the finding is that it was stopped.
 abbrev pub HeedsStop : Signal → Signal → Finding → Type 0

@@ -1,5 +1,6 @@
 // The bound of an escape: no mate is as short as anything.
 ghost use Rattle.std.specs.Prelude.{◌≡◌, IfOk, IfErr};
+ghost use Rattle.hand_dominance.specs.declared.version.Version.TheVariants.{One};
 ghost use Rattle.cert_check.specs.Valid.{ValidEscape};
 ghost use Rattle.cert_text.specs.declared.limits.TheConstants.{MOST_ENTRIES};
 ghost use Rattle.shortest_mate.specs.declared.finding.Finding.TheVariants.{NoneWithin};
@@ -8,6 +9,7 @@ ghost use Rattle.shortest_mate.specs.Finding.{IsNoneWithin};
 use bound_check::valid_bound_is_accepted;
 use bound_text::{Bound, BoundEntry};
 use cert_text::EscapeCertificate;
+use hand_dominance::Version;
 use mate_facts::Rank;
 use shogi_rules::Problem;
 use std::alloc::{AllocError, Global};
@@ -20,7 +22,8 @@ pub(crate) fn bound_of_escape(
     escape: &EscapeCertificate,
     limit: Rank,
 ) -> Result<Bound, AllocError>
-    requires { ValidEscape escape.now problem.now.position }
+    requires valid { ValidEscape escape.now problem.now.position }
+    requires version { escape.now.version ≡ One }
     ensures { IfOk result (IsNoneWithin problem.now.position limit.number) }
 {
     // What a valid bound shows.
@@ -34,5 +37,5 @@ pub(crate) fn bound_of_escape(
             at: *position,
         })?;
     }
-    Ok(Bound::new(*problem, entries))
+    Ok(Bound::new(Version::One, *problem, entries))
 }

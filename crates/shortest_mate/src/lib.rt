@@ -14,3 +14,4 @@ mod search;
 
 pub use finding::Finding;
 pub use search::{MOST_LIMIT, shortest};
+pub use shortest_search::LengthOnlooker;

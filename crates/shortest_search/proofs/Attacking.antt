@@ -1,6 +1,6 @@
 -- What the loops of a visit have found out, and what follows at their end.
 use Rattle.std.proofs.Common.{◌≡◌, ◌⊎◌, ◌<◌, ◌≤◌, ◌+◌, inl, inr, ◌∙◌, ℕ, List, length, map, get_or, Contains, arith, sym, ap, subst, ⊎_elim, min, max}
-use Rattle.std.specs.Prelude.{Some, None, Option, slice_get, IsSomeAnd}
+use Rattle.std.specs.Prelude.{◌-◌, ◌^◌, Bool, Some, None, Option, slice_get, IsSomeAnd}
 use Rattle.std.specs.List.Sorted.{IsPermutation}
 use Rattle.std.proofs.lemmas.Bool.{cases_eq}
 use Rattle.std.proofs.lemmas.List.Sorted.{Contains-permutation, IsPermutation-sym}
@@ -11,7 +11,7 @@ use Rattle.board_core.specs.Board.{Board}
 use Rattle.board_core.specs.Kept.{IsKept}
 use Rattle.board_core.specs.Order.{Lists}
 use Rattle.list_laws.proofs.Standing.{contained, at_place, first_of, from_map}
-use Rattle.search_gate.specs.Stop.{Signal}
+use Rattle.search_gate.specs.Stop.{Signal, polled}
 use Rattle.shogi_rules.specs.Rules.{after}
 use Rattle.shogi_rules.specs.Tsume.{IsCheck, IsEvasion}
 use Rattle.shogi_rules.proofs.Offered.{kept_after}
@@ -44,20 +44,54 @@ pub record MatedEvasions (k : Known) (b : Board) (children : List Child) (n with
   pub few : high ≤ within
   pub fast : (i : ℕ) (child : Child) → i < n → slice_get children i ≡ Some child → (k.at (after b child.by)).most ≤ high
 
--- The stop signalled nothing by now.
-pub record StaysQuiet (before after_it : Signal) : Type 0 where
-  pub polled : IsPolled before after_it
+-- The stop signalled nothing by now, between so many expansions and so many.
+pub record StaysQuiet (made made_after : ℕ) (before after_it : Signal) : Type 0 where
+  pub polled : IsPolled made made_after before after_it
   pub quiet : after_it.raised ≡ before.raised
 
 -- 1. WHAT GOES ON.
 
-pub quiet_on : (a b c : Signal) → StaysQuiet a b → IsPolled b c → c.raised ≡ b.raised → StaysQuiet a c
-quiet_on a b c before polled same = record {
-  polled = record {
-    armed = polled.armed ∙ before.polled.armed;
-    arms = polled.arms ∙ before.polled.arms;
-    early = polled.early ∙ before.polled.early;
-  };
+pub polled_on : (m n o : ℕ) (a b c : Signal) → IsPolled m n a b → IsPolled n o b c → IsPolled m o a c
+polled_on m n o a b c one two = record {
+  armed = two.armed ∙ one.armed;
+  arms = two.arms ∙ one.arms;
+  early = two.early ∙ one.early;
+  more = λ low.
+      let i = two.more low in
+      let h = one.more (omega (arith, low, i)) in
+      omega (arith, h, i);
+  each = λ low.
+      let more = two.more low in
+      let h = one.each (omega (arith, low, more)) in
+      let i = two.each low in
+      omega (arith, h, i);
+}
+
+pub polled_once : (made : ℕ) (s after_it : Signal) (stops : Bool) → after_it ≡ polled s stops → IsPolled made (made + 1) s after_it
+polled_once made s after_it stops e = record {
+  armed = ap (λ (x : Signal). x.armed) e;
+  arms = ap (λ (x : Signal). x.arms) e;
+  early = ap (λ (x : Signal). x.early) e;
+  more = λ low. let h = polls in omega (arith, h, low);
+  each = λ low. let h = polls in omega (arith, h, low);
+}
+  where
+    polls : after_it.polls ≡ min (s.polls + 1) (2 ^ 64 - 1)
+    polls = ap (λ (x : Signal). x.polls) e
+
+-- an expansion that wasn't made needs no poll
+pub polled_more : (made : ℕ) (a b : Signal) → IsPolled made (made + 1) a b → IsPolled made made a b
+polled_more made a b p = record {
+  armed = p.armed;
+  arms = p.arms;
+  early = p.early;
+  more = p.more;
+  each = λ low. let h = p.each low in omega (arith, h);
+}
+
+pub quiet_on : (m n o : ℕ) (a b c : Signal) → StaysQuiet m n a b → IsPolled n o b c → c.raised ≡ b.raised → StaysQuiet m o a c
+quiet_on m n o a b c before polled same = record {
+  polled = polled_on m n o a b c before.polled polled;
   quiet = same ∙ before.quiet;
 }
 

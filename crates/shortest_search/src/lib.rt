@@ -4,9 +4,11 @@
 
 mod child;
 mod lengths;
+mod onlooker;
 mod run;
 mod visiting;
 
 pub use lengths::find_length;
+pub use onlooker::LengthOnlooker;
 pub use run::{Run, VisitEnd};
 pub use visiting::visit;

@@ -58,7 +58,8 @@ impl Run {
         ensures goes_on { GoesOn self.old self.new }
         ensures spent { result ≡ Err Spent → self.new.made ≡ self.new.most }
         ensures stopped { IsStopped result (T.signal stop.old) (T.signal stop.new) }
-        ensures polled { IsPolled (T.signal stop.old) (T.signal stop.new) }
+        ensures polled { IsPolled self.old.made self.new.made (T.signal stop.old)
+            (T.signal stop.new) }
     {
         if self.made >= self.most {
             return Err(VisitEnd::Spent);

@@ -29,6 +29,7 @@ fn attack_once(problem: &Problem, run: &mut Run, position: &Position) -> Result<
     requires quiet { IsQuiet position.now }
     requires turn { position.now.side ≡ problem.now.position.side }
     ensures goes_on { GoesOn run.old run.new }
+    ensures made { run.new.made ≡ run.old.made }
     ensures outcome { IsOutcome run.new position.now 1 result }
     ensures memory { IsMemory result }
 {
@@ -71,7 +72,7 @@ fn try_check<T: Stop>(
     ensures outcome { IsTried (HasMate (known_of run.new.facts) position.now (fewer + 1))
         (TakesMore (known_of run.new.facts) (after position.now child.by) fewer) run.new result }
     ensures stopped { IsStopped result (T.signal stop.old) (T.signal stop.new) }
-    ensures polled { IsPolled (T.signal stop.old) (T.signal stop.new) }
+    ensures polled { IsPolled run.old.made run.new.made (T.signal stop.old) (T.signal stop.new) }
 {
     if child.least > fewer {
         return Ok(Some(child.least));
@@ -105,7 +106,7 @@ fn attack<T: Stop>(
     ensures goes_on { GoesOn run.old run.new }
     ensures outcome { IsOutcome run.new position.now within result }
     ensures stopped { IsStopped result (T.signal stop.old) (T.signal stop.new) }
-    ensures polled { IsPolled (T.signal stop.old) (T.signal stop.new) }
+    ensures polled { IsPolled run.old.made run.new.made (T.signal stop.old) (T.signal stop.new) }
 {
     position.laws();
     let fewer = within - 1;
@@ -147,7 +148,7 @@ fn try_evasion<T: Stop>(
     ensures outcome { IsTried (within < ((known_of run.new.facts).at position.now).least)
         (TakesNoMore (known_of run.new.facts) (after position.now child.by) within) run.new result }
     ensures stopped { IsStopped result (T.signal stop.old) (T.signal stop.new) }
-    ensures polled { IsPolled (T.signal stop.old) (T.signal stop.new) }
+    ensures polled { IsPolled run.old.made run.new.made (T.signal stop.old) (T.signal stop.new) }
 {
     if child.most <= within {
         return Ok(Some(child.most));
@@ -180,7 +181,7 @@ fn defend<T: Stop>(
     ensures goes_on { GoesOn run.old run.new }
     ensures outcome { IsOutcome run.new position.now within result }
     ensures stopped { IsStopped result (T.signal stop.old) (T.signal stop.new) }
-    ensures polled { IsPolled (T.signal stop.old) (T.signal stop.new) }
+    ensures polled { IsPolled run.old.made run.new.made (T.signal stop.old) (T.signal stop.new) }
 {
     position.laws();
     let children = known_evasions(run.alloc, problem, &run.facts, position)?;
@@ -224,7 +225,7 @@ pub fn visit<T: Stop>(
     // The answer is right by what is known then.
     ensures outcome { IsOutcome run.new position.now within result }
     ensures stopped { IsStopped result (T.signal stop.old) (T.signal stop.new) }
-    ensures polled { IsPolled (T.signal stop.old) (T.signal stop.new) }
+    ensures polled { IsPolled run.old.made run.new.made (T.signal stop.old) (T.signal stop.new) }
 {
     position.laws();
     let fact = run.facts.fact(position);

@@ -1,20 +1,21 @@
 use Rattle.std.proofs.Common.{◌-◌, arith, sym, ap, subst}
 use Rattle.shortest_facts.specs.declared.fact.Fact.{Fact}
-use Rattle.play_line.specs.Line.{IsRankAt}
+use Rattle.shortest_lists.specs.Line.{IsRankAt}
 use Rattle.cert_text.specs.declared.certificate.Certificate.TheVariants.{Mate}
 use Rattle.shortest_mate.proofs.Shown.{rank_shown}
 use Rattle.shortest_mate.proofs.search.found.Goals as goal
 
 pub returns-clause-finding : goal.returns-clause-finding
-returns-clause-finding c = λ expansions.
+returns-clause-finding c = λ expansions made.
     let p = c.args.problem.now.position in
     let number = ap (λ (f : Fact). f.most) c.fact-number.ensures in
     let own : IsRankAt c.in_ok-certificate.certificate p c.fact-number.result.most =
     subst (IsRankAt c.in_ok-certificate.certificate p) (sym number) c.in_ok-certificate.ensures.rank in
-    let shown = c.valid_is_accepted.ensures.shows (Mate c.in_ok-certificate.certificate) p c.laws-2.ensures.kept c.in_ok-certificate.ensures.valid in
+    let shown = c.valid_is_accepted.ensures.readable (Mate c.in_ok-certificate.certificate) p (c.in_ok-certificate.ensures.readable (omega arith)) c.in_ok-certificate.ensures.valid in
     let bounded = c.valid_bound_is_accepted.ensures.shows c.in_ok-bound.bound.entries p (c.fact-number.result.most - 1) c.in_ok-bound.ensures.valid in (
       record {
         valid = c.in_ok-certificate.ensures.valid;
+        version = c.in_ok-certificate.ensures.version;
         own_rank = own;
         about = c.in_ok-bound.ensures.about;
         bound = c.in_ok-bound.ensures.valid;

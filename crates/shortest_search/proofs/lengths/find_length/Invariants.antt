@@ -7,7 +7,7 @@ use Rattle.shortest_search.proofs.lengths.find_length.Given as goal
 abbrev pub invariant-loop-limit : goal.invariant-loop-limit
 invariant-loop-limit g l = record {
   goes_on : GoesOn l.fn.run l.run;
-  quiet : StaysQuiet (g.T.Stop.signal l.fn.stop) (g.T.Stop.signal l.stop);
+  quiet : StaysQuiet l.fn.run.made l.run.made (g.T.Stop.signal l.fn.stop) (g.T.Stop.signal l.stop);
 }
 
 abbrev pub decreases-loop-limit : goal.decreases-loop-limit

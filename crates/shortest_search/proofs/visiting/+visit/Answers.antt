@@ -7,7 +7,7 @@ use Rattle.shogi_rules.specs.Tsume.{IsCheck, IsEvasion}
 use Rattle.shortest_facts.specs.Keys.{known_of}
 use Rattle.shortest_search.specs.declared.child.Child.{Child}
 use Rattle.shortest_search.specs.Children.{IsKnownCheck, IsKnownEvasion}
-use Rattle.shortest_search.specs.Visit.{IsTried, HasMate, TakesMore, TakesNoMore}
+use Rattle.shortest_search.specs.Visit.{IsPolled, IsTried, HasMate, TakesMore, TakesNoMore}
 use Rattle.shortest_search.proofs.Attacking.{child_at, move_at, lift_check, lift_evasion, lasts_on, mated_on, run_on, quiet_on, all_evaded, all_longer, all_mated}
 use Rattle.shortest_search.proofs.visiting.+visit.Goals as goal
 
@@ -38,7 +38,8 @@ attack-loop-child-preserved g t c = record {
       (subst (λ (o : Option ℕ). IsTried (HasMate (known_of c.try_check.new.run.facts) c.args.position.now ((c.args.within - 1) + 1)) (TakesMore (known_of c.try_check.new.run.facts) (after c.args.position.now c.child-item.result.by) (c.args.within - 1)) c.try_check.new.run (Ok o))
       c.in-Some-2.is c.in_ok-try_check.ensures.outcome)
       c.min-low.ensures;
-  quiet = quiet_on (g.T.Stop.signal c.args.stop.now) (g.T.Stop.signal c.loop-child.stop) (g.T.Stop.signal c.try_check.new.stop) c.loop-child.invariant.quiet
+  quiet = quiet_on c.args.run.now.made c.loop-child.run.made c.try_check.new.run.made (g.T.Stop.signal c.args.stop.now) (g.T.Stop.signal c.loop-child.stop)
+      (g.T.Stop.signal c.try_check.new.stop) c.loop-child.invariant.quiet
       c.in_ok-try_check.ensures.polled c.in_ok-try_check.ensures.stopped;
 }
 
@@ -91,7 +92,8 @@ defend-loop-child-preserved g t c = record {
       (subst (λ (o : Option ℕ). IsTried (c.args.within < ((known_of c.try_evasion.new.run.facts).at c.args.position.now).least) (TakesNoMore (known_of c.try_evasion.new.run.facts) (after c.args.position.now c.child-item.result.by) c.args.within) c.try_evasion.new.run (Ok o))
       c.in-Some-2.is c.in_ok-try_evasion.ensures.outcome)
       c.max-high.ensures;
-  quiet = quiet_on (g.T.Stop.signal c.args.stop.now) (g.T.Stop.signal c.loop-child.stop) (g.T.Stop.signal c.try_evasion.new.stop) c.loop-child.invariant.quiet
+  quiet = quiet_on c.args.run.now.made c.loop-child.run.made c.try_evasion.new.run.made (g.T.Stop.signal c.args.stop.now) (g.T.Stop.signal c.loop-child.stop)
+      (g.T.Stop.signal c.try_evasion.new.stop) c.loop-child.invariant.quiet
       c.in_ok-try_evasion.ensures.polled c.in_ok-try_evasion.ensures.stopped;
 }
 
@@ -102,3 +104,8 @@ defend-is_mated-requires-clause-mated g t c =
     (λ evasion is. move_at (IsKnownEvasion (known_of c.args.run.now.facts) c.args.position.now) (IsEvasion c.args.run.now.facts.attacker c.args.position.now) c.in_ok-children.children.items
     c.in_turn-children.result.items c.as_slice-child-items.result.now evasion c.in_ok-children.ensures c.in_turn-children.ensures c.as_slice-child-items.ensures.value
     (subst (λ (s : Side). IsEvasion s c.args.position.now evasion) c.loop-child.invariant.goes_on.better.same is))
+
+pub visit-returns-then-within-lt2-clause-polled : goal.visit-returns-then-within-lt2-clause-polled
+visit-returns-then-within-lt2-clause-polled g t c =
+    subst (λ (made : ℕ). IsPolled c.args.run.now.made made (g.T.Stop.signal c.args.stop.now) (g.T.Stop.signal c.begin.new.stop))
+    (sym c.attack_once.ensures.made) c.in_ok-begin.ensures.polled

@@ -24,12 +24,12 @@ abbrev pub invariant-attack-loop-child : goal.invariant-attack-loop-child
 invariant-attack-loop-child g l = record {
   goes_on : GoesOn l.fn.run l.run;
   lasts : LastChecks (known_of l.run.facts) l.position l.child-items l.child-index l.fewer l.low;
-  quiet : StaysQuiet (g.T.Stop.signal l.fn.stop) (g.T.Stop.signal l.stop);
+  quiet : StaysQuiet l.fn.run.made l.run.made (g.T.Stop.signal l.fn.stop) (g.T.Stop.signal l.stop);
 }
 
 abbrev pub invariant-defend-loop-child : goal.invariant-defend-loop-child
 invariant-defend-loop-child g l = record {
   goes_on : GoesOn l.fn.run l.run;
   mated : MatedEvasions (known_of l.run.facts) l.position l.child-items l.child-index l.within l.high;
-  quiet : StaysQuiet (g.T.Stop.signal l.fn.stop) (g.T.Stop.signal l.stop);
+  quiet : StaysQuiet l.fn.run.made l.run.made (g.T.Stop.signal l.fn.stop) (g.T.Stop.signal l.stop);
 }
