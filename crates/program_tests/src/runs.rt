@@ -12,4 +12,5 @@ mod solutions;
 mod stopped;
 mod telling;
 mod unread;
+mod upgrades;
 mod whole;

@@ -18,7 +18,7 @@ use tsume_words::{Format, ProblemForm, Watch, WordsEnd};
 // Of the commands over many problems the seed, the count and the expansions; or the settings,
 // whether `--rest` stands, `told` where `--certificates` does, `until` the deadline, and `by` the
 // threads.
-static ASKED: [(&str, &str); 73] = [
+static ASKED: [(&str, &str); 74] = [
     ("solve", "solve 1 1000000 1000000000 65536 64 false"),
     ("solve --rest", "solve 1 1000000 1000000000 65536 64 true"),
     (
@@ -219,10 +219,11 @@ static ASKED: [(&str, &str); 73] = [
     ("solution -", "solution"),
     ("record", "record"),
     ("record -- -a.cert", "record of -a.cert"),
+    ("upgrade a.cert", "upgrade of a.cert"),
 ];
 
 // A line that is refused, and how its text begins.
-static REFUSED: [(&str, &str); 45] = [
+static REFUSED: [(&str, &str); 46] = [
     ("solve --rows 16 --shards 32", "more shards than rows"),
     ("", "Solves tsume-shogi problems"),
     ("dance", "error: unrecognized subcommand 'dance'"),
@@ -242,6 +243,7 @@ static REFUSED: [(&str, &str); 45] = [
     ("solve a b", "error: unexpected argument 'b' found"),
     ("check --kif", "error: unexpected argument '--kif' found"),
     ("record --kif", "error: unexpected argument '--kif' found"),
+    ("upgrade a b", "error: unexpected argument 'b' found"),
     ("solution a b", "error: unexpected argument 'b' found"),
     (
         "check --rows 16",
@@ -374,7 +376,7 @@ static REFUSED: [(&str, &str); 45] = [
 ];
 
 // A request for help or for the version, and a part of its text.
-static HELPED: [(&str, &str); 36] = [
+static HELPED: [(&str, &str); 37] = [
     ("--version", "tsume 0.1.0\n"),
     ("-V --help", "tsume 0.1.0\n"),
     ("--help", "Usage: tsume <COMMAND>\n"),
@@ -430,6 +432,7 @@ static HELPED: [(&str, &str); 36] = [
     ),
     ("help check", "Usage: tsume check [OPTIONS] [FILE]\n"),
     ("help record", "Usage: tsume record [FILE]\n"),
+    ("help upgrade", "Usage: tsume upgrade [FILE]\n"),
     ("solution -h", "Usage: tsume solution [FILE]\n"),
     (
         "check --help",
@@ -498,6 +501,7 @@ fn command_text(alloc: Global, command: &Command) -> Result<String, AllocError> 
         Command::Collection(asked) => collection_text(alloc, asked),
         Command::Solution(_) => format!(in alloc; "solution"),
         Command::Record(_) => format!(in alloc; "record"),
+        Command::Upgrade(_) => format!(in alloc; "upgrade"),
     }
 }
 

@@ -18,6 +18,8 @@ pub enum Command {
     Solution(cmd_solution::JudgeSolution),
     /// Write the KIF record of the mate whose certificate is read.
     Record(cmd_record::Record),
+    /// Write the certificate that is read in version 2.
+    Upgrade(cmd_upgrade::Upgrade),
 }
 
 /// All that the words ask for.

@@ -24,6 +24,7 @@ macro_rules! with_each_command {
             "collection" Collection cmd_collection::Collection,
             "solution" Solution cmd_solution::JudgeSolution,
             "record" Record cmd_record::Record,
+            "upgrade" Upgrade cmd_upgrade::Upgrade,
         )
     };
 }

@@ -21,6 +21,7 @@ use Rattle.cmd_shortest.specs.Text.{answer_status as shortest_status}
 use Rattle.cmd_bound.specs.Text.{bound_status}
 use Rattle.shortest_text.specs.FaultText.{shortest_fault_text}
 use Rattle.cmd_record.specs.Text.{answer_status, fault_text}
+use Rattle.cmd_upgrade.specs.Text as upgrade
 use Rattle.cmd_solution.specs.Text.{verdict_status}
 use Rattle.kif_moves.specs.FaultText.{moves_fault_text}
 use Rattle.tsume_app.specs.declared.ended.Ended.{Ended}
@@ -86,6 +87,7 @@ left_by (ends.Survey ended) = by_writing (λ summary. 0) ended
 left_by (ends.Collection ended) = by_reading counts_status (λ fault. []) (λ fault explanation. explanation ≡ []) ended
 left_by (ends.Solution ended) = by_reading verdict_status moves_fault_text MayFollowMoves ended
 left_by (ends.Record ended) = by_reading answer_status fault_text (λ fault. IsPlain) ended
+left_by (ends.Upgrade ended) = by_reading upgrade.answer_status certificate_fault_text (λ fault. IsPlain) ended
 left_by (ends.Help ended) = by_writing (λ text. 0) ended
 left_by (ends.Refused refusal) = by_refusing refusal
 

@@ -76,6 +76,8 @@ pub enum Ended {
     Solution(one_run::Ended<cmd_solution::SolutionVerdict, kif_moves::KifMovesFault>),
     /// As `record`.
     Record(one_run::Ended<cmd_record::RecordAnswer, cmd_record::RecordFault>),
+    /// As `upgrade`.
+    Upgrade(one_run::Ended<cmd_upgrade::UpgradeAnswer, cert_text::CertFault>),
     /// With help, or with the version, as clap made it.
     Help(Written<String>),
     /// No command was begun.
@@ -94,6 +96,7 @@ macro_rules! with_ending {
             Ended::Collection($ending) => $then,
             Ended::Solution($ending) => $then,
             Ended::Record($ending) => $then,
+            Ended::Upgrade($ending) => $then,
             Ended::Help($ending) => $then,
             Ended::Refused($ending) => $then,
         }

@@ -24,10 +24,11 @@ use cmd_bound::check_with_bound;
 use cmd_check::{Check, asked_problem, check};
 use cmd_collection::{Onlooker, collection};
 use cmd_record::record;
-use cmd_shortest::{Shortest, ShortestAnswer, shortest};
+use cmd_shortest::{LengthOnlooker, Shortest, ShortestAnswer, shortest};
 use cmd_solution::solution;
 use cmd_solve::solve;
 use cmd_survey::survey;
+use cmd_upgrade::upgrade;
 use one_run::{Written, write};
 use problem_answers::problem_laws;
 use program_words::{Command, WordsRead};
@@ -83,7 +84,7 @@ fn check_ended<R: Threads + Sync, S: Source, K: Sink>(
 }
 
 // Looks for a shortest mate, by one worker.
-fn shortest_ended<S: Source, K: Sink, G: Gate, T: Stop>(
+fn shortest_ended<S: Source, K: Sink, G: Gate + LengthOnlooker, T: Stop>(
     alloc: Global,
     asked: &Shortest,
     source: &mut S,
@@ -111,7 +112,7 @@ fn command_ended<
     R: Threads + Wait + AllocGlobal + Sync,
     S: Source,
     K: Sink,
-    G: Gate + Onlooker,
+    G: Gate + Onlooker + LengthOnlooker,
     T: Stop + Drop,
 >(rt: &R, command: &Command, source: &mut S, sink: &mut K, gate: &G, stops: &mut Vec<T>) -> Ended
     requires { length stops.old.items ≡ MOST_WORKERS }
@@ -133,6 +134,7 @@ fn command_ended<
         Command::Survey(range) => Ended::Survey(survey(rt, alloc, range, sink)),
         Command::Solution(asked) => Ended::Solution(solution(alloc, asked, source, sink)),
         Command::Record(asked) => Ended::Record(record(alloc, asked, source, sink)),
+        Command::Upgrade(asked) => Ended::Upgrade(upgrade(alloc, asked, source, sink)),
         Command::Collection(asked) => {
             Ended::Collection(collection(rt, alloc, asked, source, sink, gate))
         }
@@ -143,7 +145,7 @@ fn words_ended<
     R: Threads + Wait + AllocGlobal + Sync,
     S: Source,
     K: Sink,
-    G: Gate + Onlooker,
+    G: Gate + Onlooker + LengthOnlooker,
     T: Stop + Drop,
 >(rt: &R, words: WordsRead, source: &mut S, sink: &mut K, gate: &G, stops: &mut Vec<T>) -> Ended
     requires { length stops.old.items ≡ MOST_WORKERS }
@@ -300,7 +302,7 @@ pub fn run<
     R: Threads + Wait + AllocGlobal + Sync,
     S: Source,
     K: Sink,
-    G: Gate + Onlooker,
+    G: Gate + Onlooker + LengthOnlooker,
     T: Stop + Drop,
 >(rt: &R, words: WordsRead, source: &mut S, sink: &mut K, gate: &G, stops: &mut Vec<T>) -> Ended
     requires { length stops.old.items ≡ MOST_WORKERS }

@@ -4,6 +4,7 @@ ghost use Rattle.std.specs.Prelude.{◌≡◌};
 use crate::pipe::Pipe;
 use app_texts::Solution;
 use cmd_collection::{Onlooker, Report};
+use cmd_shortest::LengthOnlooker;
 use search_gate::Gate;
 use std::sync::atomic::{AtomicBool, AtomicU64, Ordering};
 use std::time::Clock;
@@ -50,8 +51,9 @@ impl fmt::Display for Grouped {
 
 /// A gate that tells the user for how long a search has run, how many visits all its workers made,
 /// and how many a second, a few times a second and each time over the line before; where it isn't
-/// asked to, it is an open gate. Of a collection, on which it looks, it tells how many lines are
-/// decided, about once a second. It remembers too where the reader of a pipe went away.
+/// asked to, it is an open gate. Of a shortest mate it tells which length is asked about. Of a
+/// collection, on which it looks, it tells how many lines are decided, about once a second. It
+/// remembers too where the reader of a pipe went away.
 #[derive(Drop)]
 pub(crate) struct Progress<'a, R> {
     system: &'a R,
@@ -175,6 +177,18 @@ impl<'a, R: io::Eprint + Clock> Progress<'a, R> {
         .ok();
     }
 
+    // Tells, over the line before, how far the search for a shortest mate has come. The line fits
+    // 40 columns.
+    fn tell_length(&self, moves: u32, made: u64, passed: u64) {
+        self.is_shown.store(true, Ordering::SeqCst);
+        eprint!(self.system;
+            "\r                                       \r{} s, {} visits, {moves} moves?",
+            passed / 1_000,
+            Grouped(made)
+        )
+        .ok();
+    }
+
     // Tells, over the line before, how many lines of a collection are decided, and how, as far as
     // 40 columns allow.
     fn tell_lines(&self, passed: u64) {
@@ -270,6 +284,33 @@ impl<'a, R: io::Eprint + Clock + Sync> Gate for Progress<'a, R> {
         }
         if self.is_due(now, PAUSE) {
             self.tell(used, passed);
+        }
+    }
+}
+
+impl<'a, R: io::Eprint + Clock + Sync> LengthOnlooker for Progress<'a, R> {
+    fn asks(&self, moves: u32, made: u64) {
+        if self.limit.is_none() {
+            return;
+        }
+        self.used.store(made, Ordering::SeqCst);
+        let Some(now) = self.time() else {
+            return;
+        };
+        let passed = self.passed_till(now);
+        self.passed.store(passed, Ordering::SeqCst);
+        if self.is_due(now, PAUSE) || passed >= 1_000 {
+            self.tell_length(moves, made, passed);
+        }
+    }
+
+    fn ends(&self, made: u64) {
+        if self.limit.is_none() {
+            return;
+        }
+        self.used.store(made, Ordering::SeqCst);
+        if let Some(now) = self.time() {
+            self.passed.store(self.passed_till(now), Ordering::SeqCst);
         }
     }
 }

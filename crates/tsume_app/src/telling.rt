@@ -12,6 +12,7 @@ use crate::pipe::Pipe;
 use crate::program::{named_file, run, tells_accepted, told_limit};
 use crate::progress::{Clearing, Progress};
 use cmd_collection::Onlooker;
+use cmd_shortest::LengthOnlooker;
 use explanations::{Trouble, explain};
 use program_words::WordsRead;
 use search_gate::{DeadlineStop, Gate, Stop};
@@ -88,7 +89,7 @@ pub fn run_and_tell<
     K: Sink,
     E: Sink,
     P: Pipe,
-    G: Gate + Onlooker,
+    G: Gate + Onlooker + LengthOnlooker,
     T: Stop + Drop,
 >(
     rt: &R,
@@ -279,7 +280,6 @@ fn run_on_file<
 >(rt: &R, words: Vec<String>, errors: W) -> u8 {
     let alloc = rt.alloc();
     let is_collection = are_for(&words, "collection");
-    let is_shortest = are_for(&words, "shortest");
     let words = WordsRead::new(alloc, words);
     let Ok(file) = named_file(alloc, &words) else {
         return fail(alloc, Refusal::NoMemory, errors);
@@ -304,8 +304,6 @@ fn run_on_file<
         0 if tells_accepted => {
             tell_accepted(alloc, source.reader().kept(), errors);
         }
-        // The gate is told of the first search of `shortest` alone.
-        0 | 1 if is_shortest => {}
         0 => progress.tell_used(),
         1 => progress.tell_given_up(),
         3 if is_collection => {
@@ -325,11 +323,11 @@ fn run_on_file<
 /// what was read and what the system said. Where the words ask for progress, a line of how far the
 /// search has come is written a few times a second, each over the one before, and cleared when the
 /// answer is written or the user is told of a fault; behind the answer a line tells how many visits
-/// it took, and where the search gave up, how to let it go on. Of `shortest` no line stands behind
-/// the answer, since its first search alone is told. Of a collection a line tells so, about once a
-/// second, how many problems are decided; and behind the answer of `check` one tells the problem
-/// that was accepted. Where the text of a collection with a fault begins as a record does, the user
-/// is told so once. What comes back ends the process with the exit status.
+/// it took, and where the search gave up, how to let it go on. Of `shortest` the line tells which
+/// length is asked about, once its first search has ended. Of a collection a line tells so, about
+/// once a second, how many problems are decided; and behind the answer of `check` one tells the
+/// problem that was accepted. Where the text of a collection with a fault begins as a record does,
+/// the user is told so once. What comes back ends the process with the exit status.
 pub fn start<
     R: Env + io::Input + Print + Eprint + Files + Clock + AllocGlobal + Threads + Wait + Sync,
     W: io::Write + Drop,

@@ -4,6 +4,7 @@ ghost use Rattle.search_limits.specs.declared.settings.TheConstants.{MOST_WORKER
 
 use crate::lines::words_of;
 use cmd_collection::Onlooker;
+use cmd_shortest::LengthOnlooker;
 use one_run::Written;
 use search_gate::{Gate, MemStop, OpenGate, Stop};
 use search_limits::MOST_WORKERS;
@@ -51,6 +52,7 @@ fn answer_and_input(ended: &Ended) -> (bool, usize) {
         Ended::Collection(ended) => own(ended),
         Ended::Solution(ended) => own(ended),
         Ended::Record(ended) => own(ended),
+        Ended::Upgrade(ended) => own(ended),
         Ended::Help(ended) => own_written(ended),
         Ended::Refused(_) => (false, 0),
     }
@@ -109,7 +111,11 @@ pub(crate) fn seen_of<R: Threads + Wait + AllocGlobal + Sync>(
 }
 
 // The same, with this gate and these stops.
-pub(crate) fn seen_by<R: Threads + Wait + AllocGlobal + Sync, G: Gate + Onlooker, T: Stop + Drop>(
+pub(crate) fn seen_by<
+    R: Threads + Wait + AllocGlobal + Sync,
+    G: Gate + Onlooker + LengthOnlooker,
+    T: Stop + Drop,
+>(
     rt: &R,
     line: &str,
     input: &str,

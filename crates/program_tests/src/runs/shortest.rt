@@ -2,7 +2,10 @@
 use super::examples::{GOLD, TWO_ROOKS};
 use super::seen::{seen_by, seen_of, stops_at};
 use crate::same::same;
-use search_gate::OpenGate;
+use cmd_collection::{Onlooker, Report};
+use cmd_shortest::LengthOnlooker;
+use search_gate::{Gate, OpenGate};
+use std::sync::atomic::{AtomicU64, Ordering};
 use std::test::Fail;
 
 const GOLD_SHORTEST: &str =
@@ -121,5 +124,69 @@ fn a_shortest_mate_is_given_up_where_it_is_stopped(rt: HostRuntime) -> Result<()
             same(&rt, poll, stop.polls(), 0);
         }
     }
+    Ok(())
+}
+
+// Who looks on while a length is looked for: the lengths that were asked about, as digits, and how
+// many expansions were made in all.
+#[derive(Drop)]
+struct Hearing {
+    asked: AtomicU64,
+    made: AtomicU64,
+}
+
+impl Gate for Hearing {
+    fn pass(&self, _worker: u32, _expansion: u64) {}
+}
+
+impl LengthOnlooker for Hearing {
+    fn asks(&self, moves: u32, _made: u64) {
+        let before = self.asked.load(Ordering::SeqCst);
+        let with_it = before.wrapping_mul(10).wrapping_add(u64::from(moves));
+        self.asked.store(with_it, Ordering::SeqCst);
+    }
+
+    fn ends(&self, made: u64) {
+        self.made.store(made, Ordering::SeqCst);
+    }
+}
+
+impl Onlooker for Hearing {
+    fn now(&self) -> u64 {
+        0
+    }
+
+    fn begin(&self, _lines: usize) {}
+
+    fn begin_round(&self) {}
+
+    fn see(&self, _report: &Report) {}
+}
+
+#[test]
+fn who_looks_on_is_told_each_length_that_is_asked_about(rt: HostRuntime) -> Result<(), Fail> {
+    let hearing = Hearing {
+        asked: AtomicU64::new(0),
+        made: AtomicU64::new(0),
+    };
+    let mut stops = stops_at(rt.alloc(), 0)?;
+    let seen = seen_by(
+        &rt,
+        "shortest",
+        TWO_ROOKS,
+        (7, 0),
+        (11, 0),
+        &hearing,
+        &mut stops,
+    )?;
+    same(&rt, TWO_ROOKS, seen.kept.as_str(), ROOKS_SHORTEST);
+    // First one move, which isn't enough, and then two.
+    same(&rt, TWO_ROOKS, hearing.asked.load(Ordering::SeqCst), 12);
+    same(
+        &rt,
+        TWO_ROOKS,
+        hearing.made.load(Ordering::SeqCst) > 0,
+        true,
+    );
     Ok(())
 }

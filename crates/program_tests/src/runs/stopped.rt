@@ -6,6 +6,7 @@ use super::examples::{NO_CHECK_TEXT, TWO_ROOKS, TWO_ROOKS_TEXT};
 use super::seen::{seen_by, stops_at};
 use crate::same::same;
 use cmd_collection::{Onlooker, Report};
+use cmd_shortest::LengthOnlooker;
 use search_gate::{Clock, DeadlineStop, Gate, OpenGate};
 use search_limits::MOST_WORKERS;
 use std::alloc::{AllocError, Global};
@@ -28,6 +29,8 @@ impl Gate for Counting {
         }
     }
 }
+
+impl LengthOnlooker for Counting {}
 
 impl Onlooker for Counting {
     fn now(&self) -> u64 {
@@ -141,6 +144,8 @@ struct Ticking {
 impl Gate for Ticking {
     fn pass(&self, _worker: u32, _expansion: u64) {}
 }
+
+impl LengthOnlooker for Ticking {}
 
 impl Onlooker for Ticking {
     fn now(&self) -> u64 {
