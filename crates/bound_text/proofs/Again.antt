@@ -183,8 +183,8 @@ module _ (laws : Laws) (problem : Board) where
   faultless b zero r none = none (decimal (length b.entries)) (entries_text (bound_form problem) b.entries ++ end_line) (whole b r).head
   faultless b (suc n) r h = later_none b (suc n) r h
 
-  bound_same : (a b : CertificateView BoundEntry) → a.problem ≡ b.problem → a.entries ≡ b.entries → a ≡ b
-  bound_same a b p e = λ i. record { problem = p i; entries = e i }
+  bound_same : (a b : CertificateView BoundEntry) → a.version ≡ b.version → a.problem ≡ b.problem → a.entries ≡ b.entries → a ≡ b
+  bound_same a b v p e = λ i. record { version = v i; problem = p i; entries = e i }
 
   pub texts_apart : (a b : CertificateView BoundEntry) → IsReadable problem a → IsReadable problem b → bound_text a ≡ bound_text b → a ≡ b
   texts_apart a b r k e =
@@ -192,7 +192,7 @@ module _ (laws : Laws) (problem : Board) where
       let number = same_number (decimal (length a.entries)) (decimal (length b.entries)) a.entries b.entries end_line end_line (bound_text a) (whole a r) other in
       let mine = number_of-decimal (length a.entries) r.few in
       let theirs = number_of-decimal (length b.entries) k.few in
-      bound_same a b (r.same ∙ sym k.same)
+      bound_same a b (r.version ∙ sym k.version) (r.same ∙ sym k.same)
       (same_begun (decimal (length a.entries)) (decimal (length b.entries)) a.entries b.entries end_line end_line (bound_text a) (whole a r) other (omega arith)).0
 
   -- 3. Reading again.

@@ -9,6 +9,7 @@ use Rattle.std.specs.Cmp.Lexicographic.{slice_cmp}
 use Rattle.std.specs.declared.cmp.Ordering.TheVariants.{Less}
 use Rattle.std.proofs.lemmas.Bool.{false≢true}
 use Rattle.std.proofs.lemmas.List.{length_push}
+use Rattle.hand_dominance.specs.declared.version.Version.TheVariants.{One}
 use Rattle.board_core.specs.Board.{Board}
 use Rattle.sfen_text.specs.Spelling.{sfen_of}
 use Rattle.sfen_text.specs.Laws.{TextsHaveBytes}
@@ -143,14 +144,14 @@ listed_from problem (y ∷ xs) all x (zero, inside, e) = subst (bound_form probl
 listed_from problem (y ∷ xs) all x (suc k, inside, e) = listed_from problem xs all.1 x (k, omega arith, e)
 
 pub listing : (problem : Board) (entries : List BoundEntry) → IsProblem problem → AreGood (bound_form problem) entries
-    → IsListing (bound_form problem) (record { problem = problem; entries = entries })
+    → IsListing (bound_form problem) (record { version = One; problem = problem; entries = entries })
 listing problem entries is good = record { is_problem = is; rising = good.rising; listed = listed_from problem entries good.fit }
 
-pub whole_read : (problem : Board) (digits rest bytes : List ℕ) (b : CertificateView BoundEntry) → IsHead digits rest bytes → b.problem ≡ problem
+pub whole_read : (problem : Board) (digits rest bytes : List ℕ) (b : CertificateView BoundEntry) → IsHead digits rest bytes → b.version ≡ One → b.problem ≡ problem
     → AreGood (bound_form problem) b.entries → length b.entries ≡ number_of digits → length b.entries < 2 ^ 64
     → rest ≡ entries_text (bound_form problem) b.entries ++ end_line → IsBoundOutcome problem bytes (Ok b)
-whole_read problem digits rest bytes b head same good count small text = (
-  record { same = same; good = good; few = small },
+whole_read problem digits rest bytes b head version same good count small text = (
+  record { version = version; same = same; good = good; few = small },
   head.text ∙ (ap (λ (t : List ℕ). first_line digits ++ t) text
       ∙ (ap (λ (d : List ℕ). first_line d ++ (entries_text (bound_form problem) b.entries ++ end_line))
       (sym (ap decimal count ∙ decimal-number_of digits head.is_number (omega arith)))

@@ -2,6 +2,7 @@
 -- line that is wrong. Relations between whole texts and outcomes.
 use Rattle.std.specs.Prelude.{◌≡◌, ◌≢◌, ◌⊎◌, ◌+◌, ◌<◌, ◌≤◌, ◌^◌, ℕ, zero, suc, List, [], ◌∷◌, ◌++◌, length, slice_index, Result, Ok, Err}
 use Rattle.std.specs.Str.Parse.{IsNumeral, digits_value}
+use Rattle.hand_dominance.specs.declared.version.Version.TheVariants.{One}
 use Rattle.board_core.specs.Board.{Board}
 use Rattle.cert_text.specs.Certificate.{CertificateView, IsRising, MayBeListed}
 use Rattle.cert_text.specs.Text.{entries_text, end_line}
@@ -83,9 +84,10 @@ abbrev pub HasFirstFault : Board → List ℕ → ℕ → Type 0
 HasFirstFault problem bytes zero = HasNoHead bytes
 HasFirstFault problem bytes (suc n) = LacksEntry problem (suc n) bytes ⊎ LacksEnd problem (suc n) bytes ⊎ HasMore problem (suc n) bytes
 
--- A bound can be read for a problem: it is the bound's, and the entries may stand in a text and
--- rise. (No list of this program is longer than 2 ^ 64.)
+-- A bound can be read for a problem: it is of version 1, the problem is the bound's, and the
+-- entries may stand in a text and rise. (No list of this program is longer than 2 ^ 64.)
 pub record IsReadable (problem : Board) (b : CertificateView BoundEntry) : Type 0 where
+  pub version : b.version ≡ One
   pub same : b.problem ≡ problem
   pub good : AreGood (bound_form problem) b.entries
   pub few : length b.entries < 2 ^ 64

@@ -21,7 +21,7 @@ pub struct BoundEntry {
 
 /// A bound: entries with a number and a position, in rising order of the bytes of the positions'
 /// SFEN texts. Its problem says whose side is to move in each of them; which positions it bounds,
-/// its entries say alone.
+/// its entries say alone. One that has a text is of version 1 ([`hand_dominance::Version`]).
 pub type Bound = CertificateOf<BoundEntry>;
 
 impl Entry for BoundEntry {

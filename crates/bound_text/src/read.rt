@@ -10,6 +10,7 @@ ghost use Rattle.bound_text.specs.Scan.{IsEntriesOutcome, IsEndOutcome};
 
 use crate::{BadBound, Bound, BoundEnd, BoundEntry};
 use cert_text::{Entry, behind, cut, is_before};
+use hand_dominance::Version;
 use itoa::Buffer;
 use sfen_text::sfen_laws;
 use shogi_rules::Problem;
@@ -128,7 +129,7 @@ fn bound_of(alloc: Global, bytes: &[u8], problem: &Problem) -> Result<Bound, Bou
     // Room for each position's text, in which it is written for the comparison.
     let mut spelled = Vec::new(alloc);
     let entries = entries_of(alloc, rest, problem, digits, &mut spelled)?;
-    Ok(Bound::new(*problem, entries))
+    Ok(Bound::new(Version::One, *problem, entries))
 }
 
 /// The bound whose text it is (version 1, as [`write_bound`](crate::write_bound) writes it), for a

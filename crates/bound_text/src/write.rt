@@ -1,6 +1,7 @@
 // Bounds as texts.
 ghost use Rattle.std.specs.Prelude.{◌≡◌, ◌++◌, IfOk, IsOk, OnOk};
 ghost use Rattle.std.specs.Fmt.{decimal};
+ghost use Rattle.hand_dominance.specs.declared.version.Version.TheVariants.{One};
 ghost use Rattle.bound_text.specs.Text.{first_line, bound_text};
 ghost use Rattle.bound_text.specs.Reading.{IsReadable};
 
@@ -17,9 +18,11 @@ fn append_first_line(out: &mut Vec<u8>, count: usize) -> Result<(), AllocError>
     Ok(())
 }
 
-/// Writes the text of a bound behind what stands there already: see [`write_bound`]. Where memory
-/// is wanted, a part of it may stand there. Errors: want of memory alone.
+/// Writes the text of a bound, which is of version 1, behind what stands there already: see
+/// [`write_bound`]. Where memory is wanted, a part of it may stand there. Errors: want of memory
+/// alone.
 pub fn append_bound(out: &mut Vec<u8>, bound: &Bound) -> Result<(), AllocError>
+    requires { bound.now.version ≡ One }
     ensures text { OnOk result (out.new.items ≡ out.old.items ++ bound_text bound.now) }
     // What is written is read again: see `again` of `read_bound`.
     ensures readable { IsOk result → IsReadable bound.now.problem bound.now }
@@ -38,6 +41,7 @@ pub fn append_bound(out: &mut Vec<u8>, bound: &Bound) -> Result<(), AllocError>
 /// decimal digits without a leading zero, and positions are written as [`sfen_text::write_sfen`]
 /// does. Errors: want of memory alone.
 pub fn write_bound(alloc: Global, bound: &Bound) -> Result<Vec<u8>, AllocError>
+    requires { bound.now.version ≡ One }
     ensures text { IfOk result (λ text. text.items ≡ bound_text bound.now) }
     // What is written is read again: see `again` of `read_bound`.
     ensures readable { IsOk result → IsReadable bound.now.problem bound.now }

@@ -1,6 +1,6 @@
 -- Places in lists.
-use Rattle.std.proofs.Common.{◌≡◌, ◌<◌, ◌+◌, ◌++◌, inr, ℕ, List, [], ◌∷◌, get_or, length, take, Contains, arith, ap, sym, refl, ◌∙◌, true, false, length-take, get_or-take}
-use Rattle.std.specs.Prelude.{Some, None, Option, is_some, slice_get}
+use Rattle.std.proofs.Common.{◌≡◌, ◌<◌, ◌+◌, ◌++◌, inr, ℕ, List, [], ◌∷◌, get_or, length, take, Contains, arith, ap, sym, refl, ◌∙◌, length-take, get_or-take}
+use Rattle.std.specs.Prelude.{Some, slice_get}
 use Rattle.std.proofs.lemmas.List.{take_more}
 use Rattle.std.proofs.lemmas.Option.{get_or_from_slice_get, slice_get_within, slice_get_read}
 use Rattle.list_laws.proofs.Standing.{at_place}
@@ -8,7 +8,7 @@ use Rattle.board_core.specs.declared.moves.Move.{Move}
 use Rattle.board_core.specs.Board.{Board}
 use Rattle.board_core.specs.Order.{order_of, Lists, PlacesInOrder}
 use Rattle.mate_facts.specs.Entries.{AreApart}
-use Rattle.position_places.specs.Places.{IsWith, IsPlace}
+use Rattle.position_places.specs.Places.{IsWith}
 
 -- in an exact list, a move that comes before another in the order stands before it
 pub before_in : PlacesInOrder → (P : Move → Type 0) (moves : List Move) → Lists P moves → (a : Move) (c : Contains moves a)
@@ -35,13 +35,3 @@ with_next positions i p apart at =
           omega arith),
       take_more positions i p inside ∙ ap (λ (x : Board). take i positions ++ x ∷ []) (get_or_from_slice_get positions i p p at),
     )
-
--- a position for which a place is found is listed
-pub some_listed : (positions : List Board) (p : Board) (o : Option ℕ) → IsPlace positions p o → is_some o ≡ true → Contains positions p
-some_listed positions p None place some = absurd (cc)
-some_listed positions p (Some i) place some = (i, slice_get_within positions i p place, get_or_from_slice_get positions i p p place)
-
--- and one for which none is found isn't
-pub none_listed : (positions : List Board) (p : Board) (o : Option ℕ) → IsPlace positions p o → is_some o ≡ false → ¬ Contains positions p
-none_listed positions p None place some = place
-none_listed positions p (Some i) place some = absurd (cc)

@@ -1,5 +1,5 @@
 -- A certificate has one verdict for a problem.
-use Rattle.std.proofs.Common.{◌≡◌, ◌<◌, ◌⊎◌, inl, inr, ℕ, zero, suc, List, Contains, arith, ap, sym, refl, ◌∙◌, subst, ⊎_elim}
+use Rattle.std.proofs.Common.{◌≡◌, ◌<◌, ◌⊎◌, inl, inr, ℕ, zero, suc, List, arith, ap, sym, refl, ◌∙◌, subst, ⊎_elim}
 use Rattle.std.specs.Prelude.{Some, None, Option, slice_get, IsSomeAnd}
 use Rattle.std.proofs.lemmas.Bool.{cases_order}
 use Rattle.bit_boards.specs.declared.piece.Side.{Side}
@@ -7,8 +7,9 @@ use Rattle.board_core.specs.declared.moves.Move.{Move}
 use Rattle.board_core.specs.Board.{Board}
 use Rattle.board_core.specs.Order.{OrdersApart}
 use Rattle.mate_facts.specs.declared.entry.MateEntry.{MateEntry}
-use Rattle.mate_facts.specs.Entries.{positions_of}
 use Rattle.mate_def.specs.Mate.{after_both}
+use Rattle.hand_dominance.specs.declared.version.Version.{Version}
+use Rattle.hand_dominance.specs.BorneOut.{CoversListed}
 use Rattle.cert_text.specs.declared.certificate.Certificate.{Certificate}
 use Rattle.cert_text.specs.declared.certificate.Certificate.TheVariants.{Mate, Escape}
 use Rattle.cert_check.specs.Reasons.{MateReason, EscapeReason, RootReason, EntryReason, HasReason, IsFirstAgainst, IsVerdict, reason_order}
@@ -20,45 +21,46 @@ use Rattle.cert_check.proofs.Verdicts.{valid_stands}
 
 -- 1. Two reasons against one entry that stand at one place in the order are one.
 
--- one evasion leads outside the list or into it
-one_evasion : (entries : List MateEntry) (entry : MateEntry) (a b : Move) → a ≡ b
-    → ¬ Contains (positions_of entries) (after_both entry.at entry.by a) → Contains (positions_of entries) (after_both entry.at entry.by b) → ⊥
-one_evasion entries entry a b e outside inside = outside (subst (λ (m : Move). Contains (positions_of entries) (after_both entry.at entry.by m)) (sym e) inside)
+-- after one evasion no listed position is covered, or one is
+one_evasion : (version : Version) (entries : List MateEntry) (attacker : Side) (entry : MateEntry) (a b : Move) → a ≡ b
+    → ¬ CoversListed version entries attacker (after_both entry.at entry.by a) → CoversListed version entries attacker (after_both entry.at entry.by b) → ⊥
+one_evasion version entries attacker entry a b e outside inside =
+    outside (subst (λ (m : Move). CoversListed version entries attacker (after_both entry.at entry.by m)) (sym e) inside)
 
-mate_once : OrdersApart → (entries : List MateEntry) (attacker : Side) (entry : MateEntry) (x y : Why) → MateReason entries attacker entry x
-    → MateReason entries attacker entry y → reason_order x ≡ reason_order y → x ≡ y
-mate_once apart entries attacker entry RootMissing y r s e = absurd r
-mate_once apart entries attacker entry (CheckUnanswered m) y r s e = absurd r
-mate_once apart entries attacker entry (NotACheck m) RootMissing r s e = absurd s
-mate_once apart entries attacker entry (NotACheck m) (CheckUnanswered n) r s e = absurd s
-mate_once apart entries attacker entry (NotACheck m) (NotACheck n) r s e = ap NotACheck (r.0 ∙ sym s.0)
-mate_once apart entries attacker entry (NotACheck m) (EvasionOutside n) r s e = absurd (omega (arith, e))
-mate_once apart entries attacker entry (NotACheck m) (RankNotLower n) r s e = absurd (omega (arith, e))
-mate_once apart entries attacker entry (EvasionOutside m) RootMissing r s e = absurd s
-mate_once apart entries attacker entry (EvasionOutside m) (CheckUnanswered n) r s e = absurd s
-mate_once apart entries attacker entry (EvasionOutside m) (NotACheck n) r s e = absurd (omega (arith, e))
-mate_once apart entries attacker entry (EvasionOutside m) (EvasionOutside n) r s e = ap EvasionOutside (apart m n (omega (arith, e)))
-mate_once apart entries attacker entry (EvasionOutside m) (RankNotLower n) r s e =
-    absurd (one_evasion entries entry m n (apart m n (omega (arith, e))) r.1 s.1.listed)
-mate_once apart entries attacker entry (RankNotLower m) RootMissing r s e = absurd s
-mate_once apart entries attacker entry (RankNotLower m) (CheckUnanswered n) r s e = absurd s
-mate_once apart entries attacker entry (RankNotLower m) (NotACheck n) r s e = absurd (omega (arith, e))
-mate_once apart entries attacker entry (RankNotLower m) (EvasionOutside n) r s e =
-    absurd (one_evasion entries entry n m (sym (apart m n (omega (arith, e)))) s.1 r.1.listed)
-mate_once apart entries attacker entry (RankNotLower m) (RankNotLower n) r s e = ap RankNotLower (apart m n (omega (arith, e)))
+mate_once : OrdersApart → (version : Version) (entries : List MateEntry) (attacker : Side) (entry : MateEntry) (x y : Why) → MateReason version entries attacker entry x
+    → MateReason version entries attacker entry y → reason_order x ≡ reason_order y → x ≡ y
+mate_once apart version entries attacker entry RootMissing y r s e = absurd r
+mate_once apart version entries attacker entry (CheckUnanswered m) y r s e = absurd r
+mate_once apart version entries attacker entry (NotACheck m) RootMissing r s e = absurd s
+mate_once apart version entries attacker entry (NotACheck m) (CheckUnanswered n) r s e = absurd s
+mate_once apart version entries attacker entry (NotACheck m) (NotACheck n) r s e = ap NotACheck (r.0 ∙ sym s.0)
+mate_once apart version entries attacker entry (NotACheck m) (EvasionOutside n) r s e = absurd (omega (arith, e))
+mate_once apart version entries attacker entry (NotACheck m) (RankNotLower n) r s e = absurd (omega (arith, e))
+mate_once apart version entries attacker entry (EvasionOutside m) RootMissing r s e = absurd s
+mate_once apart version entries attacker entry (EvasionOutside m) (CheckUnanswered n) r s e = absurd s
+mate_once apart version entries attacker entry (EvasionOutside m) (NotACheck n) r s e = absurd (omega (arith, e))
+mate_once apart version entries attacker entry (EvasionOutside m) (EvasionOutside n) r s e = ap EvasionOutside (apart m n (omega (arith, e)))
+mate_once apart version entries attacker entry (EvasionOutside m) (RankNotLower n) r s e =
+    absurd (one_evasion version entries attacker entry m n (apart m n (omega (arith, e))) r.1 s.1.listed)
+mate_once apart version entries attacker entry (RankNotLower m) RootMissing r s e = absurd s
+mate_once apart version entries attacker entry (RankNotLower m) (CheckUnanswered n) r s e = absurd s
+mate_once apart version entries attacker entry (RankNotLower m) (NotACheck n) r s e = absurd (omega (arith, e))
+mate_once apart version entries attacker entry (RankNotLower m) (EvasionOutside n) r s e =
+    absurd (one_evasion version entries attacker entry n m (sym (apart m n (omega (arith, e)))) s.1 r.1.listed)
+mate_once apart version entries attacker entry (RankNotLower m) (RankNotLower n) r s e = ap RankNotLower (apart m n (omega (arith, e)))
 
 -- a reason against an escape's entry names a check
-escape_once : OrdersApart → (positions : List Board) (attacker : Side) (b : Board) (x y : Why) → EscapeReason positions attacker b x
-    → EscapeReason positions attacker b y → reason_order x ≡ reason_order y → x ≡ y
-escape_once apart positions attacker b RootMissing y r s e = absurd r
-escape_once apart positions attacker b (NotACheck m) y r s e = absurd r
-escape_once apart positions attacker b (EvasionOutside m) y r s e = absurd r
-escape_once apart positions attacker b (RankNotLower m) y r s e = absurd r
-escape_once apart positions attacker b (CheckUnanswered m) RootMissing r s e = absurd s
-escape_once apart positions attacker b (CheckUnanswered m) (NotACheck n) r s e = absurd s
-escape_once apart positions attacker b (CheckUnanswered m) (EvasionOutside n) r s e = absurd s
-escape_once apart positions attacker b (CheckUnanswered m) (RankNotLower n) r s e = absurd s
-escape_once apart positions attacker b (CheckUnanswered m) (CheckUnanswered n) r s e = ap CheckUnanswered (apart m n (omega (arith, e)))
+escape_once : OrdersApart → (version : Version) (positions : List Board) (attacker : Side) (b : Board) (x y : Why) → EscapeReason version positions attacker b x
+    → EscapeReason version positions attacker b y → reason_order x ≡ reason_order y → x ≡ y
+escape_once apart version positions attacker b RootMissing y r s e = absurd r
+escape_once apart version positions attacker b (NotACheck m) y r s e = absurd r
+escape_once apart version positions attacker b (EvasionOutside m) y r s e = absurd r
+escape_once apart version positions attacker b (RankNotLower m) y r s e = absurd r
+escape_once apart version positions attacker b (CheckUnanswered m) RootMissing r s e = absurd s
+escape_once apart version positions attacker b (CheckUnanswered m) (NotACheck n) r s e = absurd s
+escape_once apart version positions attacker b (CheckUnanswered m) (EvasionOutside n) r s e = absurd s
+escape_once apart version positions attacker b (CheckUnanswered m) (RankNotLower n) r s e = absurd s
+escape_once apart version positions attacker b (CheckUnanswered m) (CheckUnanswered n) r s e = ap CheckUnanswered (apart m n (omega (arith, e)))
 
 both_at : {X G : Type 0} (o : Option X) (P Q : X → Type 0) → ((x : X) → P x → Q x → G) → IsSomeAnd o P → IsSomeAnd o Q → G
 both_at None P Q from p q = absurd p
@@ -67,11 +69,11 @@ both_at (Some x) P Q from p q = from x p q
 entry_once : OrdersApart → (c : Certificate) (attacker : Side) (place : ℕ) (x y : Why) → EntryReason c attacker place x → EntryReason c attacker place y
     → reason_order x ≡ reason_order y → x ≡ y
 entry_once apart (Mate c) attacker place x y r s e =
-    both_at (slice_get c.entries place) (λ entry. MateReason c.entries attacker entry x) (λ entry. MateReason c.entries attacker entry y)
-    (λ entry p q. mate_once apart c.entries attacker entry x y p q e) r s
+    both_at (slice_get c.entries place) (λ entry. MateReason c.version c.entries attacker entry x) (λ entry. MateReason c.version c.entries attacker entry y)
+    (λ entry p q. mate_once apart c.version c.entries attacker entry x y p q e) r s
 entry_once apart (Escape c) attacker place x y r s e =
-    both_at (slice_get c.entries place) (λ b. EscapeReason c.entries attacker b x) (λ b. EscapeReason c.entries attacker b y)
-    (λ b p q. escape_once apart c.entries attacker b x y p q e) r s
+    both_at (slice_get c.entries place) (λ b. EscapeReason c.version c.entries attacker b x) (λ b. EscapeReason c.version c.entries attacker b y)
+    (λ b p q. escape_once apart c.version c.entries attacker b x y p q e) r s
 
 root_is : (c : Certificate) (p : Board) (x : Why) → RootReason c p x → x ≡ RootMissing
 root_is c p RootMissing r = refl

@@ -2,3 +2,4 @@
 pub mod Hearing
 pub mod Valid
 pub mod Reasons
+pub mod Upgraded

@@ -1,5 +1,5 @@
 -- Why a certificate is refused: what may be wrong with it, and which of several reasons is named.
-use Rattle.std.specs.Prelude.{◌≡◌, ◌<◌, ◌+◌, ◌⊎◌, ℕ, zero, suc, List, Option, Some, None, Contains, slice_get, IsSomeAnd}
+use Rattle.std.specs.Prelude.{◌≡◌, ◌<◌, ◌+◌, ◌⊎◌, ℕ, zero, suc, List, Option, Some, None, slice_get, IsSomeAnd}
 use Rattle.bit_boards.specs.declared.piece.Side.{Side}
 use Rattle.board_core.specs.declared.moves.Move.{Move}
 use Rattle.mate_facts.specs.declared.entry.MateEntry.{MateEntry}
@@ -8,64 +8,71 @@ use Rattle.board_core.specs.Order.{order_of}
 use Rattle.shogi_rules.specs.Rules.{after}
 use Rattle.shogi_rules.specs.Tsume.{IsCheck, IsEvasion}
 use Rattle.mate_def.specs.Mate.{after_both, HasEvasionTo}
+use Rattle.hand_dominance.specs.declared.version.Version.{Version}
+use Rattle.hand_dominance.specs.BorneOut.{CoversListed, CoversLower, IsBorneOut, IsCovered, IsHeld}
 use Rattle.cert_text.specs.declared.certificate.Certificate.{Certificate}
 use Rattle.cert_text.specs.declared.certificate.Certificate.TheVariants.{Mate, Escape}
-use Rattle.mate_facts.specs.Entries.{positions_of, IsListedBelow, IsBorneOut}
+use Rattle.cert_text.specs.Kinds.{problem_of}
 use Rattle.cert_check.specs.Valid.{IsValid}
-use Rattle.cert_text.specs.Kinds.{problem_of, positions_in}
 use Rattle.cert_check.specs.declared.verdict.Why.{Why}
 use Rattle.cert_check.specs.declared.verdict.Why.TheVariants.{RootMissing, NotACheck, EvasionOutside, RankNotLower, CheckUnanswered}
 use Rattle.cert_check.specs.declared.verdict.Verdict.{Verdict}
 use Rattle.cert_check.specs.declared.verdict.Verdict.TheVariants.{Accepted, Refused}
 
--- The position isn't listed.
-abbrev pub IsOutside : List MateEntry → Board → Type 0
-IsOutside entries position = ¬ Contains (positions_of entries) position
+-- The position covers no listed one.
+abbrev pub IsOutside : Version → List MateEntry → Side → Board → Type 0
+IsOutside version entries attacker position = ¬ CoversListed version entries attacker position
 
--- The position is listed, and not with a rank lower than this one.
-pub record IsNotLower (entries : List MateEntry) (rank : ℕ) (position : Board) : Type 0 where
-  pub listed : Contains (positions_of entries) position
-  pub not_lower : ¬ IsListedBelow entries rank position
+-- The position covers a listed one, but none whose rank is lower than this one.
+pub record IsNotLower (version : Version) (entries : List MateEntry) (attacker : Side) (rank : ℕ) (position : Board) : Type 0 where
+  pub listed : CoversListed version entries attacker position
+  pub not_lower : ¬ CoversLower version entries attacker rank position
 
 -- A reason against an entry of a mate. NotACheck: its move, this one, isn't a check of its
--- position. EvasionOutside: the position after this evasion isn't listed. RankNotLower: it is
--- listed, but not with a lower rank.
-abbrev pub MateReason : List MateEntry → Side → MateEntry → Why → Type 0
-MateReason entries attacker entry RootMissing = ⊥
-MateReason entries attacker entry (NotACheck move) = (move ≡ entry.by) × (¬ IsCheck attacker entry.at entry.by)
-MateReason entries attacker entry (EvasionOutside evasion) =
-    IsEvasion attacker (after entry.at entry.by) evasion × IsOutside entries (after_both entry.at entry.by evasion)
-MateReason entries attacker entry (RankNotLower evasion) =
-    IsEvasion attacker (after entry.at entry.by) evasion × IsNotLower entries entry.rank.number (after_both entry.at entry.by evasion)
-MateReason entries attacker entry (CheckUnanswered check) = ⊥
+-- position. EvasionOutside: the position after this evasion covers no listed one. RankNotLower: it
+-- covers one, but none of lower rank.
+abbrev pub MateReason : Version → List MateEntry → Side → MateEntry → Why → Type 0
+MateReason version entries attacker entry RootMissing = ⊥
+MateReason version entries attacker entry (NotACheck move) = (move ≡ entry.by) × (¬ IsCheck attacker entry.at entry.by)
+MateReason version entries attacker entry (EvasionOutside evasion) =
+    IsEvasion attacker (after entry.at entry.by) evasion × IsOutside version entries attacker (after_both entry.at entry.by evasion)
+MateReason version entries attacker entry (RankNotLower evasion) =
+    IsEvasion attacker (after entry.at entry.by) evasion
+    × IsNotLower version entries attacker entry.rank.number (after_both entry.at entry.by evasion)
+MateReason version entries attacker entry (CheckUnanswered check) = ⊥
 
 -- The judgement on an evasion from an entry of a rank, by the position that it leads to: nothing
--- where that is listed with a lower rank, else what is wrong with it.
-abbrev pub IsEvasionJudged : List MateEntry → ℕ → Board → Move → Option Why → Type 0
-IsEvasionJudged entries rank position evasion None = IsListedBelow entries rank position
-IsEvasionJudged entries rank position evasion (Some RootMissing) = ⊥
-IsEvasionJudged entries rank position evasion (Some (NotACheck move)) = ⊥
-IsEvasionJudged entries rank position evasion (Some (EvasionOutside move)) = (move ≡ evasion) × IsOutside entries position
-IsEvasionJudged entries rank position evasion (Some (RankNotLower move)) = (move ≡ evasion) × IsNotLower entries rank position
-IsEvasionJudged entries rank position evasion (Some (CheckUnanswered move)) = ⊥
-
--- Each check of the position has an evasion that leads to one of the positions.
-abbrev pub IsHeld : List Board → Side → Board → Type 0
-IsHeld positions attacker b = (check : Move) → IsCheck attacker b check → HasEvasionTo attacker (Contains positions) b check
+-- where that covers a listed one of lower rank, else what is wrong with it.
+abbrev pub IsEvasionJudged : Version → List MateEntry → Side → ℕ → Board → Move → Option Why → Type 0
+IsEvasionJudged version entries attacker rank position evasion None = CoversLower version entries attacker rank position
+IsEvasionJudged version entries attacker rank position evasion (Some RootMissing) = ⊥
+IsEvasionJudged version entries attacker rank position evasion (Some (NotACheck move)) = ⊥
+IsEvasionJudged version entries attacker rank position evasion (Some (EvasionOutside move)) =
+    (move ≡ evasion) × IsOutside version entries attacker position
+IsEvasionJudged version entries attacker rank position evasion (Some (RankNotLower move)) =
+    (move ≡ evasion) × IsNotLower version entries attacker rank position
+IsEvasionJudged version entries attacker rank position evasion (Some (CheckUnanswered move)) = ⊥
 
 -- A reason against an entry of an escape. CheckUnanswered: no evasion to this check of its position
--- leads into the list.
-abbrev pub EscapeReason : List Board → Side → Board → Why → Type 0
-EscapeReason positions attacker b RootMissing = ⊥
-EscapeReason positions attacker b (NotACheck move) = ⊥
-EscapeReason positions attacker b (EvasionOutside evasion) = ⊥
-EscapeReason positions attacker b (RankNotLower evasion) = ⊥
-EscapeReason positions attacker b (CheckUnanswered check) = IsCheck attacker b check × (¬ HasEvasionTo attacker (Contains positions) b check)
+-- leads to a position that a listed one covers.
+abbrev pub EscapeReason : Version → List Board → Side → Board → Why → Type 0
+EscapeReason version positions attacker b RootMissing = ⊥
+EscapeReason version positions attacker b (NotACheck move) = ⊥
+EscapeReason version positions attacker b (EvasionOutside evasion) = ⊥
+EscapeReason version positions attacker b (RankNotLower evasion) = ⊥
+EscapeReason version positions attacker b (CheckUnanswered check) =
+    IsCheck attacker b check × (¬ HasEvasionTo attacker (IsCovered version positions attacker) b check)
 
--- A reason against a certificate as a whole. RootMissing: it is about another position, or doesn't
--- list the position.
+-- A listed position of a certificate stands for the position: the position covers a listed one of a
+-- mate, or a listed one of an escape covers it.
+abbrev pub StandsFor : Certificate → Board → Type 0
+StandsFor (Mate c) p = CoversListed c.version c.entries p.side p
+StandsFor (Escape c) p = IsCovered c.version c.entries p.side p
+
+-- A reason against a certificate as a whole. RootMissing: it is about another position, or no
+-- listed one stands for the position.
 abbrev pub RootReason : Certificate → Board → Why → Type 0
-RootReason c p RootMissing = (¬ (problem_of c ≡ p)) ⊎ (¬ Contains (positions_in c) p)
+RootReason c p RootMissing = (¬ (problem_of c ≡ p)) ⊎ (¬ StandsFor c p)
 RootReason c p (NotACheck move) = ⊥
 RootReason c p (EvasionOutside evasion) = ⊥
 RootReason c p (RankNotLower evasion) = ⊥
@@ -73,15 +80,16 @@ RootReason c p (CheckUnanswered check) = ⊥
 
 -- A reason against an entry, counted from 0.
 abbrev pub EntryReason : Certificate → Side → ℕ → Why → Type 0
-EntryReason (Mate c) attacker place why = IsSomeAnd (slice_get c.entries place) (λ entry. MateReason c.entries attacker entry why)
-EntryReason (Escape c) attacker place why = IsSomeAnd (slice_get c.entries place) (λ b. EscapeReason c.entries attacker b why)
+EntryReason (Mate c) attacker place why =
+    IsSomeAnd (slice_get c.entries place) (λ entry. MateReason c.version c.entries attacker entry why)
+EntryReason (Escape c) attacker place why =
+    IsSomeAnd (slice_get c.entries place) (λ b. EscapeReason c.version c.entries attacker b why)
 
--- An entry, counted from 0, holds what its kind has to: it is borne out, or each check of it has an
--- evasion into the list. (That at an escape's positions the attacker is to move is kept by every
--- certificate.)
+-- An entry, counted from 0, holds what its kind has to: it is borne out, or it is held. (That at an
+-- escape's positions the attacker is to move is kept by every certificate.)
 abbrev pub EntryHolds : Certificate → Side → ℕ → Type 0
-EntryHolds (Mate c) attacker place = IsSomeAnd (slice_get c.entries place) (λ entry. IsBorneOut c.entries attacker entry)
-EntryHolds (Escape c) attacker place = IsSomeAnd (slice_get c.entries place) (λ b. IsHeld c.entries attacker b)
+EntryHolds (Mate c) attacker place = IsSomeAnd (slice_get c.entries place) (λ entry. IsBorneOut c.version c.entries attacker entry)
+EntryHolds (Escape c) attacker place = IsSomeAnd (slice_get c.entries place) (λ b. IsHeld c.version c.entries attacker b)
 
 -- A reason against a certificate at a number: 0 for the certificate as a whole, from 1 on for its
 -- entries.

@@ -1,17 +1,20 @@
 // The hearing of a certificate: what is found among its entries, in one stretch or in several.
-ghost use Rattle.std.specs.Prelude.{◌≡◌, ◌<◌, ◌≤◌, ◌↔◌, length, IfOk, IfSome, IsTrue, Contains, false};
-ghost use Rattle.position_places.specs.Places.{ArePlacesOf};
-ghost use Rattle.cert_text.specs.Kinds.{problem_of, positions_in, IsKeptBy};
-ghost use Rattle.cert_check.specs.Hearing.{IsFoundIn};
-ghost use Rattle.cert_check.specs.Reasons.{RootReason, EntryReason, EntryHolds, IsFirstReason, IsVerdict};
-ghost use Rattle.cert_check.specs.declared.verdict.Why.TheVariants.{RootMissing};
+ghost use Rattle.std.specs.Prelude.{◌≡◌, ◌<◌, ◌≤◌, ◌↔◌, length, IfOk, IfSome, IsTrue};
+ghost use Rattle.board_core.specs.Kept.{IsKept};
+ghost use Rattle.hand_dominance.specs.BorneOut.{AreKept};
+ghost use Rattle.dominance_places.specs.Covering.{AreCoverPlacesOf};
+ghost use Rattle.dominance_places.specs.Covering as covering;
+ghost use Rattle.cert_text.specs.Kinds.{version_of, problem_of, positions_in, IsKeptBy};
+ghost use Rattle.cert_check.specs.Valid.{Shows};
+ghost use Rattle.cert_check.specs.Hearing.{IsFoundIn, IsRootTold};
+ghost use Rattle.cert_check.specs.Reasons.{EntryReason, EntryHolds, IsFirstReason, IsVerdict, StandsFor};
+ghost use Rattle.cert_check.specs.declared.verdict.Verdict.TheVariants.{Accepted};
 
-use crate::places::places_of;
-use crate::reasons::{escape_reason, mate_reason};
-use crate::verdict::{Verdict, Why};
+use crate::places::cover_places_of;
+use crate::reasons::{Lists, escape_reason, mate_reason};
+use crate::verdict::{Verdict, Why, valid_is_accepted};
 use cert_text::Certificate;
-use move_lists::Moves;
-use position_places::Places;
+use dominance_places::CoverPlaces;
 use shogi_rules::Problem;
 use std::alloc::{AllocError, Global};
 use std::marker::Model;
@@ -33,35 +36,31 @@ pub struct Objection {
 pub struct Hearing<'c> {
     problem: &'c Problem,
     certificate: &'c Certificate,
-    places: Places,
+    places: CoverPlaces,
+    // Whether the certificate is about the problem, and a listed position stands for its.
+    has_root: bool,
 }
 
 impl<'c> Model for Hearing<'c> {
-    ghost use Rattle.position_places.specs.Places.{ArePlacesOf};
-    ghost use Rattle.cert_text.specs.Kinds.{positions_in};
-    ghost use Rattle.cert_check.specs.Hearing.{Case};
+    ghost use Rattle.cert_check.specs.Hearing.{Case, IsOpened};
 
     ghost Value = { Case };
 
     ghost view = { λ h. record { certificate = h.certificate.now; problem = h.problem.now.position } };
 
-    ghost invariant = { λ h. ArePlacesOf h.places (positions_in h.certificate.now) };
-}
-
-// Lists that are filled again for each entry.
-#[derive(Drop)]
-struct Lists {
-    checks: Moves,
-    evasions: Moves,
+    ghost invariant = { λ h. IsOpened h.places h.has_root h.certificate.now h.problem.now.position };
 }
 
 // Where each position of the certificate stands.
-fn places_in(alloc: Global, certificate: &Certificate) -> Result<Places, AllocError>
-    ensures places { IfOk result (λ places. ArePlacesOf places (positions_in certificate.now)) }
+fn places_in(alloc: Global, certificate: &Certificate) -> Result<CoverPlaces, AllocError>
+    ensures version { IfOk result
+        (λ places. covering.version_of places ≡ version_of certificate.now) }
+    ensures places { IfOk result
+        (λ places. AreCoverPlacesOf places (positions_in certificate.now)) }
 {
     match certificate {
-        Certificate::Mate(mate) => places_of(alloc, mate),
-        Certificate::Escape(escape) => places_of(alloc, escape),
+        Certificate::Mate(mate) => cover_places_of(alloc, mate),
+        Certificate::Escape(escape) => cover_places_of(alloc, escape),
     }
 }
 
@@ -75,12 +74,13 @@ fn is_about(certificate: &Certificate, problem: &Problem) -> bool
 fn reason_at(
     problem: &Problem,
     certificate: &Certificate,
-    places: &Places,
+    places: &CoverPlaces,
     place: usize,
     lists: &mut Lists,
 ) -> Result<Option<Why>, AllocError>
     requires place { place < length (positions_in certificate.now) }
-    requires places { ArePlacesOf places.now (positions_in certificate.now) }
+    requires version { covering.version_of places.now ≡ version_of certificate.now }
+    requires places { AreCoverPlacesOf places.now (positions_in certificate.now) }
     ensures { IfOk result (IsFirstReason
         (EntryHolds certificate.now problem.now.position.side place)
         (EntryReason certificate.now problem.now.position.side place)) }
@@ -88,38 +88,55 @@ fn reason_at(
     match certificate {
         Certificate::Mate(mate) => {
             let entries = mate.entries();
-            mate_reason(
-                problem,
-                entries,
-                places,
-                &entries[place],
-                &mut lists.evasions,
-            )
+            mate_reason(problem, entries, places, &entries[place], lists)
         }
         Certificate::Escape(escape) => {
-            let position = &escape.entries()[place];
-            escape_reason(
-                problem,
-                places,
-                position,
-                &mut lists.checks,
-                &mut lists.evasions,
-            )
+            let positions = escape.entries();
+            escape_reason(problem, positions, places, &positions[place], lists)
         }
     }
 }
 
-// Whether the certificate is about the problem and lists its position.
-fn lists_root(certificate: &Certificate, problem: &Problem, places: &Places) -> bool
-    requires { ArePlacesOf places.now (positions_in certificate.now) }
-    ensures yes { IsTrue result → (problem_of certificate.now ≡ problem.now.position)
-        × Contains (positions_in certificate.now) problem.now.position }
-    ensures no { result ≡ false → RootReason certificate.now problem.now.position RootMissing }
+// Whether a listed position of the certificate stands for the problem's.
+fn stands_for(
+    alloc: Global,
+    certificate: &Certificate,
+    problem: &Problem,
+    places: &CoverPlaces,
+) -> Result<bool, AllocError>
+    requires version { covering.version_of places.now ≡ version_of certificate.now }
+    requires places { AreCoverPlacesOf places.now (positions_in certificate.now) }
+    ensures { IfOk result
+        (λ found. IsTrue found ↔ StandsFor certificate.now problem.now.position) }
+{
+    let mut room = Vec::new(alloc);
+    let (attacker, position) = (problem.attacker(), &problem.position);
+    match certificate {
+        Certificate::Mate(mate) => {
+            let found = places.least_covered(mate.entries(), attacker, position, &mut room)?;
+            Ok(found.is_some())
+        }
+        Certificate::Escape(escape) => {
+            places.is_covered(escape.entries(), attacker, position, &mut room)
+        }
+    }
+}
+
+// Whether the certificate is about the problem, and a listed position stands for its.
+fn has_root(
+    alloc: Global,
+    certificate: &Certificate,
+    problem: &Problem,
+    places: &CoverPlaces,
+) -> Result<bool, AllocError>
+    requires version { covering.version_of places.now ≡ version_of certificate.now }
+    requires places { AreCoverPlacesOf places.now (positions_in certificate.now) }
+    ensures { IfOk result (IsRootTold certificate.now problem.now.position) }
 {
     if !is_about(certificate, problem) {
-        return false;
+        return Ok(false);
     }
-    places.holds(&problem.position)
+    stands_for(alloc, certificate, problem, places)
 }
 
 impl<'c> Hearing<'c> {
@@ -134,10 +151,12 @@ impl<'c> Hearing<'c> {
             ≡ record { certificate = certificate.now; problem = problem.now.position }) }
     {
         let places = places_in(alloc, certificate)?;
+        let has_root = has_root(alloc, certificate, problem, &places)?;
         Ok(Hearing {
             problem,
             certificate,
             places,
+            has_root,
         })
     }
 
@@ -148,21 +167,22 @@ impl<'c> Hearing<'c> {
         self.certificate.count()
     }
 
-    // What is found where the certificate is about another problem, or doesn't list its position.
-    fn has_root(&self) -> bool
-        ensures yes { IsTrue result → (problem_of self.now.certificate ≡ self.now.problem)
-            × Contains (positions_in self.now.certificate) self.now.problem }
-        ensures no { result ≡ false → RootReason self.now.certificate self.now.problem RootMissing }
+    // What is found of the certificate as a whole.
+    fn root(&self) -> bool
+        ensures { IsRootTold self.now.certificate self.now.problem result }
     {
-        lists_root(self.certificate, self.problem, &self.places)
+        self.has_root
     }
 
     /// The verdict before any entry is heard, where there is one: the certificate is about another
-    /// problem, or doesn't list its position. Takes no memory.
+    /// problem, or none of its positions stands for the problem's. Takes no memory.
     pub fn root_verdict(&self) -> Option<Verdict>
-        ensures { IfSome result (IsVerdict self.now.certificate self.now.problem) }
+        ensures verdict { IfSome result (IsVerdict self.now.certificate self.now.problem) }
+        // It isn't accepted.
+        ensures shows { IfSome result (λ verdict. verdict ≡ Accepted
+            → Shows self.now.certificate self.now.problem) }
     {
-        if self.has_root() {
+        if self.root() {
             return None;
         }
         Some(Verdict::ROOT_MISSING)
@@ -179,10 +199,7 @@ impl<'c> Hearing<'c> {
         requires { to ≤ length (positions_in self.now.certificate) }
         ensures { IfOk result (IsFoundIn self.now.certificate self.now.problem.side from to) }
     {
-        let mut lists = Lists {
-            checks: Moves::new(alloc),
-            evasions: Moves::new(alloc),
-        };
+        let mut lists = Lists::new(alloc);
         for place in from..to {
             if let Some(why) = reason_at(
                 self.problem,
@@ -197,16 +214,29 @@ impl<'c> Hearing<'c> {
         Ok(None)
     }
 
+    // What the positions of the certificate and the problem's keep.
+    fn laws(&self)
+        ensures positions { AreKept (positions_in self.now.certificate) }
+        ensures problem { IsKept self.now.problem }
+        ensures kept { IsKeptBy self.now.certificate }
+    {
+        self.certificate.laws();
+        self.problem.position.laws();
+    }
+
     /// The verdict, from the first objection among all entries. Takes no memory.
     pub fn verdict(&self, first: Option<Objection>) -> Verdict
         requires { IsFoundIn self.now.certificate self.now.problem.side
             0 (length (positions_in self.now.certificate)) first }
-        ensures { IsVerdict self.now.certificate self.now.problem result }
+        ensures verdict { IsVerdict self.now.certificate self.now.problem result }
+        // What is accepted as a mate is one, and what is accepted as an escape is no mate.
+        ensures shows { result ≡ Accepted → Shows self.now.certificate self.now.problem }
     {
-        // What the certificate keeps, and that its entries can be counted.
-        self.certificate.laws();
+        // What the certificate keeps, that its entries can be counted, and what validity is worth.
+        self.laws();
+        valid_is_accepted();
         let _count = self.count();
-        if !self.has_root() {
+        if !self.root() {
             return Verdict::ROOT_MISSING;
         }
         match first {

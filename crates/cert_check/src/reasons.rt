@@ -1,42 +1,61 @@
 // The reasons against one entry.
-ghost use Rattle.std.specs.Prelude.{◌≡◌, ◌<◌, ◌↔◌, List, length, IsTrue, IfOk, Contains};
+ghost use Rattle.std.specs.Prelude.{◌≡◌, ◌<◌, ◌↔◌, length, IsTrue, IfOk, IfSome};
+ghost use Rattle.bit_boards.specs.declared.piece.Side.{Side};
 ghost use Rattle.board_core.specs.Board.{Board};
-ghost use Rattle.board_core.specs.Kept.{IsKept};
-ghost use Rattle.board_core.specs.Key.{key_of};
-ghost use Rattle.shogi_rules.specs.Rules.{IsQuiet, after};
+ghost use Rattle.shogi_rules.specs.Rules.{IsQuiet};
 ghost use Rattle.shogi_rules.specs.Tsume.{IsCheck};
 ghost use Rattle.mate_def.specs.Mate.{HasEvasionTo};
-ghost use Rattle.mate_facts.specs.Entries.{AreApart, positions_of, IsBorneOut};
-ghost use Rattle.position_places.specs.Places.{ArePlacesOf};
-ghost use Rattle.cert_check.specs.Reasons.{MateReason, EscapeReason, IsHeld, IsFirstReason, IsEvasionJudged};
+ghost use Rattle.mate_facts.specs.Entries.{positions_of};
+ghost use Rattle.hand_dominance.specs.declared.version.Version.{Version};
+ghost use Rattle.hand_dominance.specs.BorneOut.{IsBorneOut, IsCovered, IsHeld};
+ghost use Rattle.dominance_places.specs.Covering.{AreCoverPlacesOf, version_of};
+ghost use Rattle.dominance_places.specs.Found.{IsFoundCovered};
+ghost use Rattle.cert_check.specs.Reasons.{MateReason, EscapeReason, IsFirstReason, IsEvasionJudged};
 
+use crate::reached::{covered_after, is_covered_after};
 use crate::verdict::Why;
-use board_core::{Key, Move, Position, key, order_laws};
+use board_core::{Move, Position, key, order_laws};
 use check_moves::checks_into;
+use dominance_places::CoverPlaces;
 use evasions::answers_into;
-use mate_facts::{MateEntry, entry_laws};
+use mate_facts::MateEntry;
 use move_lists::Moves;
-use position_places::Places;
-use shogi_rules::{Problem, apply, is_check, key_after};
-use std::alloc::AllocError;
+use shogi_rules::{Problem, apply, is_check};
+use std::alloc::{AllocError, Global};
 
-// What speaks against an evasion that leads to the position of this key, from an entry of this
-// rank.
+/// Lists that are filled again for each entry, and working room.
+#[derive(Drop)]
+pub(crate) struct Lists {
+    checks: Moves,
+    evasions: Moves,
+    room: Vec<usize>,
+}
+
+impl Lists {
+    /// Empty ones. Takes no memory.
+    pub(crate) fn new(alloc: Global) -> Lists {
+        Lists {
+            checks: Moves::new(alloc),
+            evasions: Moves::new(alloc),
+            room: Vec::new(alloc),
+        }
+    }
+}
+
+// What speaks against an evasion from an entry of this rank, by the place of the entry of least
+// rank that the position after it covers.
 fn evasion_reason(
     entries: &[MateEntry],
-    places: &Places,
+    covered: Option<usize>,
     rank: u32,
-    next: &Key,
     evasion: Move,
 ) -> Option<Why>
-    requires places { ArePlacesOf places.now (positions_of entries.now) }
-    requires apart { AreApart (positions_of entries.now) }
-    ensures { (position : Board) → IsKept position → next.now.0 ≡ key_of position
-        → IsEvasionJudged entries.now rank position evasion result }
+    requires { IfSome covered (λ place. place < length entries.now) }
+    ensures { (version : Version) (attacker : Side) (position : Board)
+        → IsFoundCovered version entries.now attacker position covered
+        → IsEvasionJudged version entries.now attacker rank position evasion result }
 {
-    // Entries of one position are one entry.
-    entry_laws();
-    match places.find_key(next) {
+    match covered {
         None => Some(Why::EvasionOutside(evasion)),
         Some(place) => {
             if entries[place].rank.number < rank {
@@ -48,59 +67,67 @@ fn evasion_reason(
     }
 }
 
-/// The first reason against an entry of a mate. The list is filled again.
+/// The first reason against an entry of a mate. The lists are filled again.
 pub(crate) fn mate_reason(
     problem: &Problem,
     entries: &[MateEntry],
-    places: &Places,
+    places: &CoverPlaces,
     entry: &MateEntry,
-    evasions: &mut Moves,
+    lists: &mut Lists,
 ) -> Result<Option<Why>, AllocError>
     requires quiet { IsQuiet entry.now.at }
-    requires places { ArePlacesOf places.now (positions_of entries.now) }
-    requires apart { AreApart (positions_of entries.now) }
-    ensures { IfOk result
-        (λ reason. IsFirstReason (IsBorneOut entries.now problem.now.position.side entry.now)
-        (MateReason entries.now problem.now.position.side entry.now) reason) }
+    requires places { AreCoverPlacesOf places.now (positions_of entries.now) }
+    ensures { IfOk result (λ reason. IsFirstReason
+        (IsBorneOut (version_of places.now) entries.now problem.now.position.side entry.now)
+        (MateReason (version_of places.now) entries.now problem.now.position.side entry.now)
+        reason) }
 {
     // In a list in the order of moves, what comes sooner stands sooner.
     order_laws();
     if !is_check(problem, &entry.at, entry.by) {
         return Ok(Some(Why::NotACheck(entry.by)));
     }
+    let attacker = problem.attacker();
     let checked = apply(&entry.at, entry.by);
     let known = key(&checked);
-    answers_into(problem, &checked, evasions)?;
-    for evasion in evasions.as_slice() {
-        // The position after it isn't made: its key is enough to find it.
-        let next = key_after(&checked, &known, *evasion);
-        if let Some(why) = evasion_reason(entries, places, entry.rank.number, &next, *evasion) {
+    answers_into(problem, &checked, &mut lists.evasions)?;
+    for evasion in lists.evasions.as_slice() {
+        let room = &mut lists.room;
+        let covered = covered_after(places, entries, attacker, &checked, &known, *evasion, room)?;
+        if let Some(why) = evasion_reason(entries, covered, entry.rank.number, *evasion) {
             return Ok(Some(why));
         }
     }
     Ok(None)
 }
 
-// Whether an evasion to the check leads to one of the positions. The list is filled again.
+// Whether an evasion to the check leads to a position that one of the positions covers. The list of
+// evasions is filled again.
 fn has_evasion_back(
     problem: &Problem,
-    places: &Places,
+    positions: &[Position],
+    places: &CoverPlaces,
     position: &Position,
     check: Move,
     evasions: &mut Moves,
+    room: &mut Vec<usize>,
 ) -> Result<bool, AllocError>
     requires quiet { IsQuiet position.now }
     requires check { IsCheck problem.now.position.side position.now check }
-    ensures { IfOk result (λ found. (positions : List Board) → ArePlacesOf places.now positions
-        → IsTrue found ↔ HasEvasionTo problem.now.position.side (Contains positions) position.now
-        check) }
+    requires places { AreCoverPlacesOf places.now positions.now }
+    ensures { IfOk result (λ found. IsTrue found
+        ↔ HasEvasionTo problem.now.position.side
+        (IsCovered (version_of places.now) positions.now problem.now.position.side)
+        position.now check) }
 {
+    let attacker = problem.attacker();
     let checked = apply(position, check);
     let known = key(&checked);
     answers_into(problem, &checked, evasions)?;
     for evasion in evasions.as_slice() {
-        let next = key_after(&checked, &known, *evasion);
-        if places.find_key(&next).is_some() {
+        if is_covered_after(
+            places, positions, attacker, &checked, &known, *evasion, room,
+        )? {
             return Ok(true);
         }
     }
@@ -110,21 +137,24 @@ fn has_evasion_back(
 /// The first reason against an entry of an escape. The lists are filled again.
 pub(crate) fn escape_reason(
     problem: &Problem,
-    places: &Places,
+    positions: &[Position],
+    places: &CoverPlaces,
     position: &Position,
-    checks: &mut Moves,
-    evasions: &mut Moves,
+    lists: &mut Lists,
 ) -> Result<Option<Why>, AllocError>
     requires quiet { IsQuiet position.now }
-    ensures { IfOk result (λ reason. (positions : List Board) → ArePlacesOf places.now positions
-        → IsFirstReason (IsHeld positions problem.now.position.side position.now)
-        (EscapeReason positions problem.now.position.side position.now) reason) }
+    requires places { AreCoverPlacesOf places.now positions.now }
+    ensures { IfOk result (λ reason. IsFirstReason
+        (IsHeld (version_of places.now) positions.now problem.now.position.side position.now)
+        (EscapeReason (version_of places.now) positions.now problem.now.position.side position.now)
+        reason) }
 {
     // In a list in the order of moves, what comes sooner stands sooner.
     order_laws();
-    checks_into(problem, position, checks)?;
-    for check in checks.as_slice() {
-        if !has_evasion_back(problem, places, position, *check, evasions)? {
+    checks_into(problem, position, &mut lists.checks)?;
+    for check in lists.checks.as_slice() {
+        let (evasions, room) = (&mut lists.evasions, &mut lists.room);
+        if !has_evasion_back(problem, positions, places, position, *check, evasions, room)? {
             return Ok(Some(Why::CheckUnanswered(*check)));
         }
     }

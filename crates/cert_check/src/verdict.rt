@@ -1,35 +1,39 @@
 // The verdict on a certificate.
-ghost use Rattle.std.specs.Prelude.{◌≡◌, ◌<◌, ◌↔◌, ℕ, length, IfOk, IsTrue, Contains, false};
-ghost use Rattle.position_places.specs.Places.{ArePlacesOf};
+ghost use Rattle.std.specs.Prelude.{◌≡◌, ◌↔◌, IfOk};
+ghost use Rattle.board_core.specs.Board.{Board};
+ghost use Rattle.board_core.specs.Kept.{IsKept};
+ghost use Rattle.hand_dominance.specs.BorneOut.{AreKept};
+ghost use Rattle.cert_text.specs.Kinds.{positions_in};
+ghost use Rattle.cert_text.specs.Reading.{IsReadable};
+ghost use Rattle.cert_text.specs.declared.certificate.Certificate.{Certificate};
 ghost use Rattle.cert_check.specs.Valid.{IsValid, Shows};
-ghost use Rattle.cert_text.specs.Kinds.{problem_of, positions_in, IsKeptBy};
-ghost use Rattle.cert_check.specs.Reasons.{RootReason, EntryReason, EntryHolds, IsFirstReason, IsVerdict};
-ghost use Rattle.cert_check.specs.declared.verdict.Why.TheVariants.{RootMissing};
+ghost use Rattle.cert_check.specs.Reasons.{IsVerdict};
 ghost use Rattle.cert_check.specs.declared.verdict.Verdict.{Verdict};
 ghost use Rattle.cert_check.specs.declared.verdict.Verdict.TheVariants.{Accepted};
-ghost use Rattle.cert_text.specs.declared.certificate.Certificate.{Certificate};
-ghost use Rattle.board_core.specs.Board.{Board};
 
 use crate::hearing::Hearing;
 use board_core::{Move, order_laws};
 use cert_text::Certificate;
-use mate_def::escape_is_no_mate;
+use hand_dominance::listing_laws;
 use shogi_rules::Problem;
 use std::alloc::{AllocError, Global};
 
-/// Why a certificate is refused.
+/// Why a certificate is refused. A listed position stands for itself, and in version 2 also for
+/// others: in a mate for each that dominates it, in an escape for each that it dominates
+/// (`hand_dominance`).
 #[derive(Clone, Copy, PartialEq, Eq, Debug)]
 pub enum Why {
-    /// The problem's position isn't listed, or the certificate is about another problem.
+    /// The certificate is about another problem, or no listed position stands for the problem's.
     RootMissing,
     /// The move of a mate's entry, this one, isn't a check of its position.
     NotACheck(Move),
-    /// After the entry's move, this evasion leads to a position that isn't listed.
+    /// After the entry's move, this evasion leads to a position for which no listed one stands.
     EvasionOutside(Move),
-    /// After the entry's move, this evasion leads to a position that is listed, but not with a
-    /// lower rank.
+    /// After the entry's move, this evasion leads to a position for which listed ones stand, but
+    /// none with a lower rank.
     RankNotLower(Move),
-    /// In an escape, no evasion to this check of the entry's position leads to a listed position.
+    /// In an escape, no evasion to this check of the entry's position leads to a position for which
+    /// a listed one stands.
     CheckUnanswered(Move),
 }
 
@@ -50,7 +54,8 @@ pub enum Verdict {
 }
 
 impl Verdict {
-    // The verdict where the certificate is about another problem, or doesn't list its position.
+    // The verdict where the certificate is about another problem, or no listed position stands for
+    // the problem's.
     pub(crate) const ROOT_MISSING: Verdict = Verdict::Refused {
         entry: 0,
         why: Why::RootMissing,
@@ -58,14 +63,17 @@ impl Verdict {
 }
 
 /// What validity is worth, a law: every verdict on a valid certificate is that it is accepted, and
-/// it shows what it says, a mate or that there is none. (It shows this where it keeps what every
-/// [`Certificate`] keeps.)
+/// it shows what it says, a mate or that there is none. (It shows this where its positions and the
+/// problem's keep what every position keeps; so do those of one that can be read.)
 pub fn valid_is_accepted()
     ensures accepted { (c : Certificate) (p : Board) (verdict : Verdict) → IsVerdict c p verdict
         → IsValid c p → verdict ≡ Accepted }
-    ensures shows { (c : Certificate) (p : Board) → IsKeptBy c → IsValid c p → Shows c p }
+    ensures shows { (c : Certificate) (p : Board) → AreKept (positions_in c) → IsKept p
+        → IsValid c p → Shows c p }
+    ensures readable { (c : Certificate) (p : Board) → IsReadable c → IsValid c p → Shows c p }
 {
-    escape_is_no_mate();
+    // What lists of positions bear out.
+    listing_laws();
 }
 
 fn verdict_on(
@@ -75,9 +83,9 @@ fn verdict_on(
 ) -> Result<Verdict, AllocError>
     ensures verdict { IfOk result
         (λ verdict. IsVerdict certificate.now problem.now.position verdict) }
-    ensures kept { IsKeptBy certificate.now }
+    ensures shows { IfOk result (λ verdict. verdict ≡ Accepted
+        → Shows certificate.now problem.now.position) }
 {
-    certificate.laws();
     let hearing = Hearing::open(alloc, problem, certificate)?;
     if let Some(verdict) = hearing.root_verdict() {
         return Ok(verdict);
@@ -117,6 +125,5 @@ pub fn check(
     ensures shows { IfOk result (λ verdict. verdict ≡ Accepted
         → Shows certificate.now problem.now.position) }
 {
-    escape_is_no_mate();
     verdict_on(alloc, problem, certificate)
 }

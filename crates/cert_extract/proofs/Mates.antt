@@ -15,7 +15,7 @@ use Rattle.shogi_rules.specs.Rules.{after}
 use Rattle.shogi_rules.specs.Tsume.{IsCheck, IsEvasion, IsProblem}
 use Rattle.mate_def.specs.Mate.{after_both}
 use Rattle.mate_facts.specs.declared.entry.MateEntry.{MateEntry}
-use Rattle.mate_facts.specs.Entries.{AreApart, positions_of, IsListedBelow}
+use Rattle.mate_facts.specs.Entries.{AreApart, positions_of}
 use Rattle.cert_order.specs.Entries.{AreMateEntries}
 use Rattle.notes.specs.declared.rule.Rule.TheVariants.{MateBy}
 use Rattle.notes.specs.declared.rule.Conclusion.TheVariants.{Mate}
@@ -71,6 +71,13 @@ pub record IsListedMate (attacker : Side) (top : Derivation) (entry : MateEntry)
   pub is_problem : IsProblem entry.at
   pub turn : entry.at.side ≡ attacker
   pub has_text : HasText entry.by
+
+-- an entry lists the position with a rank lower than this one
+pub record IsListedBelow (entries : List MateEntry) (rank : ℕ) (position : Board) : Type 0 where
+  pub entry : MateEntry
+  pub listed : Contains entries entry
+  pub same : entry.at ≡ position
+  pub lower : entry.rank.number < rank
 
 -- the position is listed with a lower rank, or is that of a note ahead of less than twice that
 -- height
@@ -316,7 +323,12 @@ mate_ended p top entries walk apart = record {
   listed = start_alone entries p walk.start;
   borne_out = λ entry c.
       let b = walk.borne entry c in
-      record { check = b.check; evasions = λ evasion is. listed_alone entries entry.rank.number _ (b.evasions evasion is) };
+      record {
+        check = b.check;
+        evasions = λ evasion is.
+            let l = listed_alone entries entry.rank.number _ (b.evasions evasion is) in
+            record { entry = l.entry; listed = l.listed; covers = sym l.same; lower = l.lower };
+      };
   problems = λ entry c. record { is_problem = (walk.listed entry c).is_problem; side = (walk.listed entry c).turn };
   kept = λ entry c. (walk.listed entry c).kept;
   texts = λ entry c. (walk.listed entry c).has_text;

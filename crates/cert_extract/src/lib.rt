@@ -12,7 +12,8 @@
 ghost use Rattle.std.specs.Prelude.{◌≡◌, ◌≤◌, [], IfOk, IfErr, length};
 ghost use Rattle.notes.specs.Derivation.{position_of, attacker_of, tag_of, conclusion_of};
 ghost use Rattle.cert_text.specs.declared.limits.TheConstants.{MOST_ENTRIES};
-ghost use Rattle.cert_text.specs.Kinds.{claim_of, positions_in};
+ghost use Rattle.hand_dominance.specs.declared.version.Version.TheVariants.{One};
+ghost use Rattle.cert_text.specs.Kinds.{claim_of, positions_in, version_of};
 ghost use Rattle.cert_text.specs.Reading.{IsReadable};
 ghost use Rattle.cert_check.specs.Valid.{IsValid};
 ghost use Rattle.cert_extract.specs.Extracted.{claim_by, ComesFrom, IsEndFor};
@@ -48,10 +49,11 @@ pub fn extract(
     requires same_attacker { attacker_of note.now ≡ problem.now.position.side }
 
     // It is of the kind that the note concludes, and valid for the problem, which it is about and
-    // lists.
+    // lists, and of version 1.
     ensures kind { IfOk result (λ certificate. claim_of certificate
         ≡ claim_by (conclusion_of note.now)) }
     ensures valid { IfOk result (λ certificate. IsValid certificate problem.now.position) }
+    ensures version { IfOk result (λ certificate. version_of certificate ≡ One) }
 
     // Whatever it lists comes from a note of the tree.
     ensures from { IfOk result (λ certificate. ComesFrom note.now certificate) }

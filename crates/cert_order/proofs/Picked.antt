@@ -1,5 +1,5 @@
 -- A list that is picked from another by places, in the order of texts.
-use Rattle.std.proofs.Common.{◌≡◌, ◌<◌, ◌≤◌, ◌+◌, ◌++◌, inl, inr, ℕ, zero, suc, List, [], ◌∷◌, get_or, length, map, take, Contains, arith, ap, sym, refl, ◌∙◌, subst, ⊎_elim}
+use Rattle.std.proofs.Common.{◌≡◌, ◌<◌, ◌≤◌, ◌+◌, ◌++◌, ℕ, zero, suc, List, [], ◌∷◌, get_or, length, map, take, Contains, arith, ap, sym, refl, ◌∙◌, subst}
 use Rattle.std.specs.Prelude.{Some, slice_get}
 use Rattle.std.specs.Option.{option_map}
 use Rattle.std.specs.List.{AllByRecursion}
@@ -9,15 +9,17 @@ use Rattle.bit_boards.specs.declared.piece.Side.{Side}
 use Rattle.mate_facts.specs.declared.entry.MateEntry.{MateEntry}
 use Rattle.board_core.specs.Board.{Board}
 use Rattle.shogi_rules.specs.Tsume.{IsProblem}
-use Rattle.mate_def.specs.Mate.{IsClosed}
+use Rattle.mate_def.specs.Mate.{IsClosed, after_both}
 use Rattle.board_core.specs.Kept.{IsKept}
 use Rattle.cert_text.specs.Certificate.{Mating, Escaping, IsMating, IsEscaping, IsRising, MayBeListed, mate_form, escape_form}
 use Rattle.cert_text.specs.Reading.{IsReadCount, IsReadableOf}
-use Rattle.mate_facts.specs.Entries.{positions_of, IsListedBelow}
+use Rattle.mate_facts.specs.Entries.{positions_of}
+use Rattle.hand_dominance.specs.declared.version.Version.TheVariants.{One}
+use Rattle.hand_dominance.specs.BorneOut.{AreClosed, CoversListed, CoversLower}
 use Rattle.cert_check.specs.Valid.{ValidMate, ValidEscape}
 use Rattle.cert_order.specs.Entries.{AreMateEntries, AreEscapeEntries, HaveSame}
 use Rattle.cert_order.specs.Order.{RiseAt, IsTextOrder, ArePicked}
-use Rattle.list_laws.proofs.Standing.{contained, at_place, from_map}
+use Rattle.list_laws.proofs.Standing.{contained, at_place, from_map, in_first}
 
 -- 1. The members.
 
@@ -113,7 +115,7 @@ pub as_many : (entries : List MateEntry) → length (positions_of entries) ≡ l
 as_many entries = length-map entries position_of
 
 pub mating : (p : Board) (entries sorted : List MateEntry) (order : List ℕ) → IsProblem p → AreMateEntries p entries
-    → IsTextOrder (positions_of entries) order → ArePicked entries order sorted → IsMating (record { problem = p; entries = sorted })
+    → IsTextOrder (positions_of entries) order → ArePicked entries order sorted → IsMating (record { version = One; problem = p; entries = sorted })
 mating p entries sorted order accepted are ordered picked = record {
   is_problem = accepted;
   rising = rising (positions_of entries) order (positions_of sorted) (picked_map position_of entries order sorted picked) ordered.rises;
@@ -125,43 +127,50 @@ mating p entries sorted order accepted are ordered picked = record {
 all_entries : (entries : List MateEntry) (order : List ℕ) → IsTextOrder (positions_of entries) order → (place : ℕ) → place < length entries → Contains order place
 all_entries entries order ordered place h = ordered.all place (let n = length-map entries position_of in omega arith)
 
-still_below : (entries sorted : List MateEntry) → ((entry : MateEntry) → Contains entries entry → Contains sorted entry) → (rank : ℕ) (b : Board)
-    → IsListedBelow entries rank b → IsListedBelow sorted rank b
-still_below entries sorted kept rank b l = record { entry = l.entry; listed = kept l.entry l.listed; same = l.same; lower = l.lower }
+still_below : (attacker : Side) (entries sorted : List MateEntry) → ((entry : MateEntry) → Contains entries entry → Contains sorted entry) → (rank : ℕ) (b : Board)
+    → CoversLower One entries attacker rank b → CoversLower One sorted attacker rank b
+still_below attacker entries sorted kept rank b l = record { entry = l.entry; listed = kept l.entry l.listed; covers = l.covers; lower = l.lower }
+
+-- what is listed covers what is listed
+covered : (attacker : Side) (entries : List MateEntry) (b : Board) → Contains (positions_of entries) b → CoversListed One entries attacker b
+covered attacker entries b c =
+    let found = from_map position_of entries c.0 b (at_place (positions_of entries) b c) in
+    record { entry = found.0; listed = contained entries c.0 found.0 found.1; covers = sym found.2 }
 
 valid_sorted : (p : Board) (entries sorted : List MateEntry) (order : List ℕ) → AreMateEntries p entries
-    → IsTextOrder (positions_of entries) order → ArePicked entries order sorted → ValidMate (record { problem = p; entries = sorted }) p
+    → IsTextOrder (positions_of entries) order → ArePicked entries order sorted → ValidMate (record { version = One; problem = p; entries = sorted }) p
 valid_sorted p entries sorted order are ordered picked =
     let kept = λ (entry : MateEntry) (c : Contains entries entry). is_picked entries order sorted (all_entries entries order ordered) picked entry c in
     record {
       problem = refl;
-      listed = is_picked (positions_of entries) order (positions_of sorted) ordered.all (picked_map position_of entries order sorted picked) p are.listed;
+      listed = covered p.side sorted p
+          (is_picked (positions_of entries) order (positions_of sorted) ordered.all (picked_map position_of entries order sorted picked) p are.listed);
       entries = λ entry c.
           let b = are.borne_out entry (of_picked entries order sorted picked entry c) in
-          record { check = b.check; evasions = λ evasion h. still_below entries sorted kept entry.rank.number _ (b.evasions evasion h) };
+          record { check = b.check; evasions = λ evasion h. still_below p.side entries sorted kept entry.rank.number _ (b.evasions evasion h) };
     }
 
 pub valid_mate : (p : Board) (entries sorted : List MateEntry) (order : List ℕ) (certificate : Mating)
-    → certificate ≡ record { problem = p; entries = sorted } → AreMateEntries p entries
+    → certificate ≡ record { version = One; problem = p; entries = sorted } → AreMateEntries p entries
     → IsTextOrder (positions_of entries) order → ArePicked entries order sorted → ValidMate certificate p
 valid_mate p entries sorted order certificate is are ordered picked =
     subst (λ (c : Mating). ValidMate c p) (sym is) (valid_sorted p entries sorted order are ordered picked)
 
 pub same_mate : (p : Board) (entries sorted : List MateEntry) (order : List ℕ) (certificate : Mating)
-    → certificate ≡ record { problem = p; entries = sorted }
+    → certificate ≡ record { version = One; problem = p; entries = sorted }
     → IsTextOrder (positions_of entries) order → ArePicked entries order sorted → HaveSame certificate.entries entries
 same_mate p entries sorted order certificate is ordered picked =
     subst (λ (c : Mating). HaveSame c.entries entries) (sym is)
     (λ entry. (of_picked entries order sorted picked entry, is_picked entries order sorted (all_entries entries order ordered) picked entry))
 
 pub count_mate : (p : Board) (entries sorted : List MateEntry) (order : List ℕ) (certificate : Mating)
-    → certificate ≡ record { problem = p; entries = sorted }
+    → certificate ≡ record { version = One; problem = p; entries = sorted }
     → IsTextOrder (positions_of entries) order → ArePicked entries order sorted → length certificate.entries ≡ length entries
 count_mate p entries sorted order certificate is ordered picked =
     ap (λ (c : Mating). length c.entries) is ∙ (as_many_picked entries order sorted picked ∙ (ordered.count ∙ as_many entries))
 
 pub readable_mate : (p : Board) (entries sorted : List MateEntry) (order : List ℕ) (certificate : Mating)
-    → certificate ≡ record { problem = p; entries = sorted } → IsProblem p → AreMateEntries p entries
+    → certificate ≡ record { version = One; problem = p; entries = sorted } → IsProblem p → AreMateEntries p entries
     → IsTextOrder (positions_of entries) order → ArePicked entries order sorted
     → IsReadCount (length certificate.entries) → IsReadableOf (mate_form certificate.problem) certificate
 readable_mate p entries sorted order certificate is accepted are ordered picked =
@@ -181,7 +190,7 @@ readable_mate p entries sorted order certificate is accepted are ordered picked 
 -- 3. An escape's entries.
 
 pub escaping : (p : Board) (entries sorted : List Board) (order : List ℕ) → IsProblem p → AreEscapeEntries p entries
-    → IsTextOrder entries order → ArePicked entries order sorted → IsEscaping (record { problem = p; entries = sorted })
+    → IsTextOrder entries order → ArePicked entries order sorted → IsEscaping (record { version = One; problem = p; entries = sorted })
 escaping p entries sorted order accepted are ordered picked = record {
   is_problem = accepted;
   rising = subst IsRising (sym (map-id sorted)) (rising entries order sorted picked ordered.rises);
@@ -189,38 +198,42 @@ escaping p entries sorted order accepted are ordered picked = record {
 }
 
 closed_sorted : (attacker : Side) (entries sorted : List Board) → ((b : Board) → Contains entries b → Contains sorted b)
-    → ((b : Board) → Contains sorted b → Contains entries b) → IsClosed attacker entries [] → IsClosed attacker sorted []
+    → ((b : Board) → Contains sorted b → Contains entries b) → IsClosed attacker entries [] → AreClosed One sorted attacker
 closed_sorted attacker entries sorted kept of closed = record {
   turn = λ b c. closed.turn b (of b c);
-  answered = λ b check c is_check.
+  held = λ b c check is_check.
       let a = closed.answered b check (of b c) is_check in
-      record { evasion = a.evasion; is_evasion = a.is_evasion; leads = ⊎_elim (λ h. inl (kept _ h)) (λ h. inr h) a.leads };
+      record {
+        evasion = a.evasion;
+        is_evasion = a.is_evasion;
+        leads = record { listed = after_both b check a.evasion; inside = kept _ (in_first entries _ a.leads); covers = refl };
+      };
 }
 
 pub valid_escape : (p : Board) (entries sorted : List Board) (order : List ℕ) (certificate : Escaping)
-    → certificate ≡ record { problem = p; entries = sorted } → AreEscapeEntries p entries
+    → certificate ≡ record { version = One; problem = p; entries = sorted } → AreEscapeEntries p entries
     → IsTextOrder entries order → ArePicked entries order sorted → ValidEscape certificate p
 valid_escape p entries sorted order certificate is are ordered picked =
     let kept = λ (b : Board) (c : Contains entries b). is_picked entries order sorted ordered.all picked b c in
     let of = λ (b : Board) (c : Contains sorted b). of_picked entries order sorted picked b c in
     subst (λ (c : Escaping). ValidEscape c p) (sym is)
-    (record { problem = refl; listed = kept p are.listed; closed = closed_sorted p.side entries sorted kept of are.closed })
+    (record { problem = refl; listed = record { listed = p; inside = kept p are.listed; covers = refl }; closed = closed_sorted p.side entries sorted kept of are.closed })
 
 pub same_escape : (p : Board) (entries sorted : List Board) (order : List ℕ) (certificate : Escaping)
-    → certificate ≡ record { problem = p; entries = sorted } → IsTextOrder entries order → ArePicked entries order sorted
+    → certificate ≡ record { version = One; problem = p; entries = sorted } → IsTextOrder entries order → ArePicked entries order sorted
     → HaveSame certificate.entries entries
 same_escape p entries sorted order certificate is ordered picked =
     subst (λ (c : Escaping). HaveSame c.entries entries) (sym is)
     (λ b. (of_picked entries order sorted picked b, is_picked entries order sorted ordered.all picked b))
 
 pub count_escape : (p : Board) (entries sorted : List Board) (order : List ℕ) (certificate : Escaping)
-    → certificate ≡ record { problem = p; entries = sorted } → IsTextOrder entries order → ArePicked entries order sorted
+    → certificate ≡ record { version = One; problem = p; entries = sorted } → IsTextOrder entries order → ArePicked entries order sorted
     → length certificate.entries ≡ length entries
 count_escape p entries sorted order certificate is ordered picked =
     ap (λ (c : Escaping). length c.entries) is ∙ (as_many_picked entries order sorted picked ∙ ordered.count)
 
 pub readable_escape : (p : Board) (entries sorted : List Board) (order : List ℕ) (certificate : Escaping)
-    → certificate ≡ record { problem = p; entries = sorted } → IsProblem p → AreEscapeEntries p entries
+    → certificate ≡ record { version = One; problem = p; entries = sorted } → IsProblem p → AreEscapeEntries p entries
     → IsTextOrder entries order → ArePicked entries order sorted
     → IsReadCount (length certificate.entries) → IsReadableOf (escape_form certificate.problem) certificate
 readable_escape p entries sorted order certificate is accepted are ordered picked =

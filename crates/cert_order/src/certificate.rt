@@ -3,12 +3,14 @@ ghost use Rattle.std.specs.Prelude.{◌≡◌, ◌<◌, ℕ, IfOk, Contains, len
 ghost use Rattle.cert_text.specs.Certificate.{mate_form, escape_form};
 ghost use Rattle.cert_text.specs.Reading.{IsReadCount, IsReadableOf};
 ghost use Rattle.cert_check.specs.Valid.{ValidMate, ValidEscape};
+ghost use Rattle.hand_dominance.specs.declared.version.Version.TheVariants.{One};
 ghost use Rattle.cert_order.specs.Entries.{AreMateEntries, AreEscapeEntries, HaveSame};
 ghost use Rattle.cert_order.specs.Order.{ArePicked};
 
 use crate::order::text_order;
 use board_core::Position;
 use cert_text::{EscapeCertificate, MateCertificate};
+use hand_dominance::Version;
 use mate_facts::MateEntry;
 use shogi_rules::Problem;
 use std::alloc::{AllocError, Global};
@@ -26,9 +28,9 @@ pub fn items_at<T: Copy>(alloc: Global, items: &[T], order: &[usize]) -> Result<
     Ok(picked)
 }
 
-/// The certificate of a mate's entries: it is about the problem, lists the same entries, each once,
-/// in the order of the bytes of their positions' SFEN texts, and is valid. Its text can be read,
-/// where a reader takes that many entries. Errors: want of memory alone.
+/// The certificate of a mate's entries, of version 1: it is about the problem, lists the same
+/// entries, each once, in the order of the bytes of their positions' SFEN texts, and is valid. Its
+/// text can be read, where a reader takes that many entries. Errors: want of memory alone.
 pub fn mate_certificate(
     alloc: Global,
     problem: &Problem,
@@ -36,6 +38,7 @@ pub fn mate_certificate(
 ) -> Result<MateCertificate, AllocError>
     requires { AreMateEntries problem.now.position entries.now }
     ensures valid { IfOk result (λ certificate. ValidMate certificate problem.now.position) }
+    ensures version { IfOk result (λ certificate. certificate.version ≡ One) }
     ensures same { IfOk result (λ certificate. HaveSame certificate.entries entries.now) }
 
     // It has as many entries. Where that many are read, it can be read once it is written.
@@ -49,12 +52,12 @@ pub fn mate_certificate(
     }
     let order = text_order(alloc, &positions)?;
     let sorted = items_at(alloc, entries, &order)?;
-    Ok(MateCertificate::new(*problem, sorted))
+    Ok(MateCertificate::new(Version::One, *problem, sorted))
 }
 
-/// The certificate of an escape's positions: it is about the problem, lists the same positions,
-/// each once, in the order of the bytes of their SFEN texts, and is valid. Its text can be read,
-/// where a reader takes that many entries. Errors: want of memory alone.
+/// The certificate of an escape's positions, of version 1: it is about the problem, lists the same
+/// positions, each once, in the order of the bytes of their SFEN texts, and is valid. Its text can
+/// be read, where a reader takes that many entries. Errors: want of memory alone.
 pub fn escape_certificate(
     alloc: Global,
     problem: &Problem,
@@ -62,6 +65,7 @@ pub fn escape_certificate(
 ) -> Result<EscapeCertificate, AllocError>
     requires { AreEscapeEntries problem.now.position entries.now }
     ensures valid { IfOk result (λ certificate. ValidEscape certificate problem.now.position) }
+    ensures version { IfOk result (λ certificate. certificate.version ≡ One) }
     ensures same { IfOk result (λ certificate. HaveSame certificate.entries entries.now) }
 
     // It has as many entries. Where that many are read, it can be read once it is written.
@@ -71,5 +75,5 @@ pub fn escape_certificate(
 {
     let order = text_order(alloc, entries)?;
     let sorted = items_at(alloc, entries, &order)?;
-    Ok(EscapeCertificate::new(*problem, sorted))
+    Ok(EscapeCertificate::new(Version::One, *problem, sorted))
 }

@@ -16,7 +16,7 @@ use Rattle.sfen_text.specs.Spelling.{sfen_of, board_text, side_letter, hands_tex
 use Rattle.sfen_text.specs.Laws.{PositionTextsApart, TextsAreLines}
 use Rattle.cert_text.specs.Entries.{line, mate_entry_text}
 use Rattle.cert_text.specs.Certificate.{CertificateView, Mating, Escaping, IsRising, Form, MayBeListed, mate_form, escape_form}
-use Rattle.cert_text.specs.Text.{entries_text, end_line}
+use Rattle.cert_text.specs.Text.{title_of, entries_text, end_line}
 use Rattle.cert_text.specs.declared.fault.CertFault.{CertFault}
 use Rattle.cert_text.specs.declared.fault.CertFault.TheVariants as faults
 use Rattle.cert_text.specs.declared.fault.CertEnd.{CertEnd}
@@ -25,6 +25,7 @@ use Rattle.cert_text.specs.declared.certificate.Certificate.{Certificate}
 use Rattle.cert_text.specs.declared.certificate.Certificate.TheVariants as certificates
 use Rattle.cert_text.specs.declared.head.Claim.{Claim}
 use Rattle.cert_text.specs.declared.head.Claim.TheVariants.{Mate, Escape}
+use Rattle.cert_text.specs.declared.head.Title.{Title}
 use Rattle.cert_text.specs.Reading.{Lacks, AreGood, Ends, HasLineFault, HasFaultBehind, HasLaterFault, HasFirstFault, IsFaultAs, IsHead, IsReadableOf, IsReadable, IsTextOf, IsCertificateOutcome, IsReadAs}
 use Rattle.cert_text.proofs.Cuts.{lacks_both, not_lacks, cut_same, has, lacks_by, decimal_lacks, move_lacks, sfen_lacks}
 use Rattle.cert_text.proofs.Entries.{entry_fields, line_same, rank_small}
@@ -296,15 +297,15 @@ module _ {Entry : Type 0} (form : Form Entry) (told : AreTold form) where
 
 -- ---- certificates
 
-moved : (a b : Claim) (m n : ℕ) (p q : Board) (x y : List ℕ) (fault : CertFault) → a ≡ b → m ≡ n → p ≡ q → x ≡ y → HasFaultBehind a m p x fault → HasFaultBehind b n q y fault
+moved : (a b : Title) (m n : ℕ) (p q : Board) (x y : List ℕ) (fault : CertFault) → a ≡ b → m ≡ n → p ≡ q → x ≡ y → HasFaultBehind a.claim m p x fault → HasFaultBehind b.claim n q y fault
 moved a b m n p q x y fault ea em ep ex h =
-    subst (λ (t : List ℕ). HasFaultBehind b n q t fault) ex
-    (subst (λ (o : Board). HasFaultBehind b n o x fault) ep
-    (subst (λ (k : ℕ). HasFaultBehind b k p x fault) em
-    (subst (λ (c : Claim). HasFaultBehind c m p x fault) ea h)))
+    subst (λ (t : List ℕ). HasFaultBehind b.claim n q t fault) ex
+    (subst (λ (o : Board). HasFaultBehind b.claim n o x fault) ep
+    (subst (λ (k : ℕ). HasFaultBehind b.claim k p x fault) em
+    (subst (λ (title : Title). HasFaultBehind title.claim m p x fault) ea h)))
 
-listings_same : {Entry : Type 0} (c d : CertificateView Entry) → d.problem ≡ c.problem → d.entries ≡ c.entries → d ≡ c
-listings_same c d p e = λ i. record { problem = p i; entries = e i }
+listings_same : {Entry : Type 0} (c d : CertificateView Entry) → d.version ≡ c.version → d.problem ≡ c.problem → d.entries ≡ c.entries → d ≡ c
+listings_same c d v p e = λ i. record { version = v i; problem = p i; entries = e i }
 
 later_of : (bytes : List ℕ) (fault : CertFault) → HasFirstFault bytes fault → (fault ≡ faults.BadHead) ⊎ HasLaterFault bytes fault
 later_of bytes faults.BadHead h = inl refl
@@ -314,12 +315,12 @@ later_of bytes faults.WrongCount h = inr h
 later_of bytes faults.NoEnd h = inr h
 
 no_head_later : (bytes : List ℕ) (one two : CertFault) → HasFirstFault bytes one → one ≡ faults.BadHead → HasLaterFault bytes two → ⊥
-no_head_later bytes one two h e k = (subst (HasFirstFault bytes) e h) k.claim k.count k.problem k.rest k.begins
+no_head_later bytes one two h e k = (subst (HasFirstFault bytes) e h) k.title k.count k.problem k.rest k.begins
 
 module _ (laws : Laws) where
   -- The head of a certificate's text.
   listing_head : {Entry : Type 0} (claim : Claim) (form : Form Entry) (c : CertificateView Entry) (bytes : List ℕ) → IsReadableOf form c → IsListingText claim form c bytes
-      → IsHead claim (length c.entries) (sfen_of c.problem) (entries_text form c.entries ++ end_line) bytes
+      → IsHead (title_of claim c) (length c.entries) (sfen_of c.problem) (entries_text form c.entries ++ end_line) bytes
   listing_head claim form c bytes r t = record { is_count = r.count; is_line = sfen_lacks laws.lines c.problem r.kept; front = t.0; is_front = t.1; text = t.2 ∙ ap (λ (u : List ℕ). t.0 ++ u) (listing_text_of claim form c) }
 
   listing_no_fault : {Entry : Type 0} (claim : Claim) (form : Form Entry) → AreTold form → (c : CertificateView Entry) (bytes : List ℕ) (fault : CertFault)
@@ -327,19 +328,19 @@ module _ (laws : Laws) where
       → IsReadableOf form c → IsListingText claim form c bytes → HasLaterFault bytes fault → ⊥
   listing_no_fault claim form told c bytes fault behind r t k =
       let rest = entries_text form c.entries ++ end_line in
-      let one = one_head k.claim claim k.count (length c.entries) (sfen_of k.problem) (sfen_of c.problem) k.rest rest bytes k.begins.head (listing_head claim form c bytes r t) in
+      let one = one_head k.title (title_of claim c) k.count (length c.entries) (sfen_of k.problem) (sfen_of c.problem) k.rest rest bytes k.begins.head (listing_head claim form c bytes r t) in
       no_fault form told c.entries (length c.entries) rest fault (record { good = r.good; text = refl }) refl
-      (behind rest (moved k.claim claim k.count (length c.entries) k.problem c.problem k.rest rest fault one.0 one.1 (laws.apart k.problem c.problem k.begins.kept r.kept one.2) one.3 k.later))
+      (behind rest (moved k.title (title_of claim c) k.count (length c.entries) k.problem c.problem k.rest rest fault one.0 one.1 (laws.apart k.problem c.problem k.begins.kept r.kept one.2) one.3 k.later))
 
   one_listing : {Entry : Type 0} (claim : Claim) (form : Board → Form Entry) → ((problem : Board) → AreTold (form problem)) → (c d : CertificateView Entry) (bytes : List ℕ)
       → IsReadableOf (form c.problem) c → IsListingText claim (form c.problem) c bytes → IsReadableOf (form d.problem) d → IsListingText claim (form d.problem) d bytes → d ≡ c
   one_listing claim form told c d bytes r t k u =
-      let one = one_head claim claim (length d.entries) (length c.entries) (sfen_of d.problem) (sfen_of c.problem) (entries_text (form d.problem) d.entries ++ end_line) (entries_text (form c.problem) c.entries ++ end_line) bytes
+      let one = one_head (title_of claim d) (title_of claim c) (length d.entries) (length c.entries) (sfen_of d.problem) (sfen_of c.problem) (entries_text (form d.problem) d.entries ++ end_line) (entries_text (form c.problem) c.entries ++ end_line) bytes
       (listing_head claim (form d.problem) d bytes k u) (listing_head claim (form c.problem) c bytes r t) in
       let problems : d.problem ≡ c.problem = laws.apart d.problem c.problem k.kept r.kept one.2 in
       let ends : Ends (form c.problem) d.entries (entries_text (form c.problem) c.entries ++ end_line)
       = subst (λ (p : Board). Ends (form p) d.entries (entries_text (form c.problem) c.entries ++ end_line)) problems (record { good = k.good; text = sym one.3 }) in
-      listings_same c d problems (one_ends (form c.problem) (told c.problem) d.entries c.entries (entries_text (form c.problem) c.entries ++ end_line)
+      listings_same c d (ap (λ (title : Title). title.version) one.0) problems (one_ends (form c.problem) (told c.problem) d.entries c.entries (entries_text (form c.problem) c.entries ++ end_line)
       ends (record { good = r.good; text = refl }))
 
   one_mate : (c d : Mating) (bytes : List ℕ) → IsReadable (certificates.Mate c) → IsTextOf (certificates.Mate c) bytes → IsReadable (certificates.Mate d) → IsTextOf (certificates.Mate d) bytes → d ≡ c
@@ -350,9 +351,9 @@ module _ (laws : Laws) where
 
   claims_apart : (c : Mating) (d : Escaping) (bytes : List ℕ) → IsReadable (certificates.Mate c) → IsTextOf (certificates.Mate c) bytes → IsReadable (certificates.Escape d) → IsTextOf (certificates.Escape d) bytes → ⊥
   claims_apart c d bytes r t k u =
-      let one = one_head Mate Escape (length c.entries) (length d.entries) (sfen_of c.problem) (sfen_of d.problem) (entries_text (mate_form c.problem) c.entries ++ end_line) (entries_text (escape_form d.problem) d.entries ++ end_line) bytes
+      let one = one_head (title_of Mate c) (title_of Escape d) (length c.entries) (length d.entries) (sfen_of c.problem) (sfen_of d.problem) (entries_text (mate_form c.problem) c.entries ++ end_line) (entries_text (escape_form d.problem) d.entries ++ end_line) bytes
       (listing_head Mate (mate_form c.problem) c bytes r t) (listing_head Escape (escape_form d.problem) d bytes k u) in
-      let bad : ◌≡◌ {A = Claim} Mate Escape = one.0 in
+      let bad : ◌≡◌ {A = Claim} Mate Escape = ap (λ (title : Title). title.claim) one.0 in
       cc
 
   -- No two certificates that can be read have one text.
@@ -365,12 +366,12 @@ module _ (laws : Laws) where
   -- A certificate's text has no fault.
   pub no_first_fault : (c : Certificate) (bytes : List ℕ) (fault : CertFault) → IsReadable c → IsTextOf c bytes → HasFirstFault bytes fault → ⊥
   no_first_fault (certificates.Mate c) bytes fault r t h = elim (later_of bytes fault h) [
-    | inl head ↦ (subst (HasFirstFault bytes) head h) Mate (length c.entries) c.problem (entries_text (mate_form c.problem) c.entries ++ end_line)
+    | inl head ↦ (subst (HasFirstFault bytes) head h) (title_of Mate c) (length c.entries) c.problem (entries_text (mate_form c.problem) c.entries ++ end_line)
         (record { head = listing_head Mate (mate_form c.problem) c bytes r t; kept = r.kept; is_problem = r.is_problem })
     | inr later ↦ listing_no_fault Mate (mate_form c.problem) (mate_told laws c.problem) c bytes fault (λ rest f. f) r t later
   ]
   no_first_fault (certificates.Escape c) bytes fault r t h = elim (later_of bytes fault h) [
-    | inl head ↦ (subst (HasFirstFault bytes) head h) Escape (length c.entries) c.problem (entries_text (escape_form c.problem) c.entries ++ end_line)
+    | inl head ↦ (subst (HasFirstFault bytes) head h) (title_of Escape c) (length c.entries) c.problem (entries_text (escape_form c.problem) c.entries ++ end_line)
         (record { head = listing_head Escape (escape_form c.problem) c bytes r t; kept = r.kept; is_problem = r.is_problem })
     | inr later ↦ listing_no_fault Escape (escape_form c.problem) (escape_told laws c.problem) c bytes fault (λ rest f. f) r t later
   ]
@@ -389,9 +390,9 @@ module _ (laws : Laws) where
 
   later_same : (bytes : List ℕ) (one two : CertFault) → HasLaterFault bytes one → HasLaterFault bytes two → one ≡ two
   later_same bytes one two h k =
-      let heads = one_head k.claim h.claim k.count h.count (sfen_of k.problem) (sfen_of h.problem) k.rest h.rest bytes k.begins.head h.begins.head in
-      behind_same h.claim h.count h.problem h.rest one two h.later
-      (moved k.claim h.claim k.count h.count k.problem h.problem k.rest h.rest two heads.0 heads.1 (laws.apart k.problem h.problem k.begins.kept h.begins.kept heads.2) heads.3 k.later)
+      let heads = one_head k.title h.title k.count h.count (sfen_of k.problem) (sfen_of h.problem) k.rest h.rest bytes k.begins.head h.begins.head in
+      behind_same h.title.claim h.count h.problem h.rest one two h.later
+      (moved k.title h.title k.count h.count k.problem h.problem k.rest h.rest two heads.0 heads.1 (laws.apart k.problem h.problem k.begins.kept h.begins.kept heads.2) heads.3 k.later)
 
   -- A text has one first fault at most.
   pub first_same : (bytes : List ℕ) (one two : CertFault) → HasFirstFault bytes one → HasFirstFault bytes two → one ≡ two

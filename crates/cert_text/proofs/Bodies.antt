@@ -14,12 +14,13 @@ use Rattle.sfen_text.specs.Spelling.{sfen_of}
 use Rattle.sfen_text.specs.Laws.{TextsHaveBytes}
 use Rattle.cert_text.specs.Entries.{line}
 use Rattle.cert_text.specs.Certificate.{CertificateView, IsBefore, IsRising, Form, MayBeListed}
-use Rattle.cert_text.specs.Text.{claim_text, entries_text, end_line, listing_text}
+use Rattle.cert_text.specs.Text.{title_text, title_of, entries_text, end_line, listing_text}
 use Rattle.cert_text.specs.declared.certificate.Certificate.{Certificate}
 use Rattle.cert_text.specs.declared.fault.CertFault.{CertFault}
 use Rattle.cert_text.specs.declared.fault.CertFault.TheVariants as faults
 use Rattle.cert_text.specs.declared.fault.CertEnd.{CertEnd}
 use Rattle.cert_text.specs.declared.head.Claim.{Claim}
+use Rattle.cert_text.specs.declared.head.Title.{Title}
 use Rattle.cert_text.specs.Reading.{IsReadCount, IsFrontOrNone, IsHead, Lacks, headed_text, Ends, HasLineFault, HasFaultBehind, BeginsWith, IsReadableOf, IsCertificateOutcome, HasFirstFault}
 use Rattle.cert_text.specs.Scan.{HasRead}
 use Rattle.cert_text.specs.Lines.{StopsAt, AreRead, IsStopAtEnd, fault_of, AreAll}
@@ -192,50 +193,59 @@ regroup : (a p b t e : List ℕ) → (((a ++ 10 ∷ []) ++ ((p ++ b) ++ 10 ∷ [
 regroup a p b t e = simp append_assoc
 
 -- The text of a head, of entries and of the end is the certificate's.
-pub listing_text_of : {A : Type 0} (claim : Claim) (form : Form A) (c : CertificateView A) → listing_text claim form c ≡ headed_text claim (length c.entries) (sfen_of c.problem) (entries_text form c.entries ++ end_line)
-listing_text_of claim form c = regroup (claim_text claim (length c.entries)) (codes "problem ") (sfen_of c.problem) (entries_text form c.entries) end_line
+pub listing_text_of : {A : Type 0} (claim : Claim) (form : Form A) (c : CertificateView A) → listing_text claim form c ≡ headed_text (title_of claim c) (length c.entries) (sfen_of c.problem) (entries_text form c.entries ++ end_line)
+listing_text_of claim form c = regroup (title_text (title_of claim c) (length c.entries)) (codes "problem ") (sfen_of c.problem) (entries_text form c.entries) end_line
 
 -- The text is the certificate's, perhaps behind the one front line.
 abbrev pub IsListingText : {A : Type 0} → Claim → Form A → CertificateView A → List ℕ → Type 0
 IsListingText claim form c bytes = (front : List ℕ) × IsFrontOrNone claim front × (bytes ≡ front ++ listing_text claim form c)
 
-pub listing_read : {A : Type 0} (claim : Claim) (form : Form A) (bytes sfen rest : List ℕ) (count : ℕ) (c : CertificateView A) → IsHead claim count sfen rest bytes → sfen ≡ sfen_of c.problem → IsKept c.problem → IsProblem c.problem
+pub listing_read : {A : Type 0} (claim : Claim) (form : Form A) (bytes sfen rest : List ℕ) (count : ℕ) (c : CertificateView A) → IsHead (title_of claim c) count sfen rest bytes → sfen ≡ sfen_of c.problem → IsKept c.problem → IsProblem c.problem
     → Ends form c.entries rest → length c.entries ≡ count → IsReadableOf form c × IsListingText claim form c bytes
 listing_read claim form bytes sfen rest count c head s kept is_problem ends n =
-    let same : headed_text claim count sfen rest ≡ headed_text claim (length c.entries) (sfen_of c.problem) (entries_text form c.entries ++ end_line) =
-    ap (λ (k : ℕ). headed_text claim k sfen rest) (sym n) ∙ (ap (λ (t : List ℕ). headed_text claim (length c.entries) t rest) s ∙ ap (λ (t : List ℕ). headed_text claim (length c.entries) (sfen_of c.problem) t) ends.text) in (
+    let title = title_of claim c in
+    let same : headed_text title count sfen rest ≡ headed_text title (length c.entries) (sfen_of c.problem) (entries_text form c.entries ++ end_line) =
+    ap (λ (k : ℕ). headed_text title k sfen rest) (sym n) ∙ (ap (λ (t : List ℕ). headed_text title (length c.entries) t rest) s ∙ ap (λ (t : List ℕ). headed_text title (length c.entries) (sfen_of c.problem) t) ends.text) in (
       record { kept = kept; is_problem = is_problem; count = subst IsReadCount (sym n) head.is_count; good = ends.good },
       (head.front, head.is_front, head.text ∙ ap (λ (t : List ℕ). head.front ++ t) (same ∙ sym (listing_text_of claim form c))),
     )
 
 -- The fault of the lines behind a head is the text's.
-pub fault_read : {A : Type 0} (claim : Claim) (form : Form A) (count : ℕ) (problem : Board) (rest bytes : List ℕ) (fault : CertFault)
-    → ((fault : CertFault) → HasLineFault form count rest fault → HasFaultBehind claim count problem rest fault)
-    → BeginsWith claim count problem rest bytes → HasLineFault form count rest fault → HasFirstFault bytes fault
-fault_read claim form count problem rest bytes faults.BadHead f begins h = absurd h
-fault_read claim form count problem rest bytes (faults.BadLine n) f begins h =
-    record { claim = claim; count = count; problem = problem; rest = rest; begins = begins; later = f (faults.BadLine n) h }
-fault_read claim form count problem rest bytes (faults.NotRising n) f begins h =
-    record { claim = claim; count = count; problem = problem; rest = rest; begins = begins; later = f (faults.NotRising n) h }
-fault_read claim form count problem rest bytes faults.WrongCount f begins h =
-    record { claim = claim; count = count; problem = problem; rest = rest; begins = begins; later = f faults.WrongCount h }
-fault_read claim form count problem rest bytes faults.NoEnd f begins h =
-    record { claim = claim; count = count; problem = problem; rest = rest; begins = begins; later = f faults.NoEnd h }
+pub fault_read : {A : Type 0} (title : Title) (form : Form A) (count : ℕ) (problem : Board) (rest bytes : List ℕ) (fault : CertFault)
+    → ((fault : CertFault) → HasLineFault form count rest fault → HasFaultBehind title.claim count problem rest fault)
+    → BeginsWith title count problem rest bytes → HasLineFault form count rest fault → HasFirstFault bytes fault
+fault_read title form count problem rest bytes faults.BadHead f begins h = absurd h
+fault_read title form count problem rest bytes (faults.BadLine n) f begins h =
+    record { title = title; count = count; problem = problem; rest = rest; begins = begins; later = f (faults.BadLine n) h }
+fault_read title form count problem rest bytes (faults.NotRising n) f begins h =
+    record { title = title; count = count; problem = problem; rest = rest; begins = begins; later = f (faults.NotRising n) h }
+fault_read title form count problem rest bytes faults.WrongCount f begins h =
+    record { title = title; count = count; problem = problem; rest = rest; begins = begins; later = f faults.WrongCount h }
+fault_read title form count problem rest bytes faults.NoEnd f begins h =
+    record { title = title; count = count; problem = problem; rest = rest; begins = begins; later = f faults.NoEnd h }
+
+-- The title with the claim that it has.
+abbrev pub claimed : Title → Claim → Title
+claimed title claim = record { version = title.version; claim = claim }
+
+-- The text begins so with the title's own claim, by what that is.
+pub begins_claimed : (title : Title) (claim : Claim) (count : ℕ) (problem : Board) (rest bytes : List ℕ) → title.claim ≡ claim → BeginsWith title count problem rest bytes → BeginsWith (claimed title claim) count problem rest bytes
+begins_claimed title claim count problem rest bytes is begins = subst (λ (c : Claim). BeginsWith (claimed title c) count problem rest bytes) is begins
 
 -- The same of all that was read, where it isn't what the head names.
-pub not_all_found : {A : Type 0} (claim : Claim) (form : Form A) (count : ℕ) (problem : Board) (rest bytes : List ℕ) (entries : List A) (last : List ℕ) (why : LinesStop) (fault : CertFault)
-    → ((fault : CertFault) → HasLineFault form count rest fault → HasFaultBehind claim count problem rest fault)
-    → BeginsWith claim count problem rest bytes → AreRead form rest entries last why → (AreAll entries why count → ⊥) → fault ≡ fault_of why (length entries + 1) → HasFirstFault bytes fault
-not_all_found claim form count problem rest bytes entries last why fault f begins are not is =
-    fault_read claim form count problem rest bytes fault f begins
+pub not_all_found : {A : Type 0} (title : Title) (form : Form A) (count : ℕ) (problem : Board) (rest bytes : List ℕ) (entries : List A) (last : List ℕ) (why : LinesStop) (fault : CertFault)
+    → ((fault : CertFault) → HasLineFault form count rest fault → HasFaultBehind title.claim count problem rest fault)
+    → BeginsWith title count problem rest bytes → AreRead form rest entries last why → (AreAll entries why count → ⊥) → fault ≡ fault_of why (length entries + 1) → HasFirstFault bytes fault
+not_all_found title form count problem rest bytes entries last why fault f begins are not is =
+    fault_read title form count problem rest bytes fault f begins
     (subst (HasLineFault form count rest) (sym is) (not_all_read form rest entries last why count are not))
 
 -- The certificate of all that was read, where it is what the head names.
-pub all_found : {A : Type 0} (claim : Claim) (form : Form A) (count : ℕ) (problem : Board) (rest bytes : List ℕ) (entries found : List A) (last : List ℕ) (why : LinesStop)
-    → BeginsWith claim count problem rest bytes → AreRead form rest entries last why → found ≡ entries → AreAll found why count
-    → IsReadableOf form (record { problem = problem; entries = found }) × IsListingText claim form (record { problem = problem; entries = found }) bytes
-all_found claim form count problem rest bytes entries found last why begins are same all =
-    listing_read claim form bytes (sfen_of problem) rest count (record { problem = problem; entries = found }) begins.head refl begins.kept begins.is_problem
+pub all_found : {A : Type 0} (title : Title) (form : Form A) (count : ℕ) (problem : Board) (rest bytes : List ℕ) (entries found : List A) (last : List ℕ) (why : LinesStop)
+    → BeginsWith title count problem rest bytes → AreRead form rest entries last why → found ≡ entries → AreAll found why count
+    → IsReadableOf form (record { version = title.version; problem = problem; entries = found }) × IsListingText title.claim form (record { version = title.version; problem = problem; entries = found }) bytes
+all_found title form count problem rest bytes entries found last why begins are same all =
+    listing_read title.claim form bytes (sfen_of problem) rest count (record { version = title.version; problem = problem; entries = found }) begins.head refl begins.kept begins.is_problem
     (subst (λ es. Ends form es rest) (sym same) (all_read form rest entries last why are all.0)) all.1
 
 -- What is passed on as it came is the same outcome.

@@ -4,6 +4,7 @@ use Rattle.std.specs.Ordering.{nat_cmp}
 use Rattle.std.specs.Cmp.Lexicographic.{slice_cmp}
 use Rattle.std.specs.declared.cmp.Ordering.TheVariants.{Less}
 use Rattle.mate_facts.specs.declared.entry.MateEntry.{MateEntry}
+use Rattle.hand_dominance.specs.declared.version.Version.{Version}
 use Rattle.board_core.specs.Board.{Board}
 use Rattle.board_core.specs.Kept.{IsKept}
 use Rattle.shogi_rules.specs.Tsume.{IsProblem}
@@ -11,8 +12,10 @@ use Rattle.board_core.specs.Text.{HasText}
 use Rattle.sfen_text.specs.Spelling.{sfen_of}
 use Rattle.cert_text.specs.Entries.{mate_entry_text, escape_entry_text}
 
--- A certificate: the problem that it is about, and its entries.
+-- A certificate: its version, which says for which positions its entries stand, the problem that it
+-- is about, and its entries.
 pub record CertificateView (Entry : Type 0) : Type 0 where
+  pub version : Version
   pub problem : Board
   pub entries : List Entry
 

@@ -1,5 +1,6 @@
 -- What is said of a certificate of either kind.
 use Rattle.std.specs.Prelude.{List}
+use Rattle.hand_dominance.specs.declared.version.Version.{Version}
 use Rattle.board_core.specs.Board.{Board}
 use Rattle.cert_text.specs.declared.certificate.Certificate.{Certificate}
 use Rattle.cert_text.specs.declared.certificate.Certificate.TheVariants.{Mate, Escape}
@@ -12,6 +13,11 @@ use Rattle.mate_facts.specs.Entries.{positions_of}
 abbrev pub claim_of : Certificate → Claim
 claim_of (Mate c) = claims.Mate
 claim_of (Escape c) = claims.Escape
+
+-- The version that a certificate is of.
+abbrev pub version_of : Certificate → Version
+version_of (Mate c) = c.version
+version_of (Escape c) = c.version
 
 -- The position that a certificate is about.
 abbrev pub problem_of : Certificate → Board

@@ -12,7 +12,7 @@ use Rattle.cert_text.specs.declared.limits.TheConstants.{MOST_ENTRIES}
 use Rattle.cert_text.specs.Entries.{line}
 use Rattle.cert_text.specs.Kinds.{claim_of}
 use Rattle.cert_text.specs.Certificate.{CertificateView, IsRising, Form, mate_form, escape_form, MayBeListed}
-use Rattle.cert_text.specs.Text.{claim_text, entries_text, end_line, certificate_text}
+use Rattle.cert_text.specs.Text.{title_text, entries_text, end_line, certificate_text}
 use Rattle.cert_text.specs.declared.certificate.Certificate.{Certificate}
 use Rattle.cert_text.specs.declared.certificate.Certificate.TheVariants as certificates
 use Rattle.cert_text.specs.declared.fault.CertFault.{CertFault}
@@ -21,6 +21,7 @@ use Rattle.cert_text.specs.declared.fault.CertEnd.{CertEnd}
 use Rattle.cert_text.specs.declared.fault.CertEnd.TheVariants as ends
 use Rattle.cert_text.specs.declared.head.Claim.{Claim}
 use Rattle.cert_text.specs.declared.head.Claim.TheVariants.{Mate, Escape}
+use Rattle.cert_text.specs.declared.head.Title.{Title}
 
 -- The byte isn't in the text.
 abbrev pub Lacks : ℕ → List ℕ → Type 0
@@ -38,8 +39,8 @@ abbrev pub IsReadCount : ℕ → Type 0
 IsReadCount count = (1 ≤ count) × (count ≤ MOST_ENTRIES)
 
 -- The two lines of a head with this SFEN text, and the rest behind them.
-abbrev pub headed_text : Claim → ℕ → List ℕ → List ℕ → List ℕ
-headed_text claim count sfen rest = claim_text claim count ++ 10 ∷ (codes "problem " ++ (sfen ++ 10 ∷ rest))
+abbrev pub headed_text : Title → ℕ → List ℕ → List ℕ → List ℕ
+headed_text title count sfen rest = title_text title count ++ 10 ∷ (codes "problem " ++ (sfen ++ 10 ∷ rest))
 
 -- Nothing, or the one line that may stand in front.
 abbrev pub IsFrontOrNone : Claim → List ℕ → Type 0
@@ -47,16 +48,16 @@ IsFrontOrNone claim front = (front ≡ []) ⊎ ((text : List ℕ) × IsFrontLine
 
 -- The text begins with the two lines of a head, perhaps behind the one front line, and then comes
 -- the rest.
-pub record IsHead (claim : Claim) (count : ℕ) (sfen rest bytes : List ℕ) : Type 0 where
+pub record IsHead (title : Title) (count : ℕ) (sfen rest bytes : List ℕ) : Type 0 where
   pub is_count : IsReadCount count
   pub is_line : Lacks 10 sfen
   pub front : List ℕ
-  pub is_front : IsFrontOrNone claim front
-  pub text : bytes ≡ front ++ headed_text claim count sfen rest
+  pub is_front : IsFrontOrNone title.claim front
+  pub text : bytes ≡ front ++ headed_text title count sfen rest
 
 -- The text begins with a head whose problem is one.
-pub record BeginsWith (claim : Claim) (count : ℕ) (problem : Board) (rest bytes : List ℕ) : Type 0 where
-  pub head : IsHead claim count (sfen_of problem) rest bytes
+pub record BeginsWith (title : Title) (count : ℕ) (problem : Board) (rest bytes : List ℕ) : Type 0 where
+  pub head : IsHead title count (sfen_of problem) rest bytes
   pub kept : IsKept problem
   pub is_problem : IsProblem problem
 
@@ -117,16 +118,16 @@ HasFaultBehind Escape count problem bytes fault = HasLineFault (escape_form prob
 
 -- Behind a head, which the text begins with, comes the fault.
 pub record HasLaterFault (bytes : List ℕ) (fault : CertFault) : Type 0 where
-  pub claim : Claim
+  pub title : Title
   pub count : ℕ
   pub problem : Board
   pub rest : List ℕ
-  pub begins : BeginsWith claim count problem rest bytes
-  pub later : HasFaultBehind claim count problem rest fault
+  pub begins : BeginsWith title count problem rest bytes
+  pub later : HasFaultBehind title.claim count problem rest fault
 
 -- No head stands at the front of the text.
 abbrev pub HasNoHead : List ℕ → Type 0
-HasNoHead bytes = (claim : Claim) (count : ℕ) (problem : Board) (rest : List ℕ) → BeginsWith claim count problem rest bytes → ⊥
+HasNoHead bytes = (title : Title) (count : ℕ) (problem : Board) (rest : List ℕ) → BeginsWith title count problem rest bytes → ⊥
 
 -- The text has the fault, and none before it.
 abbrev pub HasFirstFault : List ℕ → CertFault → Type 0

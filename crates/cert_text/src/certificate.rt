@@ -2,18 +2,21 @@
 ghost use Rattle.std.specs.Prelude.{◌≡◌, length, map};
 ghost use Rattle.cert_text.specs.Certificate.{IsListing};
 ghost use Rattle.mate_facts.specs.Entries.{AreApart};
-ghost use Rattle.cert_text.specs.Kinds.{claim_of, problem_of, positions_in, IsKeptBy};
+ghost use Rattle.cert_text.specs.Kinds.{version_of, claim_of, problem_of, positions_in, IsKeptBy};
 
 use crate::{Claim, Entry};
 use board_core::Position;
+use hand_dominance::Version;
 use mate_facts::MateEntry;
 use shogi_rules::Problem;
 use std::marker::Model;
 
-/// A certificate about a problem, with entries of one kind: they are in rising order of the bytes
-/// of their positions' SFEN texts, and each may be listed in a certificate about the problem.
+/// A certificate about a problem, of one [`Version`], with entries of one kind: they are in rising
+/// order of the bytes of their positions' SFEN texts, and each may be listed in a certificate about
+/// the problem.
 #[derive(Drop)]
 pub struct CertificateOf<E: Entry> {
+    version: Version,
     problem: Problem,
     entries: Vec<E>,
 }
@@ -23,9 +26,9 @@ impl<E: Entry> Model for CertificateOf<E> {
 
     ghost Value = { CertificateView E };
 
-    ghost view = { λ c. record { problem = c.problem.position; entries = c.entries.items } };
+    ghost view = { λ c. record { version = c.version; problem = c.problem.position; entries = c.entries.items } };
 
-    ghost invariant = { λ c. IsListing (E.form c.problem.position) (record { problem = c.problem.position; entries = c.entries.items }) };
+    ghost invariant = { λ c. IsListing (E.form c.problem.position) (record { version = c.version; problem = c.problem.position; entries = c.entries.items }) };
 }
 
 /// The certificate of a mate: entries with a rank, the attacker's move and a position.
@@ -35,13 +38,26 @@ pub type MateCertificate = CertificateOf<MateEntry>;
 pub type EscapeCertificate = CertificateOf<Position>;
 
 impl<E: Entry> CertificateOf<E> {
-    /// The certificate with these entries, which keep what a certificate keeps.
-    pub fn new(problem: Problem, entries: Vec<E>) -> CertificateOf<E>
+    /// The certificate of this version with these entries, which keep what a certificate keeps.
+    pub fn new(version: Version, problem: Problem, entries: Vec<E>) -> CertificateOf<E>
         requires { IsListing (E.form problem.position)
-            (record { problem = problem.position; entries = entries.items }) }
-        ensures { result ≡ record { problem = problem.position; entries = entries.items } }
+            (record { version = version; problem = problem.position; entries = entries.items }) }
+        ensures { result
+            ≡ record { version = version; problem = problem.position; entries = entries.items } }
     {
-        CertificateOf { problem, entries }
+        CertificateOf {
+            version,
+            problem,
+            entries,
+        }
+    }
+
+    /// Its version, which says for which positions its entries stand, beside their own. Takes no
+    /// memory.
+    pub fn version(&self) -> Version
+        ensures { result ≡ self.now.version }
+    {
+        self.version
     }
 
     /// The problem that it is about. Takes no memory.
@@ -71,6 +87,18 @@ impl<E: Entry> CertificateOf<E> {
     {
         let _entries = self.entries();
     }
+
+    /// The same certificate in this version. Takes no memory.
+    pub fn in_version(self, version: Version) -> CertificateOf<E>
+        ensures { result
+            ≡ record { version = version; problem = self.problem; entries = self.entries } }
+    {
+        CertificateOf {
+            version,
+            problem: self.problem,
+            entries: self.entries,
+        }
+    }
 }
 
 /// A certificate about a problem. Its form is kept; whether it is valid is for a checker to say.
@@ -83,6 +111,16 @@ pub enum Certificate {
 }
 
 impl Certificate {
+    /// The version that it is of. Takes no memory.
+    pub fn version(&self) -> Version
+        ensures { result ≡ version_of self.now }
+    {
+        match self {
+            Certificate::Mate(mate) => mate.version(),
+            Certificate::Escape(escape) => escape.version(),
+        }
+    }
+
     /// The problem that it is about. Takes no memory.
     pub fn problem(&self) -> &Problem
         ensures { result.now.position ≡ problem_of self.now }

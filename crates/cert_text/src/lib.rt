@@ -5,7 +5,8 @@
 //! them. Whether what it says is so is another crate's question. Here it keeps what its form
 //! promises: its positions rise by the bytes of their SFEN texts, so that none stands twice, each
 //! is a problem of the same side to move, ranks are from 1 to [`mate_facts::MOST_RANK`], and moves
-//! have a text.
+//! have a text. For which positions its entries stand, its version says, 1 or 2
+//! ([`hand_dominance::Version`]).
 //!
 //! [`CertificateOf`] is a certificate with entries of one kind ([`Entry`]); [`Certificate`] is one
 //! of either kind. [`read_cert`] and [`write_cert`] are its text both ways, and [`cert_laws`] are
@@ -27,7 +28,7 @@ mod write;
 pub use certificate::{Certificate, CertificateOf, EscapeCertificate, MateCertificate};
 pub use entry::Entry;
 pub use fault::{CertEnd, CertFault};
-pub use head::Claim;
+pub use head::{Claim, Title};
 pub use laws::cert_laws;
 pub use limits::MOST_ENTRIES;
 pub use lines::{LinesStop, ReadLines, read_lines};

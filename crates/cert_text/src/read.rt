@@ -7,7 +7,7 @@ ghost use Rattle.cert_text.specs.Certificate.{mate_form, escape_form};
 ghost use Rattle.cert_text.specs.Lines.{IsReadOf, AreAll, fault_of};
 ghost use Rattle.cert_text.specs.declared.head.Claim.TheVariants.{Mate, Escape};
 
-use crate::head::{Claim, head_of};
+use crate::head::{Claim, Title, head_of};
 use crate::lines::{LinesStop, ReadLines, read_lines};
 use crate::parts::problem_of_text;
 use crate::{CertEnd, CertFault, Certificate, Entry, EscapeCertificate, MateCertificate};
@@ -22,8 +22,8 @@ use usi_text::move_laws;
 /// aren't.
 #[derive(Drop)]
 pub struct OpenText<'a> {
-    /// What the certificate claims of its problem.
-    pub claim: Claim,
+    /// What the first line says: the version, and what the certificate claims of its problem.
+    pub title: Title,
     /// How many entries the head names.
     pub count: u32,
     /// The problem that the certificate is about.
@@ -38,7 +38,8 @@ fn listed<E: Entry>(lines: ReadLines<'_, E>, count: u32) -> Result<Vec<E>, CertF
     ensures same { IfOk result (λ found. found.items ≡ lines.entry.entries.items) }
     ensures fault { IfErr result (λ fault. fault
         ≡ fault_of lines.entry.stop (length lines.entry.entries.items + 1)) }
-    ensures not_all { IfErr result (λ _. ¬ AreAll lines.entry.entries.items lines.entry.stop count) }
+    ensures not_all { IfErr result (λ _.
+        ¬ AreAll lines.entry.entries.items lines.entry.stop count) }
 {
     let number = lines.entries.len() as u64 + 1;
     match lines.stop {
@@ -59,7 +60,7 @@ impl<'a> OpenText<'a> {
     /// and want of memory.
     pub fn open(alloc: Global, bytes: &'a [u8]) -> Result<OpenText<'a>, CertEnd>
         ensures begins { IfOk result (λ text.
-            BeginsWith text.claim text.count text.problem.position text.rest.now bytes.now) }
+            BeginsWith text.title text.count text.problem.position text.rest.now bytes.now) }
         ensures none { IfErr result (λ end. IsCertificateOutcome bytes.now (Err end)) }
     {
         let Some(head) = head_of(bytes) else {
@@ -70,7 +71,7 @@ impl<'a> OpenText<'a> {
             return Err(CertEnd::Fault(CertFault::BadHead));
         };
         Ok(OpenText {
-            claim: head.claim,
+            title: head.title,
             count: head.count,
             problem,
             rest: head.rest,
@@ -81,24 +82,25 @@ impl<'a> OpenText<'a> {
     /// Takes no memory.
     pub fn mate(self, lines: ReadLines<'_, MateEntry>) -> Result<Certificate, CertEnd>
         requires { IsReadOf (mate_form self.problem.position) lines self.rest.now }
-        ensures { (bytes : List ℕ)
-            → BeginsWith Mate self.entry.count self.entry.problem.position self.entry.rest.now bytes
+        ensures { (bytes : List ℕ) → self.entry.title.claim ≡ Mate
+            → BeginsWith self.entry.title self.entry.count self.entry.problem.position
+            self.entry.rest.now bytes
             → IsCertificateOutcome bytes result }
     {
         let entries = listed(lines, self.count)?;
-        Ok(Certificate::Mate(MateCertificate::new(self.problem, entries)))
+        Ok(Certificate::Mate(MateCertificate::new(self.title.version, self.problem, entries)))
     }
 
     /// The same of an escape's.
     pub fn escape(self, lines: ReadLines<'_, Position>) -> Result<Certificate, CertEnd>
         requires { IsReadOf (escape_form self.problem.position) lines self.rest.now }
-        ensures { (bytes : List ℕ)
-            → BeginsWith Escape self.entry.count self.entry.problem.position self.entry.rest.now
-            bytes
+        ensures { (bytes : List ℕ) → self.entry.title.claim ≡ Escape
+            → BeginsWith self.entry.title self.entry.count self.entry.problem.position
+            self.entry.rest.now bytes
             → IsCertificateOutcome bytes result }
     {
         let entries = listed(lines, self.count)?;
-        Ok(Certificate::Escape(EscapeCertificate::new(self.problem, entries)))
+        Ok(Certificate::Escape(EscapeCertificate::new(self.title.version, self.problem, entries)))
     }
 }
 
@@ -109,7 +111,7 @@ fn certificate_of(alloc: Global, bytes: &[u8]) -> Result<Certificate, CertEnd>
         Ok(text) => text,
         Err(end) => return Err(end),
     };
-    match text.claim {
+    match text.title.claim {
         Claim::Mate => {
             let lines = read_lines(alloc, text.rest, &text.problem)?;
             text.mate(lines)
@@ -121,10 +123,10 @@ fn certificate_of(alloc: Global, bytes: &[u8]) -> Result<Certificate, CertEnd>
     }
 }
 
-/// The certificate whose text it is (version 1, as [`write_cert`](crate::write_cert) writes it),
-/// perhaps behind one front line: `checkmate nomate` before an escape, `checkmate` and one or more
-/// moves before a mate (USI protocol). The moves of that line aren't compared with the certificate.
-/// A certificate has 1 to [`MOST_ENTRIES`](crate::MOST_ENTRIES) entries.
+/// The certificate whose text it is, of either version (as [`write_cert`](crate::write_cert) writes
+/// it), perhaps behind one front line: `checkmate nomate` before an escape, `checkmate` and one or
+/// more moves before a mate (USI protocol). The moves of that line aren't compared with the
+/// certificate. A certificate has 1 to [`MOST_ENTRIES`](crate::MOST_ENTRIES) entries.
 ///
 /// For any other text its first fault in reading order ([`CertFault`]). Errors: want of memory
 /// alone. Reads a line after the other, and keeps what it reads in a vector that doubles.

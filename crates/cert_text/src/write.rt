@@ -3,14 +3,17 @@ ghost use Rattle.std.specs.Prelude.{◌≡◌, ◌++◌, length, IfOk, IsOk, OnO
 ghost use Rattle.std.specs.Fmt.{decimal};
 ghost use Rattle.board_core.specs.Kept.{IsKept};
 ghost use Rattle.cert_text.specs.declared.certificate.Certificate.TheVariants.{Mate, Escape};
+ghost use Rattle.hand_dominance.specs.declared.version.Version.{Version};
 ghost use Rattle.cert_text.specs.declared.head.Claim.{Claim};
-ghost use Rattle.cert_text.specs.Text.{claim_text, head_text, listing_text, certificate_text};
+ghost use Rattle.cert_text.specs.declared.head.Title.{Title};
+ghost use Rattle.cert_text.specs.Text.{version_front, title_text, head_text, listing_text, certificate_text};
 ghost use Rattle.cert_text.specs.Entries.{line, problem_line};
 ghost use Rattle.cert_text.specs.Reading.{IsReadCount, IsReadableOf, IsWithinLimits, IsReadable};
 
-use crate::head::Claim;
+use crate::head::{Claim, Title};
 use crate::{Certificate, CertificateOf, Entry, EscapeCertificate, MateCertificate};
 use board_core::Position;
+use hand_dominance::Version;
 use itoa::Buffer;
 use sfen_text::append_sfen;
 use std::alloc::{AllocError, Global};
@@ -25,11 +28,21 @@ pub fn append_number(out: &mut Vec<u8>, number: u64) -> Result<(), AllocError>
     Ok(())
 }
 
-fn append_first_line(out: &mut Vec<u8>, claim: Claim, count: usize) -> Result<(), AllocError>
-    ensures { OnOk result (out.new.items ≡ out.old.items ++ line (claim_text claim count)) }
+// What stands at the front of a first line, by the version.
+fn front_of(version: Version) -> &'static [u8]
+    ensures { result.now ≡ version_front version }
 {
-    out.extend_from_slice(b"certificate 1 ")?;
-    out.extend_from_slice(claim.word())?;
+    match version {
+        Version::One => b"certificate 1 ",
+        Version::Two => b"certificate 2 ",
+    }
+}
+
+fn append_first_line(out: &mut Vec<u8>, title: Title, count: usize) -> Result<(), AllocError>
+    ensures { OnOk result (out.new.items ≡ out.old.items ++ line (title_text title count)) }
+{
+    out.extend_from_slice(front_of(title.version))?;
+    out.extend_from_slice(title.claim.word())?;
     out.push(b' ')?;
     append_number(out, count as u64)?;
     out.push(b'\n')?;
@@ -47,17 +60,17 @@ fn append_problem_line(out: &mut Vec<u8>, problem: &Position) -> Result<(), Allo
 
 fn append_head(
     out: &mut Vec<u8>,
-    claim: Claim,
+    title: Title,
     count: usize,
     problem: &Position,
 ) -> Result<(), AllocError>
     ensures text { OnOk result (out.new.items
-        ≡ out.old.items ++ head_text claim count problem.now) }
+        ≡ out.old.items ++ head_text title count problem.now) }
     ensures kept { IsKept problem.now }
 {
     // What the problem keeps, even where memory is wanted.
     problem.laws();
-    append_first_line(out, claim, count)?;
+    append_first_line(out, title, count)?;
     append_problem_line(out, problem)
 }
 
@@ -72,7 +85,11 @@ fn append_listing<E: Entry>(
         → IsReadableOf (E.form certificate.now.problem) certificate.now }
 {
     let entries = certificate.entries();
-    append_head(out, claim, entries.len(), &certificate.problem().position)?;
+    let title = Title {
+        version: certificate.version(),
+        claim,
+    };
+    append_head(out, title, entries.len(), &certificate.problem().position)?;
     for entry in entries {
         entry.append(out)?;
     }
@@ -119,11 +136,11 @@ pub fn append_cert(out: &mut Vec<u8>, certificate: &Certificate) -> Result<(), A
     }
 }
 
-/// The text of a certificate, version 1: the line `certificate 1 KIND N` with its kind, `mate` or
-/// `escape`, and the number of its entries; the line `problem SFEN`; a line for each entry, `RANK
-/// MOVE SFEN` in a mate and `SFEN` in an escape; and the line `end`. Each line ends with a line
-/// feed. Positions are written as [`sfen_text::write_sfen`] does, moves as [`usi_text::write_move`]
-/// does. Errors: want of memory alone.
+/// The text of a certificate: the line `certificate V KIND N` with its version, 1 or 2, its kind,
+/// `mate` or `escape`, and the number of its entries; the line `problem SFEN`; a line for each
+/// entry, `RANK MOVE SFEN` in a mate and `SFEN` in an escape; and the line `end`. Each line ends
+/// with a line feed. Positions are written as [`sfen_text::write_sfen`] does, moves as
+/// [`usi_text::write_move`] does. Errors: want of memory alone.
 pub fn write_cert(alloc: Global, certificate: &Certificate) -> Result<Vec<u8>, AllocError>
     ensures text { IfOk result (λ text. text.items ≡ certificate_text certificate.now) }
     // What is written is read again, where it is within the limits: see `again` of `read_cert`.

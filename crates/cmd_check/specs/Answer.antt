@@ -41,6 +41,11 @@ pub record IsJudged (problem : Option (List ℕ)) (input : List ℕ) (judgement 
   pub judged_for : IsJudgedFor problem certificate board
   pub true_of : IsTrueOfCertificate board certificate judgement
 
+-- The bytes of an input are the text of this certificate, and of no other.
+pub record IsTextOfOne (input : List ℕ) (certificate : Certificate) : Type 0 where
+  pub read : IsCertificateOutcome input (Ok certificate)
+  pub only : (c : Certificate) → IsReadable c → IsTextOf c input → c ≡ certificate
+
 -- The bytes of an input are no certificate's text, and have this first fault as one, and no other.
 pub record IsNoCertificate (input : List ℕ) (fault : CertFault) : Type 0 where
   pub first : HasFirstFault input fault

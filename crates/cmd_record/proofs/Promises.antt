@@ -18,7 +18,8 @@ use Rattle.cmd_record.specs.declared.answer.RecordAnswer.{RecordAnswer}
 use Rattle.cmd_record.specs.declared.answer.RecordAnswer.TheVariants.{Recorded, Refused}
 use Rattle.cmd_record.specs.declared.fault.RecordFault.{RecordFault}
 use Rattle.cmd_record.specs.declared.fault.RecordFault.TheVariants as faults
-use Rattle.cmd_record.specs.Answer.{HasFault, IsTextOfOne}
+use Rattle.cmd_check.specs.Answer.{IsTextOfOne}
+use Rattle.cmd_record.specs.Answer.{HasFault}
 use Rattle.cmd_record.specs.Headline.{EndsWithRecord, HasMateLeft, IsBrokenOff, IsMateText, IsTextWith}
 use Rattle.cmd_record.specs.Meaning.{record_meaning}
 

@@ -1,14 +1,12 @@
 -- When an answer to `record` is true, and when its text has a fault.
-use Rattle.std.specs.Prelude.{◌≡◌, ℕ, List, Ok}
+use Rattle.std.specs.Prelude.{ℕ, List}
 use Rattle.board_core.specs.declared.moves.Move.{Move}
 use Rattle.board_core.specs.Board.{Board}
-use Rattle.cert_text.specs.declared.certificate.Certificate.{Certificate}
 use Rattle.cert_text.specs.declared.certificate.Certificate.TheVariants.{Mate, Escape}
 use Rattle.cert_text.specs.Certificate.{Mating, Escaping}
-use Rattle.cert_text.specs.Reading.{IsReadable, IsTextOf, IsCertificateOutcome}
 use Rattle.cert_check.specs.Valid.{ValidMate, ShowsMate}
 use Rattle.play_line.specs.Line.{IsMainLine}
-use Rattle.cmd_check.specs.Answer.{IsNoCertificate, IsRefusal}
+use Rattle.cmd_check.specs.Answer.{IsNoCertificate, IsRefusal, IsTextOfOne}
 use Rattle.cmd_record.specs.declared.answer.RecordAnswer.{RecordAnswer}
 use Rattle.cmd_record.specs.declared.answer.RecordAnswer.TheVariants.{Recorded, Refused}
 use Rattle.cmd_record.specs.declared.fault.RecordFault.{RecordFault}
@@ -26,11 +24,6 @@ pub record HasMainLine (c : Mating) (problem : Board) (moves : List Move) : Type
 abbrev pub IsTrueOfMate : Mating → RecordAnswer → Type 0
 IsTrueOfMate c (Recorded problem moves) = HasMainLine c problem.position moves
 IsTrueOfMate c (Refused entry why) = IsRefusal c.problem (Mate c) entry why
-
--- The bytes of an input are the text of this certificate, and of no other.
-pub record IsTextOfOne (input : List ℕ) (certificate : Certificate) : Type 0 where
-  pub read : IsCertificateOutcome input (Ok certificate)
-  pub only : (c : Certificate) → IsReadable c → IsTextOf c input → c ≡ certificate
 
 -- The bytes of an input are the text of one mate's certificate, of which the answer is true.
 pub record IsAnswered (input : List ℕ) (answer : RecordAnswer) : Type 0 where

@@ -10,24 +10,25 @@ use Rattle.position_places.specs.Boards.{ArePlacesOnBoard}
 use Rattle.bit_boards.specs.declared.piece.Side.{Side}
 use Rattle.board_core.specs.Board.{Board}
 use Rattle.mate_facts.specs.declared.entry.MateEntry.{MateEntry}
+use Rattle.hand_dominance.specs.declared.version.Version.TheVariants.{Two}
 use Rattle.hand_dominance.specs.Dominance.{Dominates}
 use Rattle.dominance_places.proofs.Listed.{place_here}
 use Rattle.dominance_places.specs.declared.found.Best.{Best}
 use Rattle.dominance_places.specs.Best.{IsBetter}
-use Rattle.dominance_places.specs.Found.{ComesBefore, IsFoundDominated, StandsDominated}
+use Rattle.dominance_places.specs.Found.{ComesBefore, IsFoundCovered, StandsCovered}
 
 -- No entry that the position dominates stands at the place that is the k-th of these.
 abbrev pub IsNoneAt : Side → List MateEntry → Board → List ℕ → ℕ → Type 0
-IsNoneAt attacker entries position places k = (place : ℕ) → slice_get places k ≡ Some place → ¬ StandsDominated attacker entries position place
+IsNoneAt attacker entries position places k = (place : ℕ) → slice_get places k ≡ Some place → ¬ StandsCovered Two entries attacker position place
 
 -- The entry at a place comes before what the position dominates at the k-th of these places.
 abbrev pub IsBeforeAt : Side → List MateEntry → Board → List ℕ → ℕ → MateEntry → ℕ → Type 0
 IsBeforeAt attacker entries position places place entry k = (other : ℕ) → slice_get places k ≡ Some other
-    → (below : StandsDominated attacker entries position other) → ComesBefore place entry other below.entry
+    → (below : StandsCovered Two entries attacker position other) → ComesBefore place entry other below.entry
 
 -- What was found is the best of those at the first n places.
 pub record IsBestOf (attacker : Side) (entries : List MateEntry) (position : Board) (places : List ℕ) (n : ℕ) (best : Best) : Type 0 where
-  pub stands : StandsDominated attacker entries position best.place
+  pub stands : StandsCovered Two entries attacker position best.place
   pub ranked : stands.entry.rank.number ≡ best.rank
   pub at : ℕ
   pub soon : at < n
@@ -71,7 +72,7 @@ entry_here entries position places i entry are low is =
 -- What stands at the place that was looked at last is the entry that was read there.
 last_is : (attacker : Side) (entries : List MateEntry) (position : Board) (places : List ℕ) (n : ℕ) (entry : MateEntry)
     → EntryHere entries position (get_or places n 0) entry → (place : ℕ) → slice_get places n ≡ Some place
-    → (stands : StandsDominated attacker entries position place) → (get_or places n 0 ≡ place) × (stands.entry ≡ entry)
+    → (stands : StandsCovered Two entries attacker position place) → (get_or places n 0 ≡ place) × (stands.entry ≡ entry)
 last_is attacker entries position places n entry here place there stands =
     let place_is : get_or places n 0 ≡ place = get_or_from_slice_get places n place 0 there in
     let same : Some stands.entry ≡ Some entry = sym stands.there ∙ subst (λ (m : ℕ). slice_get entries m ≡ Some entry) place_is here.there in
@@ -82,7 +83,7 @@ none_last : (attacker : Side) (entries : List MateEntry) (position : Board) (pla
     → EntryHere entries position (get_or places n 0) entry → ¬ Dominates attacker position entry.at → IsNoneAt attacker entries position places n
 none_last attacker entries position places n entry here not place there stands =
     let last = last_is attacker entries position places n entry here place there stands in
-    not (subst (λ (e : MateEntry). Dominates attacker position e.at) last.1 stands.above)
+    not (subst (λ (e : MateEntry). Dominates attacker position e.at) last.1 stands.covers)
 
 -- What isn't dominated changes nothing.
 pub more_same : (attacker : Side) (entries : List MateEntry) (position : Board) (places : List ℕ) (n : ℕ) (entry : MateEntry) (best : Option Best)
@@ -120,7 +121,7 @@ newer_best : (attacker : Side) (entries : List MateEntry) (position : Board) (pl
     → get_or places n 0 ≡ next.place → entry.rank.number ≡ next.rank
     → ((k : ℕ) → k < n → IsBeforeAt attacker entries position places next.place entry k) → IsBestOf attacker entries position places (n + 1) next
 newer_best attacker entries position places n entry next low here above place_is rank_is before = record {
-  stands = record { entry = entry; there = subst (λ (m : ℕ). slice_get entries m ≡ Some entry) place_is here.there; above = above };
+  stands = record { entry = entry; there = subst (λ (m : ℕ). slice_get entries m ≡ Some entry) place_is here.there; covers = above };
   ranked = rank_is;
   at = n;
   soon = omega arith;
@@ -178,27 +179,27 @@ more_better attacker entries position places n entry (Some first) next result lo
 
 -- What the position dominates stands at one of the places.
 placed : (attacker : Side) (entries : List MateEntry) (position : Board) (places : List ℕ) (n place : ℕ)
-    → ArePlacesOnBoard (positions_of entries) position places → length places ≤ n → StandsDominated attacker entries position place
+    → ArePlacesOnBoard (positions_of entries) position places → length places ≤ n → StandsCovered Two entries attacker position place
     → (k : ℕ) × (k < n) × (slice_get places k ≡ Some place)
 placed attacker entries position places n place are all stands =
     let inside = are.all place (record {
       other = stands.entry.at;
       there = slice_get-map (λ (e : MateEntry). e.at) entries place ∙ ap (option_map (λ (e : MateEntry). e.at)) stands.there;
-      same = (sym stands.above.cells, sym stands.above.turn);
+      same = (sym stands.covers.cells, sym stands.covers.turn);
     }) in
     let within = slice_get_within places inside.0 place (at_place places place inside) in
     (inside.0, omega (arith, within, all), at_place places place inside)
 
 pub none_below : (attacker : Side) (entries : List MateEntry) (position : Board) (places : List ℕ) (n : ℕ)
     → ArePlacesOnBoard (positions_of entries) position places → length places ≤ n → Among attacker entries position places n None
-    → IsFoundDominated attacker entries position None
+    → IsFoundCovered Two entries attacker position None
 none_below attacker entries position places n are all among = λ place stands.
     let at = placed attacker entries position places n place are all stands in
     among at.0 at.1 place at.2 stands
 
 pub best_below : (attacker : Side) (entries : List MateEntry) (position : Board) (places : List ℕ) (n : ℕ) (best : Best)
     → ArePlacesOnBoard (positions_of entries) position places → length places ≤ n → Among attacker entries position places n (Some best)
-    → IsFoundDominated attacker entries position (Some best.place)
+    → IsFoundCovered Two entries attacker position (Some best.place)
 best_below attacker entries position places n best are all among = record {
   stands = among.stands;
   least = λ other below.

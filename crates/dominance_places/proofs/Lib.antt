@@ -1,2 +1,3 @@
 mod Among
 mod Listed
+mod Same

@@ -5,8 +5,9 @@ use Rattle.list_laws.proofs.Standing.{contained, at_place}
 use Rattle.position_places.specs.Boards.{ArePlacesOnBoard, StandsOnBoard}
 use Rattle.bit_boards.specs.declared.piece.Side.{Side}
 use Rattle.board_core.specs.Board.{Board}
+use Rattle.hand_dominance.specs.declared.version.Version.TheVariants.{Two}
 use Rattle.hand_dominance.specs.Dominance.{Dominates}
-use Rattle.hand_dominance.specs.BorneOut.{IsDominatedByListed}
+use Rattle.hand_dominance.specs.BorneOut.{IsCovered}
 
 -- What stands at the k-th of these places doesn't dominate the position.
 abbrev pub IsBarAt : Side → List Board → Board → List ℕ → ℕ → Type 0
@@ -56,14 +57,14 @@ bar_more attacker positions position places n listed here not so_far =
     not (subst (λ (b : Board). Dominates attacker b position) (same_Some other listed same) below))
 
 pub is_dominated_here : (attacker : Side) (positions : List Board) (position : Board) (place : ℕ) (listed : Board) → PositionHere positions position place listed
-    → Dominates attacker listed position → IsDominatedByListed attacker positions position
+    → Dominates attacker listed position → IsCovered Two positions attacker position
 is_dominated_here attacker positions position place listed here below =
-    record { listed = listed; inside = contained positions place listed here.there; below = below }
+    record { listed = listed; inside = contained positions place listed here.there; covers = below }
 
 pub all_bar : (attacker : Side) (positions : List Board) (position : Board) (places : List ℕ) (n : ℕ) → ArePlacesOnBoard positions position places
-    → length places ≤ n → ((k : ℕ) → k < n → IsBarAt attacker positions position places k) → ¬ IsDominatedByListed attacker positions position
+    → length places ≤ n → ((k : ℕ) → k < n → IsBarAt attacker positions position places k) → ¬ IsCovered Two positions attacker position
 all_bar attacker positions position places n are all bar is =
     let there = at_place positions is.listed is.inside in
-    let inside = are.all is.inside.0 (record { other = is.listed; there = there; same = (is.below.cells, is.below.turn) }) in
+    let inside = are.all is.inside.0 (record { other = is.listed; there = there; same = (is.covers.cells, is.covers.turn) }) in
     let within = slice_get_within places inside.0 is.inside.0 (at_place places is.inside.0 inside) in
-    bar inside.0 (omega (arith, within, all)) is.inside.0 is.listed (at_place places is.inside.0 inside) there is.below
+    bar inside.0 (omega (arith, within, all)) is.inside.0 is.listed (at_place places is.inside.0 inside) there is.covers

@@ -2,3 +2,4 @@
 pub mod Best
 pub mod Found
 pub mod Hands
+pub mod Covering

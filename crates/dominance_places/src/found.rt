@@ -3,8 +3,9 @@ ghost use Rattle.std.specs.Prelude.{◌≡◌, ◌↔◌, List, IfOk, IsTrue};
 ghost use Rattle.board_core.specs.Board.{Board};
 ghost use Rattle.mate_facts.specs.Entries.{positions_of};
 ghost use Rattle.position_places.specs.Places.{AreBoardPlacesOf};
-ghost use Rattle.hand_dominance.specs.BorneOut.{IsDominatedByListed};
-ghost use Rattle.dominance_places.specs.Found.{IsFoundDominated};
+ghost use Rattle.hand_dominance.specs.declared.version.Version.TheVariants.{Two};
+ghost use Rattle.hand_dominance.specs.BorneOut.{IsCovered};
+ghost use Rattle.dominance_places.specs.Found.{IsFoundCovered};
 ghost use Rattle.dominance_places.specs.Best.{IsBetter};
 
 use crate::hands::has_better_hands;
@@ -43,7 +44,7 @@ pub fn least_dominated(
     places: &mut Vec<usize>,
 ) -> Result<Option<usize>, AllocError>
     requires { AreBoardPlacesOf boards.now (positions_of entries.now) }
-    ensures { IfOk result (IsFoundDominated attacker entries.now position.now) }
+    ensures { IfOk result (IsFoundCovered Two entries.now attacker position.now) }
 {
     boards.on_board(position, places)?;
     let mut best = None;
@@ -75,7 +76,7 @@ pub fn is_dominated(
 ) -> Result<bool, AllocError>
     requires { AreBoardPlacesOf boards.now positions.now }
     ensures { IfOk result (λ found. IsTrue found
-        ↔ IsDominatedByListed attacker positions.now position.now) }
+        ↔ IsCovered Two positions.now attacker position.now) }
 {
     boards.on_board(position, places)?;
     for place in places.as_slice() {

@@ -3,8 +3,9 @@
 use crate::same::same;
 use crate::texts::{CHASE, MATE_IN_ONE, TWO_ROOKS};
 use board_core::{Kind, Move, Square};
-use cert_check::{Verdict, Why, check};
+use cert_check::{Verdict, Why, check, upgrade};
 use cert_text::read_cert;
+use hand_dominance::Version;
 use std::test::Fail;
 use wide_check::check_wide;
 
@@ -33,6 +34,51 @@ const OPEN_ESCAPE: &str =
 const BROKEN_CHASE: &str =
     "certificate 1 escape 5\nproblem 5k3/9/9/9/9/9/9/9/4R4 b -\n4k4/9/9/9/9/9/9/9/9 b r\n5k3/9/9/9/9/9/9/9/4R4 b -\n5k3/9/9/9/9/9/9/9/9 b r\n9/4k4/9/9/9/9/9/9/9 b r\n9/5k3/9/9/9/9/9/9/9 b r\nend\n";
 
+// The problem isn't listed, but has a pawn more in hand than what is.
+const RICHER_1: &str =
+    "certificate 1 mate 1\nproblem 4k4/9/4P4/9/9/9/9/9/9 b GP\n1 G*5b 4k4/9/4P4/9/9/9/9/9/9 b G\nend\n";
+
+const RICHER_2: &str =
+    "certificate 2 mate 1\nproblem 4k4/9/4P4/9/9/9/9/9/9 b GP\n1 G*5b 4k4/9/4P4/9/9/9/9/9/9 b G\nend\n";
+
+// The problem has no gold in hand.
+const EMPTY_HANDED: &str =
+    "certificate 2 mate 1\nproblem 4k4/9/4P4/9/9/9/9/9/9 b -\n1 G*5b 4k4/9/4P4/9/9/9/9/9/9 b G\nend\n";
+
+// One of the two golds might have come into the other hand.
+const HELD_BY_BOTH: &str =
+    "certificate 2 mate 1\nproblem 4k4/9/4P4/9/9/9/9/9/9 b Gg\n1 G*5b 4k4/9/4P4/9/9/9/9/9/9 b G\nend\n";
+
+// The position after one evasion is listed with the root's rank, and with a lower one where a pawn
+// less is in hand.
+const RANKS_1: &str =
+    "certificate 1 mate 5\nproblem 9/4k4/8R/9/9/9/9/9/9 b RP\n1 1c1a 3k5/R8/8R/9/9/9/9/9/9 b -\n1 1c1a 4k4/R8/8R/9/9/9/9/9/9 b -\n1 1c1a 5k3/R8/8R/9/9/9/9/9/9 b -\n2 1c1a 5k3/R8/8R/9/9/9/9/9/9 b P\n2 R*9b 9/4k4/8R/9/9/9/9/9/9 b RP\nend\n";
+
+const RANKS_2: &str =
+    "certificate 2 mate 5\nproblem 9/4k4/8R/9/9/9/9/9/9 b RP\n1 1c1a 3k5/R8/8R/9/9/9/9/9/9 b -\n1 1c1a 4k4/R8/8R/9/9/9/9/9/9 b -\n1 1c1a 5k3/R8/8R/9/9/9/9/9/9 b -\n2 1c1a 5k3/R8/8R/9/9/9/9/9/9 b P\n2 R*9b 9/4k4/8R/9/9/9/9/9/9 b RP\nend\n";
+
+// The root's rank is that of what the positions after it are, or dominate.
+const EQUAL_RANKS_2: &str =
+    "certificate 2 mate 4\nproblem 9/4k4/8R/9/9/9/9/9/9 b RP\n1 1c1a 3k5/R8/8R/9/9/9/9/9/9 b P\n1 1c1a 4k4/R8/8R/9/9/9/9/9/9 b -\n1 1c1a 5k3/R8/8R/9/9/9/9/9/9 b -\n1 R*9b 9/4k4/8R/9/9/9/9/9/9 b RP\nend\n";
+
+// The problem isn't listed, but has a pawn less in hand than what is, or a pawn more.
+const POORER_1: &str =
+    "certificate 1 escape 3\nproblem 4k4/9/4P4/9/9/9/9/9/9 b -\n4k4/9/4P4/9/9/9/9/9/9 b P\n9/4k4/9/9/9/9/9/9/9 b Pp\n9/9/4k4/9/9/9/9/9/9 b 2p\nend\n";
+
+const POORER_2: &str =
+    "certificate 2 escape 3\nproblem 4k4/9/4P4/9/9/9/9/9/9 b -\n4k4/9/4P4/9/9/9/9/9/9 b P\n9/4k4/9/9/9/9/9/9/9 b Pp\n9/9/4k4/9/9/9/9/9/9 b 2p\nend\n";
+
+const TOO_RICH: &str =
+    "certificate 2 escape 3\nproblem 4k4/9/4P4/9/9/9/9/9/9 b 2P\n4k4/9/4P4/9/9/9/9/9/9 b P\n9/4k4/9/9/9/9/9/9/9 b Pp\n9/9/4k4/9/9/9/9/9/9 b 2p\nend\n";
+
+// Of the three entries the last is left out: the king goes back, and the first dominates that.
+const FEWER: &str =
+    "certificate 2 escape 2\nproblem 4k4/9/4P4/9/9/9/9/9/9 b -\n4k4/9/4P4/9/9/9/9/9/9 b P\n9/4k4/9/9/9/9/9/9/9 b Pp\nend\n";
+
+// The second is left out too.
+const TOO_FEW: &str =
+    "certificate 2 escape 1\nproblem 4k4/9/4P4/9/9/9/9/9/9 b -\n4k4/9/4P4/9/9/9/9/9/9 b P\nend\n";
+
 fn plain(from: Square, to: Square) -> Move {
     Move::Board {
         from,
@@ -58,6 +104,7 @@ fn certificates_are_accepted_or_refused_with_the_first_reason(rt: HostRuntime) -
     let out = plain(Square::on(5, 1), Square::on(4, 2));
     let up = plain(Square::on(5, 2), Square::on(4, 1));
     let along = plain(Square::on(5, 9), Square::on(4, 9));
+    let push = plain(Square::on(5, 3), Square::on(5, 2));
     let cases = [
         (MATE_IN_ONE, Verdict::Accepted),
         (TWO_ROOKS, Verdict::Accepted),
@@ -69,6 +116,18 @@ fn certificates_are_accepted_or_refused_with_the_first_reason(rt: HostRuntime) -
         (NO_ROOT, refused(0, Why::RootMissing)),
         (OPEN_ESCAPE, refused(2, Why::CheckUnanswered(pawn))),
         (BROKEN_CHASE, refused(2, Why::CheckUnanswered(along))),
+        (RICHER_1, refused(0, Why::RootMissing)),
+        (RICHER_2, Verdict::Accepted),
+        (EMPTY_HANDED, refused(0, Why::RootMissing)),
+        (HELD_BY_BOTH, refused(0, Why::RootMissing)),
+        (RANKS_1, refused(5, Why::RankNotLower(up))),
+        (RANKS_2, Verdict::Accepted),
+        (EQUAL_RANKS_2, refused(4, Why::RankNotLower(up))),
+        (POORER_1, refused(0, Why::RootMissing)),
+        (POORER_2, Verdict::Accepted),
+        (TOO_RICH, refused(0, Why::RootMissing)),
+        (FEWER, Verdict::Accepted),
+        (TOO_FEW, refused(1, Why::CheckUnanswered(push))),
     ];
     for (text, expected) in &cases {
         let certificate = read_cert(rt.alloc(), text.as_bytes())?;
@@ -79,6 +138,17 @@ fn certificates_are_accepted_or_refused_with_the_first_reason(rt: HostRuntime) -
             let verdict = check_wide(&rt, rt.alloc(), problem, &certificate, pieces)?;
             same(&rt, (pieces, text), verdict, *expected);
         }
+    }
+    Ok(())
+}
+
+#[test]
+fn what_is_accepted_in_version_1_is_accepted_in_version_2(rt: HostRuntime) -> Result<(), Fail> {
+    for text in [MATE_IN_ONE, TWO_ROOKS, PAWN_DROPS, CHASE, RICHER_2] {
+        let certificate = upgrade(read_cert(rt.alloc(), text.as_bytes())?);
+        same(&rt, text, certificate.version(), Version::Two);
+        let verdict = check(rt.alloc(), certificate.problem(), &certificate)?;
+        same(&rt, text, verdict, Verdict::Accepted);
     }
     Ok(())
 }

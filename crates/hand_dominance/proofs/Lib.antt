@@ -2,3 +2,4 @@ pub mod Hands
 pub mod Moves
 pub mod Carried
 pub mod Listed
+pub mod Above

@@ -1,6 +1,5 @@
--- What lists of positions bear out by dominance.
-use Rattle.std.proofs.Common.{◌≡◌, ◌≤◌, ℕ, zero, suc, List, [], Contains, arith, ap, sym, refl, ◌∙◌, subst}
-use Rattle.list_laws.proofs.Standing.{in_first}
+-- What lists of positions bear out, in both versions.
+use Rattle.std.proofs.Common.{◌≡◌, ◌≤◌, inl, ℕ, zero, suc, List, Contains, arith, ap, sym, refl, ◌∙◌, subst}
 use Rattle.bit_boards.specs.declared.piece.Side.{Side}
 use Rattle.bit_boards.specs.Kind.{other, place_of}
 use Rattle.board_core.specs.declared.moves.Move.{Move}
@@ -9,11 +8,12 @@ use Rattle.board_core.specs.Kept.{IsKept}
 use Rattle.shogi_rules.specs.Rules.{after}
 use Rattle.shogi_rules.specs.Tsume.{IsCheck, IsEvasion}
 use Rattle.shogi_rules.proofs.Offered.{kept_after}
-use Rattle.mate_def.specs.Mate.{after_both, RankAtMost, IsClosed}
+use Rattle.mate_def.specs.Mate.{after_both, RankAtMost, Escapes}
 use Rattle.mate_facts.specs.declared.entry.MateEntry.{MateEntry}
-use Rattle.mate_facts.specs.Entries.{IsBorneOut}
+use Rattle.hand_dominance.specs.declared.version.Version.{Version}
+use Rattle.hand_dominance.specs.declared.version.Version.TheVariants.{One, Two}
 use Rattle.hand_dominance.specs.Dominance.{Dominates}
-use Rattle.hand_dominance.specs.BorneOut.{AreBorneOutByDominance, AreKept, IsBorneOutByDominance, IsClosedByDominance, IsDominatedByListed}
+use Rattle.hand_dominance.specs.BorneOut.{Covers, AreBorneOut, AreKept, AreClosed, IsBorneOut, IsCovered, IsHeld}
 use Rattle.hand_dominance.proofs.Hands.{less_count, more_count}
 use Rattle.hand_dominance.proofs.Moves.{handed, same_board, after_handed}
 use Rattle.hand_dominance.proofs.Carried.{IsShifted, less_in, more_in, shifted_under, rank_up, carries_up, check_up, evasion_down, shifted_check, shifted_evasion}
@@ -31,8 +31,18 @@ above_too attacker a b c one two = record {
   less = λ k. let low = one.less k in let high = two.less k in omega (arith, low, high);
 }
 
+-- what covers a position dominates it, in both versions
+pub dominates : (version : Version) (attacker : Side) (over under : Board) → Covers version attacker over under → Dominates attacker over under
+dominates One attacker over under c = subst (λ (b : Board). Dominates attacker b under) (sym c) (itself attacker under)
+dominates Two attacker over under c = c
+
+-- what is the position itself covers it
+pub covers_stay : (version : Version) (attacker : Side) (over under : Board) → Covers One attacker over under → Covers version attacker over under
+covers_stay One attacker over under c = c
+covers_stay Two attacker over under c = dominates One attacker over under c
+
 -- the position dominates the one with so many less, and more
-above_shifted : (attacker : Side) (less more : List ℕ) (b : Board) (black white : List ℕ) → IsShifted attacker less more b black white
+pub above_shifted : (attacker : Side) (less more : List ℕ) (b : Board) (black white : List ℕ) → IsShifted attacker less more b black white
     → Dominates attacker b (handed b black white)
 above_shifted attacker less more b black white s = record {
   cells = refl;
@@ -52,72 +62,93 @@ both_kept attacker b check evasion k is answers =
 
 -- 2. MATES.
 
-rank_within : (attacker : Side) (entries : List MateEntry) → AreBorneOutByDominance entries attacker → (n : ℕ) (entry : MateEntry) → Contains entries entry
-    → entry.rank.number ≤ n → RankAtMost attacker n entry.at
-rank_within attacker entries borne zero entry listed low = absurd (let some = entry.rank.some in omega (arith, low, some))
-rank_within attacker entries borne (suc n) entry listed low =
+rank_within : (version : Version) (attacker : Side) (entries : List MateEntry) → AreBorneOut version entries attacker → (n : ℕ) (entry : MateEntry)
+    → Contains entries entry → entry.rank.number ≤ n → RankAtMost attacker n entry.at
+rank_within version attacker entries borne zero entry listed low = absurd (let some = entry.rank.some in omega (arith, low, some))
+rank_within version attacker entries borne (suc n) entry listed low =
     let b = borne entry listed in (
       entry.by,
       b.1.check,
       λ evasion is.
           let next = b.1.evasions evasion is in
           let lower = next.lower in
+          let at = after_both entry.at entry.by evasion in
           carries_up (λ side it. RankAtMost side n it) (λ side less more it black white s h. rank_up side less more n it black white s h) attacker
-          (after_both entry.at entry.by evasion) next.entry.at (both_kept attacker entry.at entry.by evasion b.0 b.1.check is)
-          (borne next.entry next.listed).0 next.above (rank_within attacker entries borne n next.entry next.listed (omega (arith, low, lower))),
+          at next.entry.at (both_kept attacker entry.at entry.by evasion b.0 b.1.check is)
+          (borne next.entry next.listed).0 (dominates version attacker at next.entry.at next.covers)
+          (rank_within version attacker entries borne n next.entry next.listed (omega (arith, low, lower))),
     )
 
-pub rank_above : (attacker : Side) (entries : List MateEntry) (entry : MateEntry) (position : Board) → AreBorneOutByDominance entries attacker
-    → Contains entries entry → IsKept position → Dominates attacker position entry.at → RankAtMost attacker entry.rank.number position
-rank_above attacker entries entry position borne listed kept above =
+pub rank_above : (version : Version) (attacker : Side) (entries : List MateEntry) (entry : MateEntry) (position : Board)
+    → AreBorneOut version entries attacker → Contains entries entry → IsKept position → Covers version attacker position entry.at
+    → RankAtMost attacker entry.rank.number position
+rank_above version attacker entries entry position borne listed kept above =
     carries_up (λ side it. RankAtMost side entry.rank.number it)
     (λ side less more it black white s h. rank_up side less more entry.rank.number it black white s h) attacker position entry.at kept
-    (borne entry listed).0 above (rank_within attacker entries borne entry.rank.number entry listed (omega arith))
+    (borne entry listed).0 (dominates version attacker position entry.at above)
+    (rank_within version attacker entries borne entry.rank.number entry listed (omega arith))
 
-pub borne_out_stays : (attacker : Side) (entries : List MateEntry) (entry : MateEntry) → IsBorneOut entries attacker entry
-    → IsBorneOutByDominance entries attacker entry
-borne_out_stays attacker entries entry borne = record {
+pub borne_out_stays : (version : Version) (attacker : Side) (entries : List MateEntry) (entry : MateEntry) → IsBorneOut One entries attacker entry
+    → IsBorneOut version entries attacker entry
+borne_out_stays version attacker entries entry borne = record {
   check = borne.check;
   evasions = λ evasion is.
       let next = borne.evasions evasion is in
       record {
         entry = next.entry;
         listed = next.listed;
-        above = subst (λ (b : Board). Dominates attacker b next.entry.at) next.same (itself attacker next.entry.at);
+        covers = covers_stay version attacker (after_both entry.at entry.by evasion) next.entry.at next.covers;
         lower = next.lower;
       };
 }
 
 -- 3. ESCAPES.
 
-pub closed_stays : (attacker : Side) (s : List Board) → IsClosed attacker s [] → IsClosedByDominance attacker s
-closed_stays attacker s closed = record {
-  turn = closed.turn;
-  answered = λ b check inside is.
-      let e = closed.answered b check inside is in
-      record {
-        evasion = e.evasion;
-        is_evasion = e.is_evasion;
-        leads = record { listed = after_both b check e.evasion; inside = in_first s (after_both b check e.evasion) e.leads; below = itself attacker (after_both b check e.evasion) };
+pub held_stays : (version : Version) (attacker : Side) (s : List Board) (b : Board) → IsHeld One s attacker b → IsHeld version s attacker b
+held_stays version attacker s b held check is =
+    let e = held check is in
+    record {
+      evasion = e.evasion;
+      is_evasion = e.is_evasion;
+      leads = record {
+        listed = e.leads.listed;
+        inside = e.leads.inside;
+        covers = covers_stay version attacker e.leads.listed (after_both b check e.evasion) e.leads.covers;
       };
-}
+    }
+
+pub escapes : (attacker : Side) (s : List Board) (position : Board) → AreClosed One s attacker → Contains s position → Escapes attacker position
+escapes attacker s position closed inside = (
+  s,
+  inside,
+  record {
+    turn = closed.turn;
+    answered = λ b check within is.
+        let e = closed.held b within check is in
+        record {
+          evasion = e.evasion;
+          is_evasion = e.is_evasion;
+          leads = inl (subst (λ (q : Board). Contains s q) e.leads.covers e.leads.inside);
+        };
+  },
+)
 
 -- the evasion that answers a check at the position above answers it below, and leads below what it
 -- led to
-pub none_below : (attacker : Side) (s : List Board) → AreKept s → IsClosedByDominance attacker s → (n : ℕ) (position : Board) → IsKept position
-    → IsDominatedByListed attacker s position → RankAtMost attacker n position → ⊥
-none_below attacker s all closed zero position kept low h = h
-none_below attacker s all closed (suc n) position kept low h =
+pub none_below : (version : Version) (attacker : Side) (s : List Board) → AreKept s → AreClosed version s attacker → (n : ℕ) (position : Board)
+    → IsKept position → IsCovered Two s attacker position → RankAtMost attacker n position → ⊥
+none_below version attacker s all closed zero position kept low h = h
+none_below version attacker s all closed (suc n) position kept low h =
     let b = low.listed in
     let less = less_in attacker b position in
     let more = more_in attacker b position in
-    let begun = shifted_under attacker b position (all b low.inside) kept low.below in
-    let as_handed = same_board b position low.below.cells low.below.turn in
+    let begun = shifted_under attacker b position (all b low.inside) kept low.covers in
+    let as_handed = same_board b position low.covers.cells low.covers.turn in
     let is = subst (λ (it : Board). IsCheck attacker it h.0) as_handed h.1 in
     let mid = after b h.0 in
     let at = handed b position.black position.white in
     let down = after at h.0 in
-    let e = closed.answered b h.0 low.inside (check_up attacker less more b position.black position.white h.0 begun is) in
+    let e = closed.held b low.inside h.0 (check_up attacker less more b position.black position.white h.0 begun is) in
     let same = after_handed b position.black position.white h.0 in
     let between = shifted_check attacker less more b position.black position.white h.0 begun is in
     let last = shifted_evasion attacker less more mid down.black down.white e.evasion between e.is_evasion in
@@ -132,9 +163,10 @@ none_below attacker s all closed (suc n) position kept low h =
     let under : Dominates attacker (after mid e.evasion) (after_both position h.0 e.evasion) =
     subst (Dominates attacker (after mid e.evasion)) (sym whole)
     (above_shifted attacker less more (after mid e.evasion) ends.black ends.white last) in
-    none_below attacker s all closed n (after_both position h.0 e.evasion) (both_kept attacker position h.0 e.evasion kept h.1 answers)
+    none_below version attacker s all closed n (after_both position h.0 e.evasion) (both_kept attacker position h.0 e.evasion kept h.1 answers)
     (record {
       listed = e.leads.listed;
       inside = e.leads.inside;
-      below = above_too attacker e.leads.listed (after mid e.evasion) (after_both position h.0 e.evasion) e.leads.below under;
+      covers = above_too attacker e.leads.listed (after mid e.evasion) (after_both position h.0 e.evasion)
+          (dominates version attacker e.leads.listed (after mid e.evasion) e.leads.covers) under;
     }) (h.2 e.evasion answers)

@@ -4,12 +4,17 @@
 //! [`dominance_laws`] says what that is worth: a mate carries over to each position that dominates
 //! it, within as many moves, and an escape to each that it dominates. So what is known of one hand
 //! serves other hands (`specs/Dominance.antt`). [`listing_laws`] says what lists of positions bear
-//! out where what follows an entry may dominate a listed position, or be dominated by one, in place
-//! of being one: fewer entries say as much (`specs/BorneOut.antt`). Takes no memory.
+//! out, in both versions: where each has to be listed itself ([`Version::One`]), and where it may
+//! dominate a listed position, or be dominated by one, instead ([`Version::Two`]), so that fewer
+//! entries say as much (`specs/BorneOut.antt`). Takes no memory.
 #![tactic(auto)]
 
-ghost use Rattle.hand_dominance.specs.BorneOut.{BorneOutStays, ClosedStays, NoMateByDominance, RanksByDominance};
+mod version;
+
+ghost use Rattle.hand_dominance.specs.BorneOut.{BorneOutAbove, BorneOutStays, CoversStays, EscapesWhereListed, HeldStays, NoMateWhereCovered, RanksWhereCovered};
 ghost use Rattle.hand_dominance.specs.Dominance.{DominanceGoesOn, EachDominatesItself, EscapesCarryDown, EvasionsCarryDown, MatedCarryUp, MatesCarryUp};
+
+pub use version::Version;
 
 /// Laws of dominating positions: which dominate which, and to which a mate, and to which an escape
 /// carries over, whoever is to move. Does nothing; whoever uses what is known of other hands calls
@@ -28,14 +33,19 @@ pub fn dominance_laws()
     ensures evasions { EvasionsCarryDown }
 {}
 
-/// Laws of lists that are borne out by dominance. Does nothing; whoever judges such a list calls it
+/// Laws of lists of positions, in both versions. Does nothing; whoever judges such a list calls it
 /// to know what it is worth. Takes no memory.
 pub fn listing_laws()
-    // What dominates a listed position of a mate is a mate within its rank.
-    ensures ranks { RanksByDominance }
-    // What a listed position of an escape dominates is no mate.
-    ensures none { NoMateByDominance }
-    // What is borne out, or closed, by the listed positions themselves is so by dominance.
+    // What covers a listed position of a mate is a mate within its rank.
+    ensures ranks { RanksWhereCovered }
+    // An entry's move serves at each position that covers the entry's.
+    ensures above { BorneOutAbove }
+    // What a listed position of an escape covers is no mate.
+    ensures none { NoMateWhereCovered }
+    // From a listed position of an escape of version 1 the defender escapes.
+    ensures escapes { EscapesWhereListed }
+    // What is said in version 1 is so in each version.
+    ensures covers { CoversStays }
     ensures borne_out { BorneOutStays }
-    ensures closed { ClosedStays }
+    ensures held { HeldStays }
 {}

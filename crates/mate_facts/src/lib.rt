@@ -1,10 +1,8 @@
-//! What a mate is told by: entries, each a position with a rank and a move, and when they are borne
-//! out.
+//! What a mate is told by: entries, each a position with a rank and a move.
 //!
 //! An entry says that at its position, the attacker's to move, its move is a check, and that so the
-//! position is a mate within its rank. Entries are borne out where each evasion leads to the
-//! position of one of lower rank: `specs/Entries.antt`. Notes, certificates and whoever checks them
-//! speak of these. Takes no memory.
+//! position is a mate within its rank. When entries are borne out, `hand_dominance` says. Notes,
+//! certificates and whoever checks them speak of these. Takes no memory.
 #![tactic(auto)]
 
 mod entry;

@@ -28,9 +28,8 @@ fn mate(
     ensures shown { IfOk result (IsShown problem.now.position (Certificate.Mate certificate)) }
     ensures line { IfOk result HasLine }
 {
+    // What a valid certificate shows.
     valid_is_accepted();
-    // What a certificate keeps.
-    certificate.laws();
     let moves = main_line(alloc, problem, &certificate)?;
     Ok(Solution::Mate(certificate, MainLine::new(moves)))
 }
@@ -41,9 +40,8 @@ fn no_mate(problem: &Problem, certificate: EscapeCertificate) -> Solution
     ensures shown { IsShown problem.now.position (Certificate.Escape certificate) result }
     ensures line { HasLine result }
 {
+    // What a valid certificate shows.
     valid_is_accepted();
-    // What a certificate keeps.
-    certificate.laws();
     Solution::NoMate(certificate)
 }
 

@@ -11,9 +11,9 @@ use Rattle.mate_facts.specs.Laws.{EntriesApart, EntriesAreFound}
 use Rattle.cert_text.specs.Certificate.{Mating, IsMating}
 use Rattle.bound_text.specs.Bound.{bounded_in}
 use Rattle.bound_text.specs.declared.entry.BoundEntry.{BoundEntry}
+use Rattle.shortest_lists.specs.Line.{IsMoveAt, IsRankAt}
 use Rattle.bound_check.specs.Valid.{IsListedFrom}
 use Rattle.list_laws.proofs.Standing.{contained, at_place, from_map}
-use Rattle.play_line.specs.Line.{IsMoveAt, IsRankAt}
 
 module _ (found : EntriesAreFound) (c : Mating) (entries : List MateEntry) (place : ℕ) (b : Board) (entry : MateEntry) (same : entries ≡ c.entries)
     (at : slice_get (positions_of c.entries) place ≡ Some b) (is : entry ≡ get_or entries place entry) where

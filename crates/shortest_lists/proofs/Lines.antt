@@ -13,27 +13,29 @@ use Rattle.shogi_rules.specs.Rules.{IsQuiet, after}
 use Rattle.shogi_rules.specs.Tsume.{IsCheck, IsEvasion}
 use Rattle.mate_def.specs.Mate.{after_both, HasEvasionTo, CanEvadeTo, RankAtMost, RankGrows}
 use Rattle.mate_facts.specs.declared.entry.MateEntry.{MateEntry}
-use Rattle.mate_facts.specs.Entries.{AreApart, positions_of, IsListedBelow}
+use Rattle.mate_facts.specs.Entries.{AreApart, positions_of}
+use Rattle.hand_dominance.specs.declared.version.Version.{Version}
+use Rattle.hand_dominance.specs.declared.version.Version.TheVariants.{One}
+use Rattle.hand_dominance.specs.BorneOut.{CoversLower, IsBorneOut}
 use Rattle.mate_facts.specs.Laws.{EntriesApart}
 use Rattle.cert_text.specs.Certificate.{Mating, IsMating}
 use Rattle.cert_check.specs.Valid.{ValidMate, ShowsMate}
 use Rattle.bound_text.specs.declared.entry.BoundEntry.{BoundEntry}
 use Rattle.bound_check.specs.Valid.{IsListedFrom, Keeps, IsValidBound, ShowsBound}
 use Rattle.list_laws.proofs.Standing.{at_place, contains_map}
-use Rattle.play_line.specs.Line.{IsMoveAt, IsRankAt}
-use Rattle.shortest_lists.specs.Line.{Lasts, IsFirstLasting, IsLineFrom}
+use Rattle.shortest_lists.specs.Line.{IsMoveAt, IsRankAt, Lasts, IsFirstLasting, IsLineFrom}
 
 -- 1. An evasion lasts.
 
 -- the mate's move at a position of a rank: a check, and each evasion to it leads below the rank
 pub record IsBorneAt (c : Mating) (attacker : Side) (rank : ℕ) (b : Board) (check : Move) : Type 0 where
   pub is_check : IsCheck attacker b check
-  pub below : (evasion : Move) → IsEvasion attacker (after b check) evasion → IsListedBelow c.entries rank (after_both b check evasion)
+  pub below : (evasion : Move) → IsEvasion attacker (after b check) evasion → CoversLower One c.entries attacker rank (after_both b check evasion)
 
-pub borne_at : EntriesApart → (c : Mating) (p b : Board) (rank : ℕ) (check : Move) → ValidMate c p → AreApart (positions_of c.entries)
+pub borne_at : EntriesApart → (c : Mating) (p b : Board) (rank : ℕ) (check : Move) → ValidMate c p → c.version ≡ One → AreApart (positions_of c.entries)
     → IsRankAt c b rank → IsMoveAt c b check → IsBorneAt c p.side rank b check
-borne_at law c p b rank check valid apart ranked moved =
-    let borne = valid.entries moved.entry moved.listed in
+borne_at law c p b rank check valid one_version apart ranked moved =
+    let borne = subst (λ (v : Version). IsBorneOut v c.entries p.side moved.entry) one_version (valid.entries moved.entry moved.listed) in
     let one = law c.entries apart moved.entry ranked.entry moved.listed ranked.listed (moved.same ∙ sym ranked.same) in
     let its : moved.entry.rank.number ≡ rank = ap (λ (e : MateEntry). e.rank.number) one ∙ ranked.has_rank in
     subst (IsBorneAt c p.side rank b) moved.has_move
@@ -47,11 +49,11 @@ held_at bounds p b within least check valid from is_check =
     subst (λ (a : Board). HasEvasionTo p.side (Keeps bounds from.entry.bound.number) a check) from.same
     (valid.held from.entry from.listed check (subst (λ (a : Board). IsCheck p.side a check) (sym from.same) is_check))
 
-pub some_lasts : EntriesApart → RankGrows → (c : Mating) (bounds : List BoundEntry) (p b : Board) (within rank : ℕ) (check : Move) → ValidMate c p
+pub some_lasts : EntriesApart → RankGrows → (c : Mating) (bounds : List BoundEntry) (p b : Board) (within rank : ℕ) (check : Move) → ValidMate c p → c.version ≡ One
     → AreApart (positions_of c.entries) → ShowsMate c p → IsValidBound bounds p within → ShowsBound bounds p within → 1 < rank
     → Lasts c bounds rank b → IsMoveAt c b check → CanEvadeTo p.side (Lasts c bounds (rank - 1)) (after b check)
-some_lasts law grows c bounds p b within rank check valid apart shows bounded shows_bound some lasts moved =
-    let borne = borne_at law c p b rank check valid apart lasts.ranked moved in
+some_lasts law grows c bounds p b within rank check valid one_version apart shows bounded shows_bound some lasts moved =
+    let borne = borne_at law c p b rank check valid one_version apart lasts.ranked moved in
     let from = lasts.kept some in
     let enough = from.enough in
     let has = held_at bounds p b within (rank - 1) check bounded from borne.is_check in
@@ -68,13 +70,13 @@ some_lasts law grows c bounds p b within rank check valid apart shows bounded sh
           let mate = grows p.side below.entry.rank.number listed.entry.bound.number below.entry.at
           (omega (arith, enough, lower, differs, within_it, some)) (shows.ranks below.entry below.listed) in
           shows_bound.none_listed listed.entry listed.listed
-          (subst (RankAtMost p.side listed.entry.bound.number) (below.same ∙ sym listed.same) mate))
+          (subst (RankAtMost p.side listed.entry.bound.number) (sym below.covers ∙ sym listed.same) mate))
     ] in
     record {
       evasion = has.evasion;
       is_evasion = has.is_evasion;
       leads = record {
-        ranked = record { entry = below.entry; listed = below.listed; same = below.same; has_rank = exact };
+        ranked = record { entry = below.entry; listed = below.listed; same = sym below.covers; has_rank = exact };
         kept = λ above.
             let listed = has.leads (omega (arith, enough, above)) in
             let number = listed.enough in

@@ -16,11 +16,13 @@ use Rattle.shogi_rules.specs.Tsume.{IsProblem, IsCheck, IsEvasion}
 use Rattle.shogi_rules.proofs.Offered.{after_evasion}
 use Rattle.mate_def.specs.Mate.{after_both}
 use Rattle.mate_facts.specs.declared.entry.MateEntry.{MateEntry}
-use Rattle.mate_facts.specs.Entries.{positions_of, IsListedBelow, IsBorneOut}
+use Rattle.mate_facts.specs.Entries.{positions_of}
+use Rattle.hand_dominance.specs.declared.version.Version.TheVariants.{One}
+use Rattle.hand_dominance.specs.BorneOut.{CoversLower, IsBorneOut}
 use Rattle.position_places.specs.Places.{ArePlacesOf}
 use Rattle.cert_text.specs.Certificate.{IsEntry, Mating}
 use Rattle.cert_order.specs.Entries.{AreMateEntries, HaveSame}
-use Rattle.play_line.specs.Line.{IsRankAt}
+use Rattle.shortest_lists.specs.Line.{IsRankAt}
 use Rattle.list_laws.proofs.Standing.{contained, at_place, from_map, contains_map, more, of_all}
 use Rattle.shortest_facts.specs.declared.fact.TheConstants.{NEVER}
 use Rattle.shortest_facts.specs.Facts.{Known, Mates}
@@ -258,16 +260,16 @@ followed_more k p most walk new n are inside still stand this =
 -- 7. All are.
 
 listed_below : (k : Known) (p : Board) (most : ℕ) (walk : MateWalk) → IsMateWalk k p most walk → (b : Board) (rank : ℕ)
-    → Contains (positions_of walk.entries.items) b → (k.at b).most < rank → IsListedBelow walk.entries.items rank b
+    → Contains (positions_of walk.entries.items) b → (k.at b).most < rank → CoversLower One walk.entries.items p.side rank b
 listed_below k p most walk is b rank c less =
     let found = from_map place_in walk.entries.items c.0 b (at_place (positions_of walk.entries.items) b c) in
     let listed = contained walk.entries.items c.0 found.0 found.1 in
     let has = (is.listed found.0 listed).rank in
     let same = ap (λ (a : Board). (k.at a).most) found.2 in
-    record { entry = found.0; listed = listed; same = found.2; lower = omega (arith, has, same, less) }
+    record { entry = found.0; listed = listed; covers = sym found.2; lower = omega (arith, has, same, less) }
 
 pub borne_out : (k : Known) (p : Board) (most n : ℕ) (walk : MateWalk) → k.attacker ≡ p.side → AreFollowed k p most walk n
-    → length walk.entries.items ≤ n → (entry : MateEntry) → Contains walk.entries.items entry → IsBorneOut walk.entries.items p.side entry
+    → length walk.entries.items ≤ n → (entry : MateEntry) → Contains walk.entries.items entry → IsBorneOut One walk.entries.items p.side entry
 borne_out k p most n walk same are whole entry c =
     let listed = are.walks.listed entry c in
     let inside = c.1 in

@@ -4,6 +4,7 @@ use Rattle.std.proofs.lemmas.List.{take_all, length-map}
 use Rattle.bit_boards.specs.declared.piece.Side.{Side}
 use Rattle.board_core.specs.Board.{Board}
 use Rattle.shogi_rules.specs.Tsume.{IsProblem}
+use Rattle.hand_dominance.specs.declared.version.Version.TheVariants.{One}
 use Rattle.cert_text.specs.Certificate.{IsListing, MayBeListed}
 use Rattle.cert_order.specs.Entries.{HaveSame}
 use Rattle.cert_order.specs.Order.{IsTextOrder, ArePicked}
@@ -71,16 +72,17 @@ module _ (p : Board) (entries sorted : List BoundEntry) (order : List ℕ) (orde
   count_sorted = as_many_picked entries order sorted picked ∙ (ordered.count ∙ as_many entries)
 
   module _ (accepted : IsProblem p) (are : AreBoundEntries p entries) where
-    pub listing_sorted : IsListing (bound_form p) (record { problem = p; entries = sorted })
+    pub listing_sorted : IsListing (bound_form p) (record { version = One; problem = p; entries = sorted })
     listing_sorted = record {
       is_problem = accepted;
       rising = rising (bounded_in entries) order (bounded_in sorted) (picked_map place_in entries order sorted picked) ordered.rises;
       listed = λ entry c. are.problems entry (from entry c);
     }
 
-    pub readable_sorted : length sorted < 2 ^ 64 → IsReadable p (record { problem = p; entries = sorted })
+    pub readable_sorted : length sorted < 2 ^ 64 → IsReadable p (record { version = One; problem = p; entries = sorted })
     readable_sorted few = record {
       same = refl;
+      version = refl;
       good = record {
         fit = all_listed (MayBeListed (bound_form p)) sorted
             (λ entry c. record { kept = are.kept entry (from entry c); listed = are.problems entry (from entry c) });

@@ -1,6 +1,6 @@
 -- The line of play of a shortest mate: the mate's moves against evasions that last as long as the
 -- bound says.
-use Rattle.std.specs.Prelude.{◌≡◌, ◌<◌, ◌≤◌, ◌-◌, ℕ, List, [], ◌∷◌}
+use Rattle.std.specs.Prelude.{◌≡◌, ◌<◌, ◌≤◌, ◌-◌, ℕ, List, [], ◌∷◌, Contains}
 use Rattle.bit_boards.specs.declared.piece.Side.{Side}
 use Rattle.board_core.specs.declared.moves.Move.{Move}
 use Rattle.board_core.specs.Board.{Board}
@@ -8,11 +8,26 @@ use Rattle.board_core.specs.Order.{order_of}
 use Rattle.shogi_rules.specs.Rules.{after}
 use Rattle.shogi_rules.specs.Tsume.{IsEvasion}
 use Rattle.mate_def.specs.Mate.{RankAtMost, after_both}
-use Rattle.cert_text.specs.Certificate.{Mating, IsMating}
+use Rattle.mate_facts.specs.declared.entry.MateEntry.{MateEntry}
+use Rattle.cert_text.specs.Certificate.{Mating, mate_form}
+use Rattle.cert_text.specs.Reading.{IsReadableOf}
 use Rattle.cert_check.specs.Valid.{ValidMate}
 use Rattle.bound_text.specs.declared.entry.BoundEntry.{BoundEntry}
 use Rattle.bound_check.specs.Valid.{IsValidBound, Keeps}
-use Rattle.play_line.specs.Line.{IsMoveAt, IsRankAt}
+
+-- The mate lists the position with this move.
+pub record IsMoveAt (c : Mating) (position : Board) (move : Move) : Type 0 where
+  pub entry : MateEntry
+  pub listed : Contains c.entries entry
+  pub same : entry.at ≡ position
+  pub has_move : entry.by ≡ move
+
+-- The mate lists the position with this rank.
+pub record IsRankAt (c : Mating) (position : Board) (rank : ℕ) : Type 0 where
+  pub entry : MateEntry
+  pub listed : Contains c.entries entry
+  pub same : entry.at ≡ position
+  pub has_rank : entry.rank.number ≡ rank
 
 -- The position lasts for so many moves: the mate has that rank there; and where it is more than
 -- one, the bound lists the position with one less, or with more.
@@ -41,8 +56,8 @@ IsLineFrom c bounds attacker rank b (check ∷ evasion ∷ rest) =
 abbrev pub IsShortestLine : Mating → List BoundEntry → Board → ℕ → List Move → Type 0
 IsShortestLine c bounds p rank line = IsLineFrom c bounds p.side rank p line
 
--- A law: at a position that lasts for so many moves, by a valid mate and a valid bound, there is a
--- mate within that number, and none within one less.
+-- A law: at a position that lasts for so many moves, by a valid mate that can be read and a valid
+-- bound, there is a mate within that number, and none within one less.
 abbrev pub LastingIsExact : Type 0
-LastingIsExact = (c : Mating) (bounds : List BoundEntry) (p b : Board) (within rank : ℕ) → IsMating c → ValidMate c p → IsValidBound bounds p within
-    → Lasts c bounds rank b → RankAtMost p.side rank b × (¬ RankAtMost p.side (rank - 1) b)
+LastingIsExact = (c : Mating) (bounds : List BoundEntry) (p b : Board) (within rank : ℕ) → IsReadableOf (mate_form c.problem) c → ValidMate c p
+    → IsValidBound bounds p within → Lasts c bounds rank b → RankAtMost p.side rank b × (¬ RankAtMost p.side (rank - 1) b)

@@ -25,6 +25,7 @@ use bound_text::{Bound, BoundEntry};
 use cert_order::{items_at, text_order};
 use check_moves::checks;
 use evasions::answers;
+use hand_dominance::Version;
 use mate_facts::Rank;
 use position_places::Places;
 use shogi_rules::{Problem, apply};
@@ -237,7 +238,7 @@ fn bound_of_entries(
     }
     let order = text_order(alloc, &positions)?;
     let sorted = items_at(alloc, entries, &order)?;
-    Ok(Bound::new(*problem, sorted))
+    Ok(Bound::new(Version::One, *problem, sorted))
 }
 
 /// The bound that the facts show of the problem: that there is no mate within so many moves. It

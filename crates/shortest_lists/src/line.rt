@@ -6,11 +6,13 @@ ghost use Rattle.mate_def.specs.Mate.{CanEvadeTo};
 ghost use Rattle.mate_facts.specs.Entries.{positions_of};
 ghost use Rattle.position_places.specs.Places.{ArePlacesOf};
 ghost use Rattle.usi_text.specs.Lines.{AllHaveText};
+ghost use Rattle.hand_dominance.specs.declared.version.Version.TheVariants.{One};
 ghost use Rattle.bound_text.specs.Bound.{bounded_in};
+ghost use Rattle.cert_text.specs.Certificate.{mate_form};
+ghost use Rattle.cert_text.specs.Reading.{IsReadableOf};
 ghost use Rattle.cert_check.specs.Valid.{ValidMate};
 ghost use Rattle.bound_check.specs.Valid.{IsValidBound, Keeps};
-ghost use Rattle.play_line.specs.Line.{IsMoveAt, IsRankAt};
-ghost use Rattle.shortest_lists.specs.Line.{Lasts, IsFirstLasting, IsShortestLine, LastingIsExact};
+ghost use Rattle.shortest_lists.specs.Line.{IsMoveAt, IsRankAt, Lasts, IsFirstLasting, IsShortestLine, LastingIsExact};
 
 use board_core::{Move, Position, order_laws};
 use bound_check::valid_bound_is_accepted;
@@ -144,6 +146,8 @@ pub fn line_of(
     rank: u32,
 ) -> Result<Vec<Move>, AllocError>
     requires valid { ValidMate certificate.now problem.now.position }
+    requires version { certificate.now.version ≡ One }
+    requires readable { IsReadableOf (mate_form certificate.now.problem) certificate.now }
     requires rank { IsRankAt certificate.now problem.now.position rank }
     requires bound { IsValidBound bound.now.entries problem.now.position (rank - 1) }
     ensures line { IfOk result (λ moves. IsShortestLine certificate.now bound.now.entries

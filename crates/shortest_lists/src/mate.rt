@@ -9,7 +9,8 @@ ghost use Rattle.cert_text.specs.Certificate.{mate_form};
 ghost use Rattle.cert_text.specs.Reading.{IsReadableOf};
 ghost use Rattle.cert_check.specs.Valid.{ValidMate};
 ghost use Rattle.cert_order.specs.Entries.{AreMateEntries};
-ghost use Rattle.play_line.specs.Line.{IsRankAt};
+ghost use Rattle.hand_dominance.specs.declared.version.Version.TheVariants.{One};
+ghost use Rattle.shortest_lists.specs.Line.{IsRankAt};
 ghost use Rattle.shortest_facts.specs.declared.fact.TheConstants.{NEVER};
 ghost use Rattle.shortest_facts.specs.Facts.{AreBorneOut, Mates};
 ghost use Rattle.shortest_facts.specs.Keys.{known_of};
@@ -163,6 +164,7 @@ pub fn mate_of(
 
     // It is valid for the problem, of which it has the rank that the facts show.
     ensures valid { IfOk result (λ certificate. ValidMate certificate problem.now.position) }
+    ensures version { IfOk result (λ certificate. certificate.version ≡ One) }
     ensures rank { IfOk result (λ certificate. IsRankAt certificate problem.now.position
         ((known_of facts.now).at problem.now.position).most) }
 

@@ -30,7 +30,7 @@ use Rattle.shortest_text.specs.Text.{shortest_line, none_line, found_text}
 use Rattle.shortest_text.specs.Reading.{IsUpToEnd, BeginsFound, BeginsNone, HasBadHead, HasBadCertificate, HasFound, IsLeft, HasBadBound, HasFirstFault, IsReadable, IsTextOf, IsShortestOutcome, IsReadAs, IsFaultAs}
 use Rattle.shortest_text.proofs.Cuts.{same_cut}
 use Rattle.shortest_text.proofs.Parts.{front_lacks, one_number, one_problem, shortest_lacks, none_lacks}
-use Rattle.shortest_text.proofs.Ends.{mate_up_to_end}
+use Rattle.shortest_text.proofs.Ends.{mate_up_to_end, one_version}
 
 -- The laws of texts that the lemmas below rest on.
 pub record Laws : Type 0 where
@@ -124,7 +124,7 @@ module _ (laws : Laws) where
   left_good_head : (p : Board) (s bytes : List ℕ) → IsLeft p s bytes → HasBadHead bytes → ⊥
   left_good_head p s bytes (inl h) bad =
       no_fault h.3.front h.1 BadHead h.3.is_front h.3.readable
-      (bad.bad_head h.3.front h.0 (certificate_text (certificates.Mate h.1)) s (found_begins h.0 h.1 s bytes h.3))
+      (bad.bad_head h.3.front h.0 (certificate_text (certificates.Mate h.1)) s (found_begins h.0 h.1 s bytes h.3) (one_version h.1 h.3.version))
   left_good_head p s bytes (inr h) bad = bad.not_none h.0 p s h.1
 
   left_good_certificate : (p : Board) (s bytes : List ℕ) (fault : CertFault) → IsLeft p s bytes → HasBadCertificate bytes fault → ⊥
@@ -137,7 +137,7 @@ module _ (laws : Laws) where
 
   head_certificate : (bytes : List ℕ) (fault : CertFault) → HasBadHead bytes → HasBadCertificate bytes fault → BadHead ≡ fault
   head_certificate bytes fault bad later =
-      laws.certificate_fault (line later.front ++ later.certificate) BadHead fault (bad.bad_head later.front later.rank later.certificate later.bound later.begins) later.has_fault
+      laws.certificate_fault (line later.front ++ later.certificate) BadHead fault (bad.bad_head later.front later.rank later.certificate later.bound later.begins later.of_one) later.has_fault
 
   two_certificates : (bytes : List ℕ) (one other : CertFault) → HasBadCertificate bytes one → HasBadCertificate bytes other → one ≡ other
   two_certificates bytes one other h k =
@@ -196,7 +196,7 @@ module _ (laws : Laws) where
 
   found_left : (rank : Rank) (c : Mating) (b : CertificateView BoundEntry) (bytes : List ℕ) → IsReadable (Found rank c b) → IsTextOf (Found rank c b) bytes
       → HasFound rank c (bound_text b) bytes
-  found_left rank c b bytes r e = record { readable = r.0; front = e.0; is_front = e.1; text = e.2 }
+  found_left rank c b bytes r e = record { version = r.2; readable = r.0; front = e.0; is_front = e.1; text = e.2 }
 
   none_left : (limit : Rank) (b : CertificateView BoundEntry) (bytes : List ℕ) → IsReadable (NoneWithin limit b) → IsTextOf (NoneWithin limit b) bytes
       → BeginsNone limit b.problem (bound_text b) bytes

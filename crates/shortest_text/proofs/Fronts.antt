@@ -1,6 +1,7 @@
 -- A mate's front line and a certificate behind it.
 use Rattle.std.proofs.Common.{inl, inr, ◌≡◌, ◌<◌, ◌+◌, ℕ, List, [], ◌∷◌, ◌++◌, get_or, length, refl, sym, ap, subst, ◌∙◌, arith, Ok, Err}
-use Rattle.std.specs.Prelude.{codes}
+use Rattle.std.specs.Prelude.{codes, Option, Some, None, IfSome, IfNone, true}
+use Rattle.std.specs.Option.{is_some}
 use Rattle.std.specs.List.{flat_map}
 use Rattle.std.proofs.lemmas.List.{append_cancel_left}
 use Rattle.bit_boards.specs.declared.piece.Kind.{Kind}
@@ -14,7 +15,7 @@ use Rattle.usi_text.specs.Lines.{spaced_move}
 use Rattle.sfen_text.specs.Spelling.{sfen_of}
 use Rattle.cert_text.specs.Entries.{line}
 use Rattle.cert_text.specs.Certificate.{Mating, Escaping}
-use Rattle.cert_text.specs.Text.{certificate_text}
+use Rattle.cert_text.specs.Text.{claim_text, certificate_text}
 use Rattle.cert_text.specs.declared.certificate.Certificate.TheVariants as certificates
 use Rattle.cert_text.specs.declared.fault.CertFault.{CertFault}
 use Rattle.cert_text.specs.declared.fault.CertFault.TheVariants.{BadHead, BadLine, NotRising, WrongCount, NoEnd}
@@ -24,8 +25,10 @@ use Rattle.cert_text.specs.declared.head.Claim.{Claim}
 use Rattle.cert_text.specs.declared.head.Claim.TheVariants.{Mate, Escape}
 use Rattle.cert_text.specs.Reading.{Lacks, IsFrontLine, IsFrontOrNone, IsReadable, IsTextOf, HasLaterFault, HasFirstFault, headed_text, IsCertificateOutcome}
 use Rattle.cert_text.proofs.Offered.{line_cut}
+use Rattle.shortest_text.specs.Reading.{IsOfOne}
 use Rattle.shortest_text.specs.Scan.{BeginsAsMate, IsMateFault, IsMateOutcome}
 use Rattle.shortest_text.proofs.Parts.{front_lacks}
+use Rattle.shortest_text.proofs.Ends.{version_one, certificate_second, version_second}
 
 letter_below : (k : Kind) → kind_letter k < 100
 letter_below Pawn = omega arith
@@ -75,6 +78,16 @@ is_behind Escape front text over whole lack begins (inr at) second e =
     let parts = line_cut front at.0 text whole lack (front_lacks Escape at.0 at.1) (e ∙ ap (λ (t : List ℕ). t ++ whole) at.2) in
     absurd (begins.no_escape (parts.0 ∙ at.1))
 
+-- ---- what a certificate's text begins with
+
+pub found_rest : {A : Type 0} (r : Option A) (P : A → Type 0) → is_some r ≡ true → IfSome r P → (x : A) × P x
+found_rest None P e h = absurd cc
+found_rest (Some x) P e h = (x, h)
+
+pub rest_found : {A : Type 0} (r : Option A) (text front rest : List ℕ) → text ≡ front ++ rest → IfNone r ((rest : List ℕ) → text ≡ front ++ rest → ⊥) → is_some r ≡ true
+rest_found None text front rest e none = absurd (none rest e)
+rest_found (Some x) text front rest e none = refl
+
 -- ---- what is read of them
 
 -- what was written is the line and what stands behind it
@@ -83,15 +96,15 @@ pub whole_text : (none first second third whole front text : List ℕ) → none 
 whole_text none first second third whole front text a b c d e =
     e ∙ (d ∙ ap (λ (t : List ℕ). t ++ text) (c ∙ ap (λ (t : List ℕ). t ++ 10 ∷ []) (b ∙ ap (λ (t : List ℕ). t ++ front) a)))
 
-pub mate_read : (front text : List ℕ) (c : Mating) → Lacks 10 front → BeginsAsMate front → IsReadable (certificates.Mate c)
+pub mate_read : (front text : List ℕ) (c : Mating) → Lacks 10 front → BeginsAsMate front → IsOfOne text → IsReadable (certificates.Mate c)
     → IsTextOf (certificates.Mate c) (line front ++ text) → IsMateOutcome front text (Ok c)
-mate_read front text c lack begins readable at =
-    let behind = is_behind Mate front text at.0 (certificate_text (certificates.Mate c)) lack begins at.1 refl at.2 in
-    (behind.is_front, (readable, behind.text_is))
+mate_read front text c lack begins of_one readable at =
+    let behind = is_behind Mate front text at.0 (certificate_text (certificates.Mate c)) lack begins at.1 (certificate_second (certificates.Mate c)) at.2 in
+    (behind.is_front, (readable, behind.text_is, version_one c text behind.text_is of_one))
 
 pub no_escape_read : (front text : List ℕ) (c : Escaping) → Lacks 10 front → BeginsAsMate front → IsTextOf (certificates.Escape c) (line front ++ text) → ⊥
 no_escape_read front text c lack begins at =
-    let behind = is_behind Escape front text at.0 (certificate_text (certificates.Escape c)) lack begins at.1 refl at.2 in
+    let behind = is_behind Escape front text at.0 (certificate_text (certificates.Escape c)) lack begins at.1 (certificate_second (certificates.Escape c)) at.2 in
     claims_apart behind.is_mate
   where
     is_escape : Claim → ℕ
@@ -104,16 +117,17 @@ no_escape_read front text c lack begins at =
 later_front : (front text : List ℕ) (fault : CertFault) → Lacks 10 front → BeginsAsMate front → HasLaterFault (line front ++ text) fault → IsFrontLine Mate front
 later_front front text fault lack begins later =
     let head = later.begins.head in
-    let whole = headed_text later.claim later.count (sfen_of later.problem) later.rest in
-    (is_behind later.claim front text head.front whole lack begins head.is_front refl head.text).is_front
+    let whole = headed_text later.title later.count (sfen_of later.problem) later.rest in
+    (is_behind later.title.claim front text head.front whole lack begins head.is_front
+    (version_second later.title.version (claim_text later.title.claim later.count) (10 ∷ (codes "problem " ++ (sfen_of later.problem ++ 10 ∷ later.rest)))) head.text).is_front
 
-pub mate_fault : (front text : List ℕ) (fault : CertFault) → Lacks 10 front → BeginsAsMate front → HasFirstFault (line front ++ text) fault → IsMateFault front text fault
-mate_fault front text BadHead lack begins h = λ _. h
-mate_fault front text (BadLine number) lack begins h = (later_front front text (BadLine number) lack begins h, h)
-mate_fault front text (NotRising number) lack begins h = (later_front front text (NotRising number) lack begins h, h)
-mate_fault front text WrongCount lack begins h = (later_front front text WrongCount lack begins h, h)
-mate_fault front text NoEnd lack begins h = (later_front front text NoEnd lack begins h, h)
+pub mate_fault : (front text : List ℕ) (fault : CertFault) → Lacks 10 front → BeginsAsMate front → IsOfOne text → HasFirstFault (line front ++ text) fault → IsMateFault front text fault
+mate_fault front text BadHead lack begins of_one h = λ _ _. h
+mate_fault front text (BadLine number) lack begins of_one h = (later_front front text (BadLine number) lack begins h, of_one, h)
+mate_fault front text (NotRising number) lack begins of_one h = (later_front front text (NotRising number) lack begins h, of_one, h)
+mate_fault front text WrongCount lack begins of_one h = (later_front front text WrongCount lack begins h, of_one, h)
+mate_fault front text NoEnd lack begins of_one h = (later_front front text NoEnd lack begins h, of_one, h)
 
-pub mate_err : (front text : List ℕ) (end : CertEnd) → Lacks 10 front → BeginsAsMate front → IsCertificateOutcome (line front ++ text) (Err end) → IsMateOutcome front text (Err end)
-mate_err front text (Fault fault) lack begins h = mate_fault front text fault lack begins h
-mate_err front text NoMemory lack begins h = tt
+pub mate_err : (front text : List ℕ) (end : CertEnd) → Lacks 10 front → BeginsAsMate front → IsOfOne text → IsCertificateOutcome (line front ++ text) (Err end) → IsMateOutcome front text (Err end)
+mate_err front text (Fault fault) lack begins of_one h = mate_fault front text fault lack begins of_one h
+mate_err front text NoMemory lack begins of_one h = tt

@@ -29,7 +29,7 @@ use Rattle.shortest_text.specs.declared.text.ShortestText.TheVariants.{Found, No
 use Rattle.shortest_text.specs.declared.fault.ShortestEnd.{ShortestEnd}
 use Rattle.shortest_text.specs.Ends.{end_of_certificate, end_of_bound}
 use Rattle.shortest_text.specs.Text.{shortest_line, none_line, found_text}
-use Rattle.shortest_text.specs.Reading.{IsUpToEnd, BeginsNone, HasBadHead, HasBadCertificate, HasFound, IsShortestOutcome}
+use Rattle.shortest_text.specs.Reading.{IsUpToEnd, BeginsNone, IsOfOne, HasBadHead, HasBadCertificate, HasFound, IsShortestOutcome}
 use Rattle.shortest_text.specs.Scan.{IsMateOutcome}
 use Rattle.shortest_text.proofs.Parts.{front_lacks, number_lacks, one_number, none_lacks, first_line_is}
 use Rattle.shortest_text.proofs.Again.{found_parts, found_or_none}
@@ -56,36 +56,38 @@ module _ (front : List ℕ) (rank : Rank) (own rest text : List ℕ) (lack : Lac
       (number_lacks (codes "none within ") limit none_lacks) k.text in
       no_limit limit (ap line cut.0)
 
-  bad_head : (IsFrontLine Mate front → certs.HasFirstFault (line front ++ own) BadHead) → HasBadHead whole
+  bad_head : (IsFrontLine Mate front → IsOfOne own → certs.HasFirstFault (line front ++ own) BadHead) → HasBadHead whole
   bad_head h = record {
     not_none = not_none;
-    bad_head = λ as_front as_rank certificate bound begins.
+    bad_head = λ as_front as_rank certificate bound begins of_one.
         let same = found_parts as_front as_rank certificate bound front rank own rest whole begins lack up whole_is in
         subst (λ (f : List ℕ). certs.HasFirstFault (line f ++ certificate) BadHead) (sym same.fronts)
         (subst (λ (c : List ℕ). certs.HasFirstFault (line front ++ c) BadHead) (sym same.certificates)
-        (h (subst (IsFrontLine Mate) same.fronts begins.is_front)));
+        (h (subst (IsFrontLine Mate) same.fronts begins.is_front) (subst IsOfOne same.certificates of_one)));
   }
 
-  bad_certificate : (fault : CertFault) → IsFrontLine Mate front → certs.HasFirstFault (line front ++ own) fault → HasBadCertificate whole fault
-  bad_certificate fault is h = record {
+  bad_certificate : (fault : CertFault) → IsFrontLine Mate front → IsOfOne own → certs.HasFirstFault (line front ++ own) fault → HasBadCertificate whole fault
+  bad_certificate fault is of_one h = record {
     front = front;
     rank = rank;
     certificate = own;
     bound = rest;
     begins = record { is_front = is; up_to_end = up; text = whole_is };
+    of_one = of_one;
     has_fault = h;
   }
 
   pub certificate_ends : (end : CertEnd) → IsMateOutcome front own (Err end) → IsShortestOutcome whole (Err (end_of_certificate end))
   certificate_ends (cert_ends.Fault BadHead) h = bad_head h
-  certificate_ends (cert_ends.Fault (BadLine number)) h = bad_certificate (BadLine number) h.0 h.1
-  certificate_ends (cert_ends.Fault (NotRising number)) h = bad_certificate (NotRising number) h.0 h.1
-  certificate_ends (cert_ends.Fault WrongCount) h = bad_certificate WrongCount h.0 h.1
-  certificate_ends (cert_ends.Fault NoEnd) h = bad_certificate NoEnd h.0 h.1
+  certificate_ends (cert_ends.Fault (BadLine number)) h = bad_certificate (BadLine number) h.0 h.1 h.2
+  certificate_ends (cert_ends.Fault (NotRising number)) h = bad_certificate (NotRising number) h.0 h.1 h.2
+  certificate_ends (cert_ends.Fault WrongCount) h = bad_certificate WrongCount h.0 h.1 h.2
+  certificate_ends (cert_ends.Fault NoEnd) h = bad_certificate NoEnd h.0 h.1 h.2
   certificate_ends cert_ends.NoMemory h = tt
 
   has_found : (c : Mating) → IsMateOutcome front own (Ok c) → HasFound rank c rest whole
   has_found c h = record {
+    version = h.1.2;
     readable = h.1.0;
     front = front;
     is_front = h.0;
@@ -101,7 +103,7 @@ module _ (front : List ℕ) (rank : Rank) (own rest text : List ℕ) (lack : Lac
       → IsShortestOutcome whole (Ok (Found rank c b))
   unfolding has_found
   found_read c p b h same k = (
-    (h.1.0, subst (λ (q : Board). bounds.IsReadable q b) same k.0),
+    (h.1.0, subst (λ (q : Board). bounds.IsReadable q b) same k.0, h.1.2),
     (front, h.0, (has_found c h).text ∙ ap (λ (t : List ℕ). found_text front rank (certificate_text (certificates.Mate c)) t) k.1),
   )
 
@@ -112,7 +114,7 @@ module _ (limit : Rank) (text : List ℕ) where
   no_problem none = record {
     not_none = λ as_limit p bound k.
         none p bound k.kept k.is_problem (one_number (codes "none within ") limit as_limit text (problem_line p ++ bound) none_lacks k.text).1;
-    bad_head = λ front rank certificate bound begins. absurd (found_or_none front rank certificate bound limit text (none_line limit ++ text) begins refl);
+    bad_head = λ front rank certificate bound begins _. absurd (found_or_none front rank certificate bound limit text (none_line limit ++ text) begins refl);
   }
 
   module _ (p : Board) (rest : List ℕ) (kept : IsKept p) (is : IsProblem p) (at : text ≡ problem_line p ++ rest) where
@@ -138,7 +140,7 @@ HasNoLimit bytes = (limit : Rank) (rest : List ℕ) → bytes ≡ none_line limi
 pub lone_line : (bytes : List ℕ) → HasNoLimit bytes → Lacks 10 bytes → HasBadHead bytes
 lone_line bytes none lack = record {
   not_none = λ limit p bound k. none limit (problem_line p ++ bound) k.text;
-  bad_head = λ front rank certificate bound k.
+  bad_head = λ front rank certificate bound k _.
       absurd (not_lacks 10 front (shortest_line rank ++ (certificate ++ bound))
       (subst (Lacks 10) (k.text ∙ append_assoc front (10 ∷ []) (shortest_line rank ++ (certificate ++ bound))) lack));
 }
@@ -147,7 +149,7 @@ pub no_rank : (bytes front rest : List ℕ) → HasNoLimit bytes → bytes ≡ f
     → ((rank : Rank) (more : List ℕ) → rest ≡ shortest_line rank ++ more → ⊥) → HasBadHead bytes
 no_rank bytes front rest none p lack no_number = record {
   not_none = λ limit q bound k. none limit (problem_line q ++ bound) k.text;
-  bad_head = λ as_front rank certificate bound k.
+  bad_head = λ as_front rank certificate bound k _.
       absurd (no_number rank (certificate ++ bound)
       (first_line_is bytes front rest as_front (shortest_line rank ++ (certificate ++ bound)) p lack (front_lacks Mate as_front k.is_front) k.text).1);
 }

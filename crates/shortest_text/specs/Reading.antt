@@ -2,13 +2,14 @@
 -- between whole texts and outcomes.
 use Rattle.std.specs.Prelude.{◌≡◌, ◌≢◌, ◌⊎◌, ℕ, List, [], ◌++◌, codes, Result, Ok, Err}
 use Rattle.std.specs.List.{AllByRecursion, flat_map}
+use Rattle.hand_dominance.specs.declared.version.Version.TheVariants.{One}
 use Rattle.board_core.specs.Board.{Board}
 use Rattle.board_core.specs.Kept.{IsKept}
 use Rattle.shogi_rules.specs.Tsume.{IsProblem}
 use Rattle.mate_facts.specs.declared.rank.Rank.{Rank}
 use Rattle.cert_text.specs.Entries.{line}
 use Rattle.cert_text.specs.Certificate.{Mating, mate_form}
-use Rattle.cert_text.specs.Text.{end_line, certificate_text}
+use Rattle.cert_text.specs.Text.{version_front, end_line, certificate_text}
 use Rattle.cert_text.specs.declared.certificate.Certificate.TheVariants as certificates
 use Rattle.cert_text.specs.declared.fault.CertFault.{CertFault}
 use Rattle.cert_text.specs.declared.fault.CertFault.TheVariants.{BadHead, BadLine, NotRising, WrongCount, NoEnd}
@@ -60,25 +61,32 @@ pub record BeginsNone (limit : Rank) (problem : Board) (bound bytes : List ℕ) 
   pub is_problem : IsProblem problem
   pub text : bytes ≡ none_text limit problem bound
 
+-- A certificate's text begins as one of version 1.
+abbrev pub IsOfOne : List ℕ → Type 0
+IsOfOne certificate = (rest : List ℕ) × (certificate ≡ version_front One ++ rest)
+
 -- The text doesn't begin as that of no mate within a limit. Where it begins as that of a shortest
--- mate, the certificate has no head behind the front line.
+-- mate, the certificate has no head of version 1 behind the front line: it doesn't begin as one of
+-- version 1, or it has no head.
 pub record HasBadHead (bytes : List ℕ) : Type 0 where
   pub not_none : (limit : Rank) (problem : Board) (bound : List ℕ) → ¬ BeginsNone limit problem bound bytes
   pub bad_head : (front : List ℕ) (rank : Rank) (certificate bound : List ℕ) → BeginsFound front rank certificate bound bytes
-      → certs.HasFirstFault (line front ++ certificate) BadHead
+      → IsOfOne certificate → certs.HasFirstFault (line front ++ certificate) BadHead
 
--- The text begins as that of a shortest mate, and the certificate, with the front line before it,
--- has the fault first.
+-- The text begins as that of a shortest mate, and the certificate begins as one of version 1 and,
+-- with the front line before it, has the fault first.
 pub record HasBadCertificate (bytes : List ℕ) (fault : CertFault) : Type 0 where
   pub front : List ℕ
   pub rank : Rank
   pub certificate : List ℕ
   pub bound : List ℕ
   pub begins : BeginsFound front rank certificate bound bytes
+  pub of_one : IsOfOne certificate
   pub has_fault : certs.HasFirstFault (line front ++ certificate) fault
 
--- All before the bound is that of a shortest mate, with this certificate.
+-- All before the bound is that of a shortest mate, with this certificate, which is of version 1.
 pub record HasFound (rank : Rank) (c : Mating) (bound bytes : List ℕ) : Type 0 where
+  pub version : c.version ≡ One
   pub readable : IsReadableOf (mate_form c.problem) c
   pub front : List ℕ
   pub is_front : IsFrontLine Mate front
@@ -105,10 +113,10 @@ HasFirstFault bytes (Certificate WrongCount) = HasBadCertificate bytes WrongCoun
 HasFirstFault bytes (Certificate NoEnd) = HasBadCertificate bytes NoEnd
 HasFirstFault bytes (Bound fault) = HasBadBound bytes fault
 
--- What a text says can be read: the certificate can, and the bound can for its problem; without a
--- certificate the bound's problem is one.
+-- What a text says can be read: the certificate can, and the bound can for its problem, and the
+-- certificate is of version 1; without a certificate the bound's problem is one.
 abbrev pub IsReadable : ShortestText → Type 0
-IsReadable (Found rank c b) = IsReadableOf (mate_form c.problem) c × bounds.IsReadable c.problem b
+IsReadable (Found rank c b) = IsReadableOf (mate_form c.problem) c × bounds.IsReadable c.problem b × (c.version ≡ One)
 IsReadable (NoneWithin limit b) = IsKept b.problem × IsProblem b.problem × bounds.IsReadable b.problem b
 
 -- The text says it, with some moves in the front line.

@@ -3,6 +3,7 @@ ghost use Rattle.std.specs.Prelude.{◌≡◌, ◌↔◌, IsTrue, false};
 ghost use Rattle.usi_text.specs.Lines.{nomate_text};
 ghost use Rattle.cert_text.specs.Reading.{Lacks, IsFrontLine};
 ghost use Rattle.cert_text.specs.declared.head.Claim.TheVariants.{Mate};
+ghost use Rattle.shortest_text.specs.Reading.{IsOfOne};
 ghost use Rattle.shortest_text.specs.Scan.{BeginsAsMate, IsMateOutcome};
 
 use cert_text::{CertEnd, CertFault, Certificate, MateCertificate, behind, read_cert};
@@ -25,7 +26,15 @@ fn begins_as_mate(front: &[u8]) -> bool
     !is_nomate(front)
 }
 
-// The mate's certificate whose text it is, where the front line before it is a mate's.
+// Whether it begins as the text of a certificate of version 1.
+fn is_of_one(text: &[u8]) -> bool
+    ensures { IsTrue result ↔ IsOfOne text.now }
+{
+    behind(text, b"certificate 1 ").is_some()
+}
+
+// The mate's certificate, of version 1, whose text it is, where the front line before it is a
+// mate's.
 pub(crate) fn certificate_of(
     alloc: Global,
     front: &[u8],
@@ -35,6 +44,9 @@ pub(crate) fn certificate_of(
     ensures { IsMateOutcome front.now text.now result }
 {
     if !begins_as_mate(front) {
+        return Err(CertEnd::Fault(CertFault::BadHead));
+    }
+    if !is_of_one(text) {
         return Err(CertEnd::Fault(CertFault::BadHead));
     }
     let mut whole = Vec::new(alloc);

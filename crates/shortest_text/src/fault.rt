@@ -16,8 +16,9 @@ use std::fmt::{self, Write};
 #[derive(Clone, Copy, PartialEq, Eq, Debug)]
 pub enum ShortestFault {
     /// The certificate's fault: see [`CertFault`]. That something comes behind its line `end` is
-    /// none. `BadHead` is also the fault of the lines that aren't the certificate's: `checkmate`,
-    /// `shortest`, `none within` and the problem's line behind that one.
+    /// none. `BadHead` is also the fault of a certificate of version 2, and of the lines that
+    /// aren't the certificate's: `checkmate`, `shortest`, `none within` and the problem's line
+    /// behind that one.
     Certificate(CertFault),
     /// The bound's first line that is wrong, where all before the bound is right.
     Bound(BadBound),

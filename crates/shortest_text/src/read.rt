@@ -84,11 +84,11 @@ fn shortest_of(alloc: Global, bytes: &[u8]) -> Result<ShortestText, ShortestEnd>
 /// What the text says of the shortest mate of a problem.
 ///
 /// It has one of two forms. One is the line `checkmate` with one or more moves (USI protocol),
-/// which aren't compared with anything; the line `shortest N`; the text of a mate's certificate
-/// ([`cert_text::write_cert`]); and that of a bound for its problem ([`bound_text::write_bound`]).
-/// The other is the line `none within L`; the line `problem SFEN`, as a certificate has it; and the
-/// text of a bound for that problem. N and L are from 1 to [`mate_facts::MOST_RANK`], without a
-/// leading zero.
+/// which aren't compared with anything; the line `shortest N`; the text of a mate's certificate of
+/// version 1 ([`cert_text::write_cert`]), as a bound is of version 1 alone; and that of a bound for
+/// its problem ([`bound_text::write_bound`]). The other is the line `none within L`; the line
+/// `problem SFEN`, as a certificate has it; and the text of a bound for that problem. N and L are
+/// from 1 to [`mate_facts::MOST_RANK`], without a leading zero.
 ///
 /// For any other text its first fault ([`ShortestFault`]). Errors: want of memory alone. Reads the
 /// certificate from a copy of its text.

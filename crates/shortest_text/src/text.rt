@@ -12,7 +12,7 @@ pub enum ShortestText {
     Found {
         /// The number of moves, 1 to [`mate_facts::MOST_RANK`].
         rank: Rank,
-        /// That the problem is a mate.
+        /// That the problem is a mate; it is of version 1 where it was read from a text.
         certificate: MateCertificate,
         /// That no mate of it is shorter: a bound for the certificate's problem.
         bound: Bound,

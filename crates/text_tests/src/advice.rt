@@ -251,27 +251,31 @@ const CERTIFICATES: &[(&[u8], &str)] = &[
     ),
     (
         b"\x7fELF\x02\x01/lib/ld.so\n",
-        "line 1:\n    ?ELF??/lib/ld.so\nExpected: `certificate 1 mate N` or `certificate 1 escape N`, then `problem`\nand an SFEN as `tsume solve` writes it; at most `checkmate ..` before these.\n",
+        "line 1:\n    ?ELF??/lib/ld.so\nExpected: `certificate V mate N` or `certificate V escape N`, V 1 or 2, then\n`problem` and an SFEN as `tsume solve` writes it; at most `checkmate ..` before\nthese.\n",
     ),
     (
-        b"checkmate nomate\ncertificate 2 escape 1\nproblem 4k4/9/4P4/9/9/9/9/9/9 b P\nend\n",
-        "line 2:\n    certificate 2 escape 1\nExpected: `certificate 1 mate N` or `certificate 1 escape N`, then `problem`\nand an SFEN as `tsume solve` writes it; at most `checkmate ..` before these.\n",
+        b"checkmate nomate\ncertificate 3 escape 1\nproblem 4k4/9/4P4/9/9/9/9/9/9 b P\nend\n",
+        "line 2:\n    certificate 3 escape 1\nExpected: `certificate V mate N` or `certificate V escape N`, V 1 or 2, then\n`problem` and an SFEN as `tsume solve` writes it; at most `checkmate ..` before\nthese.\n",
     ),
     (
         b"certificate 1 escape 1\n4k4/9/4P4/9/9/9/9/9/9 b P\nend\n",
-        "line 2:\n    4k4/9/4P4/9/9/9/9/9/9 b P\nExpected: `certificate 1 mate N` or `certificate 1 escape N`, then `problem`\nand an SFEN as `tsume solve` writes it; at most `checkmate ..` before these.\n",
+        "line 2:\n    4k4/9/4P4/9/9/9/9/9/9 b P\nExpected: `certificate V mate N` or `certificate V escape N`, V 1 or 2, then\n`problem` and an SFEN as `tsume solve` writes it; at most `checkmate ..` before\nthese.\n",
+    ),
+    (
+        b"certificate 2 escape 1\n4k4/9/4P4/9/9/9/9/9/9 b P\nend\n",
+        "line 2:\n    4k4/9/4P4/9/9/9/9/9/9 b P\nExpected: `certificate V mate N` or `certificate V escape N`, V 1 or 2, then\n`problem` and an SFEN as `tsume solve` writes it; at most `checkmate ..` before\nthese.\n",
     ),
     (
         b"certificate 1 escape 01\nproblem 4k4/9/4P4/9/9/9/9/9/9 b P\nend\n",
-        "line 1:\n    certificate 1 escape 01\nExpected: `certificate 1 mate N` or `certificate 1 escape N`, then `problem`\nand an SFEN as `tsume solve` writes it; at most `checkmate ..` before these.\n",
+        "line 1:\n    certificate 1 escape 01\nExpected: `certificate V mate N` or `certificate V escape N`, V 1 or 2, then\n`problem` and an SFEN as `tsume solve` writes it; at most `checkmate ..` before\nthese.\n",
     ),
     (
         b"certificate 1 escape 1\nproblem 4k4/9/4P4/9/9/9/9/9/9 b P 1\nend\n",
-        "line 2:\n    problem 4k4/9/4P4/9/9/9/9/9/9 b P 1\nExpected: `certificate 1 mate N` or `certificate 1 escape N`, then `problem`\nand an SFEN as `tsume solve` writes it; at most `checkmate ..` before these.\n",
+        "line 2:\n    problem 4k4/9/4P4/9/9/9/9/9/9 b P 1\nExpected: `certificate V mate N` or `certificate V escape N`, V 1 or 2, then\n`problem` and an SFEN as `tsume solve` writes it; at most `checkmate ..` before\nthese.\n",
     ),
     (
         b"checkmate nomate\ncertificate 1 escape 1\nproblem 4k4/9/4X4/9/9/9/9/9/9 b P\nend\n",
-        "line 3:\n    problem 4k4/9/4X4/9/9/9/9/9/9 b P\nExpected: `certificate 1 mate N` or `certificate 1 escape N`, then `problem`\nand an SFEN as `tsume solve` writes it; at most `checkmate ..` before these.\n",
+        "line 3:\n    problem 4k4/9/4X4/9/9/9/9/9/9 b P\nExpected: `certificate V mate N` or `certificate V escape N`, V 1 or 2, then\n`problem` and an SFEN as `tsume solve` writes it; at most `checkmate ..` before\nthese.\n",
     ),
     (
         b"# Two problems\n9/4k4/8R/9/9/9/9/9/9 b R\n",
@@ -341,6 +345,10 @@ const WORDS: &[(&str, &str)] = &[
     (
         "error: unexpected argument '--threads' found\n\nUsage: tsume check [OPTIONS] [FILE]\n",
         "`tsume check` judges with --workers N, a thread each.\n",
+    ),
+    (
+        "error: unexpected argument '--workers' found\n\nUsage: tsume shortest [OPTIONS] [FILE]\n",
+        "`tsume shortest` searches with one worker.\n",
     ),
     (
         "error: unexpected argument '--workers' found\n\nUsage: tsume collection [OPTIONS] [FILE]\n",

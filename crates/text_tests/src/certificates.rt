@@ -1,5 +1,6 @@
 use crate::same::{same, shown};
-use cert_text::{CertEnd, append_cert, read_cert, write_cert};
+use cert_text::{CertEnd, Claim, append_cert, read_cert, write_cert};
+use hand_dominance::Version;
 use std::alloc::{AllocError, Global};
 use std::process::Abort;
 use std::test::Fail;
@@ -13,8 +14,22 @@ fn certificates_are_read_and_written(rt: HostRuntime) {
         "certificate 1 escape 3\nproblem 4k4/9/4P4/9/9/9/9/9/9 b P\n4k4/9/4P4/9/9/9/9/9/9 b P\n9/4k4/9/9/9/9/9/9/9 b Pp\n9/9/4k4/9/9/9/9/9/9 b 2p\nend\n";
     let rooks =
         "certificate 1 mate 4\nproblem 9/4k4/8R/9/9/9/9/9/9 b R\n1 1c1a 3k5/R8/8R/9/9/9/9/9/9 b -\n1 1c1a 4k4/R8/8R/9/9/9/9/9/9 b -\n1 1c1a 5k3/R8/8R/9/9/9/9/9/9 b -\n2 R*9b 9/4k4/8R/9/9/9/9/9/9 b R\nend\n";
+    let two =
+        "certificate 2 mate 1\nproblem 4k4/9/4P4/9/9/9/9/9/9 b G\n1 G*5b 4k4/9/4P4/9/9/9/9/9/9 b G\nend\n";
+    let none_of_two =
+        "certificate 2 escape 2\nproblem 4k4/9/4P4/9/9/9/9/9/9 b P\n4k4/9/4P4/9/9/9/9/9/9 b P\n9/4k4/9/9/9/9/9/9/9 b Pp\nend\n";
     let table = [
         (one, one),
+        (two, two),
+        (
+            "checkmate G*5b\ncertificate 2 mate 1\nproblem 4k4/9/4P4/9/9/9/9/9/9 b G\n1 G*5b 4k4/9/4P4/9/9/9/9/9/9 b G\nend\n",
+            two,
+        ),
+        (none_of_two, none_of_two),
+        (
+            "checkmate nomate\ncertificate 2 escape 2\nproblem 4k4/9/4P4/9/9/9/9/9/9 b P\n4k4/9/4P4/9/9/9/9/9/9 b P\n9/4k4/9/9/9/9/9/9/9 b Pp\nend\n",
+            none_of_two,
+        ),
         (
             "checkmate G*5b\ncertificate 1 mate 1\nproblem 4k4/9/4P4/9/9/9/9/9/9 b G\n1 G*5b 4k4/9/4P4/9/9/9/9/9/9 b G\nend\n",
             one,
@@ -38,6 +53,40 @@ fn certificates_are_read_and_written(rt: HostRuntime) {
             .ok()
             .expect(&rt, "memory");
         same(&rt, text, shown(&again), written);
+    }
+}
+
+// What the first line says is what the certificate is: its version, its claim and its count.
+#[test]
+fn the_first_line_tells_the_version_and_the_claim(rt: HostRuntime) {
+    for (text, version, claim) in [
+        (
+            "certificate 1 mate 1\nproblem 4k4/9/4P4/9/9/9/9/9/9 b G\n1 G*5b 4k4/9/4P4/9/9/9/9/9/9 b G\nend\n",
+            Version::One,
+            Claim::Mate,
+        ),
+        (
+            "certificate 2 mate 1\nproblem 4k4/9/4P4/9/9/9/9/9/9 b G\n1 G*5b 4k4/9/4P4/9/9/9/9/9/9 b G\nend\n",
+            Version::Two,
+            Claim::Mate,
+        ),
+        (
+            "certificate 1 escape 1\nproblem 4k4/9/4P4/9/9/9/9/9/9 b P\n4k4/9/4P4/9/9/9/9/9/9 b P\nend\n",
+            Version::One,
+            Claim::Escape,
+        ),
+        (
+            "certificate 2 escape 1\nproblem 4k4/9/4P4/9/9/9/9/9/9 b P\n4k4/9/4P4/9/9/9/9/9/9 b P\nend\n",
+            Version::Two,
+            Claim::Escape,
+        ),
+    ] {
+        let certificate = read_cert(rt.alloc(), text.as_bytes())
+            .ok()
+            .expect(&rt, "a certificate");
+        same(&rt, text, certificate.version(), version);
+        same(&rt, text, certificate.claim(), claim);
+        same(&rt, text, certificate.count(), 1);
     }
 }
 
@@ -91,6 +140,13 @@ fn a_bad_head_is_named(rt: HostRuntime) -> Result<(), Fail> {
         "certificate 1 mate 1\nproblem 8k/6P2/8S/9/9/9/9/9/9 b B2GPp",
         "certificate 1 mate 1\nproblem 8k/6P2/8S/9/9/9/9/9/9 b B2GPp 1\nend\n",
         "certificate 1 mate 1\r\nproblem 8k/6P2/8S/9/9/9/9/9/9 b B2GPp\nend\n",
+        "certificate 3 mate 1\nproblem 8k/6P2/8S/9/9/9/9/9/9 b B2GPp\n1 G*1b 8k/6P2/8S/9/9/9/9/9/9 b B2GPp\nend\n",
+        "certificate 0 mate 1\nproblem 8k/6P2/8S/9/9/9/9/9/9 b B2GPp\n1 G*1b 8k/6P2/8S/9/9/9/9/9/9 b B2GPp\nend\n",
+        "certificate 02 mate 1\nproblem 8k/6P2/8S/9/9/9/9/9/9 b B2GPp\n1 G*1b 8k/6P2/8S/9/9/9/9/9/9 b B2GPp\nend\n",
+        "certificate 21 mate 1\nproblem 8k/6P2/8S/9/9/9/9/9/9 b B2GPp\n1 G*1b 8k/6P2/8S/9/9/9/9/9/9 b B2GPp\nend\n",
+        "certificate 2 mate 0\nproblem 8k/6P2/8S/9/9/9/9/9/9 b B2GPp\nend\n",
+        "checkmate nomate\ncertificate 2 mate 1\nproblem 8k/6P2/8S/9/9/9/9/9/9 b B2GPp\n1 G*1b 8k/6P2/8S/9/9/9/9/9/9 b B2GPp\nend\n",
+        "checkmate G*1b\ncertificate 3 mate 1\nproblem 8k/6P2/8S/9/9/9/9/9/9 b B2GPp\n1 G*1b 8k/6P2/8S/9/9/9/9/9/9 b B2GPp\nend\n",
     ] {
         refused(rt.alloc(), &rt, text, "bad head")?;
     }
@@ -124,6 +180,14 @@ fn the_first_line_that_is_bad_or_does_not_rise_is_named(rt: HostRuntime) -> Resu
             "certificate 1 escape 2\nproblem 4k4/9/4P4/9/9/9/9/9/9 b P\n9/4k4/9/9/9/9/9/9/9 b Pp\n4k4/9/4P4/9/9/9/9/9/9 b P\nend\n",
             "not rising 2",
         ),
+        (
+            "certificate 2 mate 1\nproblem 8k/6P2/8S/9/9/9/9/9/9 b B2GPp\n0 G*1b 8k/6P2/8S/9/9/9/9/9/9 b B2GPp\nend\n",
+            "bad line 1",
+        ),
+        (
+            "certificate 2 escape 2\nproblem 4k4/9/4P4/9/9/9/9/9/9 b P\n9/4k4/9/9/9/9/9/9/9 b Pp\n4k4/9/4P4/9/9/9/9/9/9 b P\nend\n",
+            "not rising 2",
+        ),
     ] {
         refused(rt.alloc(), &rt, text, wanted)?;
     }
@@ -152,6 +216,10 @@ fn a_wrong_count_and_a_missing_end_are_named(rt: HostRuntime) -> Result<(), Fail
         (
             "certificate 1 mate 3\nproblem k8/2S6/9/9/9/9/9/9/9 b 2RBNPp\nend\n1 R*9c k8/1pS6/2B6/9/9/9/9/9/9 b 2RNP\n",
             "no end",
+        ),
+        (
+            "certificate 2 mate 1\nproblem 8k/6P2/8S/9/9/9/9/9/9 b B2GPp\nend\n",
+            "wrong count",
         ),
     ] {
         refused(rt.alloc(), &rt, text, wanted)?;

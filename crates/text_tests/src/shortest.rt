@@ -1,5 +1,7 @@
 // Texts about the shortest mate: those that are read say what stands in them, and of the others the
 // first fault is named.
+ghost use Rattle.shortest_text.specs.Reading.{IsReadable};
+
 use crate::same::{same, shown};
 use bound_text::append_bound;
 use cert_text::{append_mate_cert, append_number};
@@ -18,7 +20,9 @@ fn append_numbered(out: &mut Vec<u8>, words: &str, rank: Rank) -> Result<(), All
 }
 
 // What was read as it is written again, without a front line.
-fn written(alloc: Global, said: &ShortestText) -> Result<Vec<u8>, AllocError> {
+fn written(alloc: Global, said: &ShortestText) -> Result<Vec<u8>, AllocError>
+    requires { IsReadable said.now }
+{
     let mut out = Vec::new(alloc);
     match said {
         ShortestText::Found {
@@ -127,6 +131,8 @@ fn a_bad_head_is_named(rt: HostRuntime) -> Result<(), Fail> {
         "checkmate nomate\nnone within 3\nproblem 4k4/9/9/9/9/9/9/9/9 b -\nbound 1 1\n3 4k4/9/9/9/9/9/9/9/9 b -\nend\n",
         "checkmate timeout\nunknown expansions 5\n",
         "certificate 1 mate 4\nproblem 9/4k4/8R/9/9/9/9/9/9 b R\n1 1c1a 3k5/7R1/8R/9/9/9/9/9/9 b -\n1 1c1a 4k4/7R1/8R/9/9/9/9/9/9 b -\n1 1c1a 5k3/7R1/8R/9/9/9/9/9/9 b -\n2 R*2b 9/4k4/8R/9/9/9/9/9/9 b R\nend\n",
+        // A certificate of version 2, in which a line is bad too.
+        "checkmate G*5b\nshortest 1\ncertificate 2 mate 1\nproblem 4k4/9/4P4/9/9/9/9/9/9 b G\n0 G*5b 4k4/9/4P4/9/9/9/9/9/9 b G\nend\nbound 1 0\nend\n",
         // A second front line, and an escape.
         "checkmate R*2b 5b4a 1c1a\nshortest 2\ncheckmate G*5b\ncertificate 1 mate 4\nproblem 9/4k4/8R/9/9/9/9/9/9 b R\n1 1c1a 3k5/7R1/8R/9/9/9/9/9/9 b -\n1 1c1a 4k4/7R1/8R/9/9/9/9/9/9 b -\n1 1c1a 5k3/7R1/8R/9/9/9/9/9/9 b -\n2 R*2b 9/4k4/8R/9/9/9/9/9/9 b R\nend\nbound 1 1\n1 9/4k4/8R/9/9/9/9/9/9 b R\nend\n",
         "checkmate G*5b\nshortest 1\ncertificate 1 escape 1\nproblem 4k4/9/9/9/9/9/9/9/9 b -\n4k4/9/9/9/9/9/9/9/9 b -\nend\nbound 1 0\nend\n",

@@ -92,7 +92,9 @@ fn verdict_by<R: Threads + Sync>(
     certificate: &Certificate,
     pieces: usize,
 ) -> Result<Verdict, AllocError>
-    ensures { IfOk result (IsVerdict certificate.now problem.now.position) }
+    ensures verdict { IfOk result (IsVerdict certificate.now problem.now.position) }
+    ensures shows { IfOk result (λ verdict.
+        verdict ≡ Accepted → Shows certificate.now problem.now.position) }
 {
     if pieces <= 1 {
         return check(alloc, problem, certificate);
@@ -138,6 +140,5 @@ pub fn check_wide<R: Threads + Sync>(
     // What validity is worth, and that there is one verdict.
     valid_is_accepted();
     verdict_laws();
-    certificate.laws();
     verdict_by(rt, alloc, problem, certificate, pieces)
 }

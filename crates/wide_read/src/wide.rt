@@ -60,7 +60,7 @@ fn certificate_over<R: Threads + Sync>(
         Ok(text) => text,
         Err(end) => return Err(end),
     };
-    match text.claim {
+    match text.title.claim {
         Claim::Mate => {
             let lines = lines_over(rt, alloc, text.rest, &text.problem, pieces)?;
             text.mate(lines)

@@ -1,7 +1,7 @@
 use Rattle.std.proofs.Common.{◌∙◌, List, Contains, length, arith, ap, subst}
 use Rattle.board_core.specs.Board.{Board}
 use Rattle.mate_facts.specs.declared.entry.MateEntry.{MateEntry}
-use Rattle.cert_extract.proofs.Counts.{few_positions, some_entry}
+use Rattle.cert_extract.proofs.Counts.{few_positions}
 use Rattle.cert_extract.proofs.extract.Goals as goal
 
 pub returns-in_ok-mate_certificate-in-Mate-clause-from : goal.returns-in_ok-mate_certificate-in-Mate-clause-from
@@ -23,7 +23,7 @@ pub returns-in_ok-mate_certificate-in-Mate-clause-readable : goal.returns-in_ok-
 returns-in_ok-mate_certificate-in-Mate-clause-readable c fits =
     let many = c.in_ok-mate_certificate-in-Mate.ensures.count ∙ ap (λ (es : List MateEntry). length es) c.deref.ensures.value in
     c.in_ok-mate_certificate-in-Mate.ensures.readable
-    (some_entry c.in_ok-mate_certificate-in-Mate.field-0.entries _ c.in_ok-mate_certificate-in-Mate.ensures.valid.listed, (let few = c.in_ok-entries-in-Mate.ensures.few in omega (arith, many, few, fits)))
+    ((let some = c.in_ok-mate_certificate-in-Mate.ensures.valid.listed.listed.1 in omega (arith, some)), (let few = c.in_ok-entries-in-Mate.ensures.few in omega (arith, many, few, fits)))
 
 pub returns-in_ok-escape_certificate-in-Escape-clause-count : goal.returns-in_ok-escape_certificate-in-Escape-clause-count
 returns-in_ok-escape_certificate-in-Escape-clause-count c =
@@ -35,5 +35,5 @@ pub returns-in_ok-escape_certificate-in-Escape-clause-readable : goal.returns-in
 returns-in_ok-escape_certificate-in-Escape-clause-readable c fits =
     let many = c.in_ok-escape_certificate-in-Escape.ensures.count ∙ ap (λ (bs : List Board). length bs) c.deref-in-Escape.ensures.value in
     let few = c.in_ok-positions-in-Escape.ensures.few in
-    let some = c.in_ok-escape_certificate-in-Escape.ensures.valid.listed.1 in
+    let some = c.in_ok-escape_certificate-in-Escape.ensures.valid.listed.inside.1 in
     c.in_ok-escape_certificate-in-Escape.ensures.readable (omega (arith, some), omega (arith, many, few, fits))

@@ -31,6 +31,7 @@ returns-clause-readable c = λ _.
     c.loop-entry.invariant.kept in
     let listing = c.entries-entries.ensures.kept in
     let count = ap (λ (es : List BoundEntry). length es) c.entries-entries.ensures.entries in record {
+      version = c.requires;
       same = refl;
       good = record { fit = all_fit form c.args.bound.now.entries c.args.bound.now.entries (λ x at. at) listing.listed all; rising = listing.rising };
       few = omega arith;

@@ -14,6 +14,6 @@ loop-entry-preserved g c =
     let i = c.loop-entry.entry-index in
     let here = slice_get_read entries (length entries) i c.entry-item.result refl c.loop-entry-test.true c.entry-item.is in
     let apart = subst (λ (es : List _). AreApart (map at es)) (sym c.entries-entry-items.ensures.entries) c.entries-entry-items.ensures.apart in
-    c.in_ok-add.ensures.added _ _ c.loop-entry.invariant
+    c.in_ok-add.ensures.added (take i (map at entries)) (take (i + 1) (map at entries)) c.loop-entry.invariant
     (subst (λ (b : Board). IsWith (take i (map at entries)) b (take (i + 1) (map at entries))) (sym (c.position.ensures c.args.certificate.now.problem))
     (with_next (map at entries) i (at c.entry-item.result) apart (slice_get-map at entries i ∙ ap (option_map at) here)))

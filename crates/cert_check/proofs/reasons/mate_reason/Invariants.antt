@@ -1,9 +1,10 @@
 use Rattle.std.proofs.Common.{◌≡◌, ◌<◌, ℕ, get_or}
 use Rattle.board_core.specs.declared.moves.Move.{Move}
 use Rattle.shogi_rules.specs.Rules.{after}
-use Rattle.mate_facts.specs.Entries.{IsListedBelow}
+use Rattle.hand_dominance.specs.BorneOut.{CoversLower}
+use Rattle.dominance_places.specs.Covering.{version_of}
 use Rattle.cert_check.proofs.reasons.mate_reason.Given as goal
 
 abbrev pub invariant-loop-evasion : goal.invariant-loop-evasion
 invariant-loop-evasion l = (k : ℕ) (a : Move) → k < l.evasion-index → get_or l.evasion-items k a ≡ a
-    → IsListedBelow l.entries l.entry.rank.number (after l.checked a)
+    → CoversLower (version_of l.places) l.entries l.problem.position.side l.entry.rank.number (after l.checked a)

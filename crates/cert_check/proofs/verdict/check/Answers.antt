@@ -1,9 +1,10 @@
 use Rattle.std.proofs.Common.{◌≡◌, ◌↔◌}
-use Rattle.cert_check.specs.Valid.{IsValid, Shows}
+use Rattle.cert_check.specs.Valid.{IsValid}
 use Rattle.cert_check.specs.Reasons.{IsVerdict}
 use Rattle.cert_check.specs.declared.verdict.Verdict.{Verdict}
 use Rattle.cert_check.specs.declared.verdict.Verdict.TheVariants.{Accepted}
-use Rattle.cert_check.proofs.Verdicts.{turned, accepted_iff, shown}
+use Rattle.cert_check.proofs.Covered.{turned}
+use Rattle.cert_check.proofs.Verdicts.{accepted_iff}
 use Rattle.cert_check.proofs.verdict.check.Goals as goal
 
 pub returns-clause-accepted : goal.returns-clause-accepted
@@ -11,10 +12,3 @@ returns-clause-accepted c =
     turned (IsVerdict c.args.certificate.now c.args.problem.now.position)
     (λ (v : Verdict). (v ≡ Accepted) ↔ IsValid c.args.certificate.now c.args.problem.now.position)
     (λ v h. accepted_iff c.args.certificate.now c.args.problem.now.position v h) c.verdict_on.result c.verdict_on.ensures.verdict
-
-pub returns-clause-shows : goal.returns-clause-shows
-returns-clause-shows c =
-    turned (IsVerdict c.args.certificate.now c.args.problem.now.position)
-    (λ (v : Verdict). v ≡ Accepted → Shows c.args.certificate.now c.args.problem.now.position)
-    (λ v h e. shown c.args.certificate.now c.args.problem.now.position c.escape_is_no_mate.ensures c.verdict_on.ensures.kept
-    ((accepted_iff c.args.certificate.now c.args.problem.now.position v h).0 e)) c.verdict_on.result c.verdict_on.ensures.verdict

@@ -1,7 +1,8 @@
-use Rattle.std.proofs.Common.{◌∙◌, arith, sym, subst, List, ℕ, Contains}
+use Rattle.std.proofs.Common.{◌∙◌, arith, ap, sym, subst, List, ℕ, Contains}
 use Rattle.board_core.specs.Board.{Board}
 use Rattle.board_core.specs.Kept.{IsKept}
 use Rattle.mate_facts.specs.Entries.{AreApart}
+use Rattle.cert_text.specs.Certificate.{Mating}
 use Rattle.cert_order.specs.Order.{IsTextOrder, ArePicked}
 use Rattle.cert_order.proofs.Picked.{all_positions, as_many, of_entries, mating, valid_mate, same_mate, count_mate, readable_mate}
 use Rattle.cert_order.proofs.certificate.mate_certificate.Goals as goal
@@ -39,6 +40,7 @@ returns c =
     record {
       valid = valid_mate c.args.problem.now.position c.args.entries.now c.in_ok-sorted.sorted.items c.in_ok-order.order.items c.new.result c.new.ensures
           c.requires ordered picked;
+      version = ap (λ (c : Mating). c.version) c.new.ensures;
       same = same_mate c.args.problem.now.position c.args.entries.now c.in_ok-sorted.sorted.items c.in_ok-order.order.items c.new.result c.new.ensures
           ordered picked;
       count = count_mate c.args.problem.now.position c.args.entries.now c.in_ok-sorted.sorted.items c.in_ok-order.order.items c.new.result c.new.ensures

@@ -1,7 +1,5 @@
 use Rattle.std.proofs.Common.{List, sym, subst}
 use Rattle.board_core.specs.declared.moves.Move.{Move}
-use Rattle.cert_text.specs.declared.certificate.Certificate.{Certificate}
-use Rattle.cert_check.specs.Valid.{IsValid}
 use Rattle.kif_moves.specs.Playing.{AreInTurn, after_all}
 use Rattle.kif_record.specs.Mated.{IsMated}
 use Rattle.cmd_record.proofs.Line.{line_in_turn}
@@ -10,6 +8,5 @@ use Rattle.cmd_record.proofs.judging.recorded.Goals as goal
 pub returns-in_ok-moves-in-Accepted-clause-text : goal.returns-in_ok-moves-in-Accepted-clause-text
 returns-in_ok-moves-in-Accepted-clause-text c =
     let p = c.problem-problem.result.now.position in
-    let valid = subst (λ (certificate : Certificate). IsValid certificate p) c.requires (c.in_ok-check.ensures.accepted.0 c.in-Accepted.is) in
     subst (λ (moves : List Move). AreInTurn p.side p moves × IsMated p.side (after_all p moves)) (sym c.new.ensures)
-    (line_in_turn c.args.mate.now p p c.in_ok-moves-in-Accepted.moves.items valid c.in_ok-moves-in-Accepted.ensures.line)
+    (line_in_turn p.side p c.in_ok-moves-in-Accepted.moves.items c.in_ok-moves-in-Accepted.ensures.mates)

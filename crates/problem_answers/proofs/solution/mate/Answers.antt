@@ -14,7 +14,7 @@ returns-clause-shown c =
     let p = c.args.problem.now.position in (
       refl,
       record {
-        mate = (c.valid_is_accepted.ensures.shows mate p c.laws.ensures.kept c.requires.valid).mate;
+        mate = (c.valid_is_accepted.ensures.readable mate p c.requires.readable c.requires.valid).mate;
         valid = c.requires.valid;
         accepted = λ verdict is. c.valid_is_accepted.ensures.accepted mate p verdict is c.requires.valid;
         readable = c.requires.readable;

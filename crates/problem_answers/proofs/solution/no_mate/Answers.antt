@@ -9,7 +9,7 @@ returns-clause-shown c =
     let p = c.args.problem.now.position in (
       refl,
       record {
-        no_mate = (c.valid_is_accepted.ensures.shows escape p c.laws.ensures.kept c.requires.valid).no_mate;
+        no_mate = (c.valid_is_accepted.ensures.readable escape p c.requires.readable c.requires.valid).no_mate;
         valid = c.requires.valid;
         accepted = λ verdict is. c.valid_is_accepted.ensures.accepted escape p verdict is c.requires.valid;
         readable = c.requires.readable;

@@ -21,7 +21,7 @@ apply-checked-requires-clause-quiet c =
 pub apply-checked-requires-clause-legal : goal.apply-checked-requires-clause-legal
 apply-checked-requires-clause-legal c =
     (borne_at c.entry_laws.ensures.apart c.args.certificate.now c.args.problem.now.position c.loop-moves.position c.loop-moves.left
-    c.move_at-check.result c.requires.valid c.laws.ensures.apart c.loop-moves.invariant.lasts.ranked c.move_at-check.ensures.is_move).is_check.legal
+    c.move_at-check.result c.requires.valid c.requires.version c.laws.ensures.apart c.loop-moves.invariant.lasts.ranked c.move_at-check.ensures.is_move).is_check.legal
 
 pub first_lasting-requires-clause-some : goal.first_lasting-requires-clause-some
 first_lasting-requires-clause-some c =
@@ -32,8 +32,8 @@ first_lasting-requires-clause-some c =
     let least = some_left certificate bounds c.loop-moves.left c.loop-moves.position on.lasts in
     subst (CanEvadeTo p.side (Lasts certificate bounds (c.loop-moves.left - 1))) (sym c.apply-checked.ensures.position)
     (some_lasts c.entry_laws.ensures.apart c.rank_grows.ensures certificate bounds p c.loop-moves.position (c.args.rank - 1) c.loop-moves.left
-    c.move_at-check.result c.requires.valid c.laws.ensures.apart
-    (c.valid_is_accepted.ensures.shows (certificates.Mate certificate) p c.laws.ensures.kept c.requires.valid) c.requires.bound
+    c.move_at-check.result c.requires.valid c.requires.version c.laws.ensures.apart
+    (c.valid_is_accepted.ensures.readable (certificates.Mate certificate) p c.requires.readable c.requires.valid) c.requires.bound
     (c.valid_bound_is_accepted.ensures.shows bounds p (c.args.rank - 1) c.requires.bound) (omega (arith, least)) on.lasts
     c.move_at-check.ensures.is_move)
 

@@ -4,20 +4,22 @@ use Rattle.cert_text.specs.Reading.{IsCertificateOutcome}
 use Rattle.cert_text.specs.declared.certificate.Certificate.TheVariants as certificates
 use Rattle.cert_text.specs.declared.fault.CertEnd.TheVariants as ends
 use Rattle.cert_text.specs.declared.head.Claim.TheVariants.{Mate}
-use Rattle.cert_text.proofs.Bodies.{all_found, not_all_found, err_read}
+use Rattle.cert_text.proofs.Bodies.{claimed, begins_claimed, all_found, not_all_found, err_read}
 use Rattle.cert_text.proofs.read.OpenText.mate.Goals as goal
 
 pub returns : goal.returns
-returns c = λ bytes begins.
+returns c = λ bytes is begins.
     let problem = c.args.self.problem.position in
+    let begun = begins_claimed c.args.self.title Mate c.args.self.count problem c.args.self.rest.now bytes is begins in
     subst (λ (m : Mating). IsCertificateOutcome bytes (Ok (certificates.Mate m))) (sym c.new.ensures)
-    (all_found Mate (mate_form problem) c.args.self.count problem c.args.self.rest.now bytes c.args.lines.entries.items c.in_ok-entries.entries.items
-    c.args.lines.last.now c.args.lines.stop begins c.requires c.in_ok-entries.ensures.same c.in_ok-entries.ensures.all)
+    (all_found (claimed c.args.self.title Mate) (mate_form problem) c.args.self.count problem c.args.self.rest.now bytes c.args.lines.entries.items c.in_ok-entries.entries.items
+    c.args.lines.last.now c.args.lines.stop begun c.requires c.in_ok-entries.ensures.same c.in_ok-entries.ensures.all)
 
 pub returns-in_err-entries : goal.returns-in_err-entries
-returns-in_err-entries c = λ bytes begins.
+returns-in_err-entries c = λ bytes is begins.
     let problem = c.args.self.problem.position in
+    let begun = begins_claimed c.args.self.title Mate c.args.self.count problem c.args.self.rest.now bytes is begins in
     err_read bytes c.from_residual.result (ends.Fault c.in_err-entries.field-0.0)
     c.from_residual.ensures.0 c.from_residual.ensures.1
-    (not_all_found Mate (mate_form problem) c.args.self.count problem c.args.self.rest.now bytes c.args.lines.entries.items c.args.lines.last.now c.args.lines.stop
-    c.in_err-entries.field-0.0 (λ fault h. h) begins c.requires c.in_err-entries.ensures.not_all c.in_err-entries.ensures.fault)
+    (not_all_found (claimed c.args.self.title Mate) (mate_form problem) c.args.self.count problem c.args.self.rest.now bytes c.args.lines.entries.items c.args.lines.last.now c.args.lines.stop
+    c.in_err-entries.field-0.0 (λ fault h. h) begun c.requires c.in_err-entries.ensures.not_all c.in_err-entries.ensures.fault)

@@ -1,6 +1,6 @@
 use Rattle.cert_text.proofs.Cuts.{if_none_always}
 use Rattle.cert_text.proofs.Heads.{no_claim}
-use Rattle.cert_text.proofs.head.claim_of_line.Goals as goal
+use Rattle.cert_text.proofs.head.claim_of.Goals as goal
 
 pub returns-in_err-digits-clause-none : goal.returns-in_err-digits-clause-none
 returns-in_err-digits-clause-none c =
