@@ -56,18 +56,29 @@ matched attacker over under check evasion high low d is answers =
           (above_shifted attacker less more (after mid evasion) ends.black ends.white last);
     }
 
--- 2. ENTRIES.
+-- an evasion above is one below, and leads to what dominates what it leads to below
+pub serves_below : (attacker : Side) (over under : Board) (evasion : Move) → IsKept over → IsKept under → Dominates attacker over under
+    → IsEvasion attacker over evasion → IsEvasion attacker under evasion × Dominates attacker (after over evasion) (after under evasion)
+serves_below attacker over under evasion high low d is =
+    let less = less_in attacker over under in
+    let more = more_in attacker over under in
+    let begun = shifted_under attacker over under high low d in
+    let as_handed = same_board over under d.cells d.turn in
+    let down = after (handed over under.black under.white) evasion in
+    let last = shifted_evasion attacker less more over under.black under.white evasion begun is in
+    let whole : after under evasion ≡ handed (after over evasion) down.black down.white =
+    ap (λ (it : Board). after it evasion) as_handed ∙ after_handed over under.black under.white evasion in (
+      subst (λ (it : Board). IsEvasion attacker it evasion) (sym as_handed) (evasion_down attacker less more over under.black under.white evasion begun is),
+      subst (Dominates attacker (after over evasion)) (sym whole) (above_shifted attacker less more (after over evasion) down.black down.white last),
+    )
 
--- at its own position
-borne_out_here : (version : Version) (attacker : Side) (entries : List MateEntry) (entry : MateEntry) → IsBorneOut version entries attacker entry
-    → IsBorneOutAt version entries attacker entry entry.at
-borne_out_here version attacker entries entry borne = record { check = borne.check; evasions = borne.evasions }
+-- 2. ENTRIES.
 
 pub borne_out_above : (version : Version) (attacker : Side) (entries : List MateEntry) (entry : MateEntry) (position : Board)
     → IsBorneOut version entries attacker entry → IsKept position → IsKept entry.at → Covers version attacker position entry.at
     → IsBorneOutAt version entries attacker entry position
 borne_out_above One attacker entries entry position borne high low covers =
-    subst (IsBorneOutAt One entries attacker entry) (sym covers) (borne_out_here One attacker entries entry borne)
+    subst (IsBorneOutAt One entries attacker entry) (sym covers) borne
 borne_out_above Two attacker entries entry position borne high low covers = record {
   check = check_above attacker position entry.at entry.by high low covers borne.check;
   evasions = λ evasion answers.

@@ -38,19 +38,16 @@ pub record CoversLower (version : Version) (entries : List MateEntry) (attacker 
   pub covers : Covers version attacker position entry.at
   pub lower : entry.rank.number < rank
 
--- An entry of a mate is borne out: its move is a check of its position, and each evasion to it
--- leads to a position that covers a listed one of lower rank.
-pub record IsBorneOut (version : Version) (entries : List MateEntry) (attacker : Side) (entry : MateEntry) : Type 0 where
-  pub check : IsCheck attacker entry.at entry.by
-  pub evasions : (evasion : Move) → IsEvasion attacker (after entry.at entry.by) evasion
-      → CoversLower version entries attacker entry.rank.number (after_both entry.at entry.by evasion)
-
 -- An entry of a mate is borne out at a position: its move is a check of that, and each evasion to
 -- it leads to a position that covers a listed one of lower rank.
 pub record IsBorneOutAt (version : Version) (entries : List MateEntry) (attacker : Side) (entry : MateEntry) (position : Board) : Type 0 where
   pub check : IsCheck attacker position entry.by
   pub evasions : (evasion : Move) → IsEvasion attacker (after position entry.by) evasion
       → CoversLower version entries attacker entry.rank.number (after_both position entry.by evasion)
+
+-- An entry of a mate is borne out: it is so at its own position.
+abbrev pub IsBorneOut : Version → List MateEntry → Side → MateEntry → Type 0
+IsBorneOut version entries attacker entry = IsBorneOutAt version entries attacker entry entry.at
 
 -- The positions of the entries keep what every position keeps, and the entries are borne out.
 abbrev pub AreBorneOut : Version → List MateEntry → Side → Type 0

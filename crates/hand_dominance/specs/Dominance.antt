@@ -3,8 +3,11 @@ use Rattle.std.specs.Prelude.{◌≡◌, ◌≤◌, ℕ}
 use Rattle.bit_boards.specs.declared.piece.Kind.{Kind}
 use Rattle.bit_boards.specs.declared.piece.Side.{Side}
 use Rattle.bit_boards.specs.Kind.{other}
+use Rattle.board_core.specs.declared.moves.Move.{Move}
 use Rattle.board_core.specs.Board.{Board, hand_count, hand_of}
 use Rattle.board_core.specs.Kept.{IsKept}
+use Rattle.shogi_rules.specs.Rules.{after}
+use Rattle.shogi_rules.specs.Tsume.{IsEvasion}
 use Rattle.mate_def.specs.Mate.{RankAtMost, IsMatedWithin, Escapes, CanEvadeTo}
 
 -- The one position dominates the other, for this attacker: the same board, the same side to move,
@@ -33,6 +36,13 @@ EachDominatesItself = (attacker : Side) (b : Board) → Dominates attacker b b
 -- A law: what dominates a position dominates each that this one dominates.
 abbrev pub DominanceGoesOn : Type 0
 DominanceGoesOn = (attacker : Side) (over between under : Board) → Dominates attacker over between → Dominates attacker between under → Dominates attacker over under
+
+-- A law: where one position dominates another, and both keep what every position keeps, an evasion
+-- from the one is an evasion from the other, and what it leads to from the one dominates what it
+-- leads to from the other.
+abbrev pub EvasionsServeBelow : Type 0
+EvasionsServeBelow = (attacker : Side) (over under : Board) (evasion : Move) → IsKept over → IsKept under → Dominates attacker over under
+    → IsEvasion attacker over evasion → IsEvasion attacker under evasion × Dominates attacker (after over evasion) (after under evasion)
 
 -- A law: a mate within a number of moves carries up.
 abbrev pub MatesCarryUp : Type 0

@@ -12,7 +12,7 @@
 mod version;
 
 ghost use Rattle.hand_dominance.specs.BorneOut.{BorneOutAbove, BorneOutStays, CoversStays, EscapesWhereListed, HeldStays, NoMateWhereCovered, RanksWhereCovered};
-ghost use Rattle.hand_dominance.specs.Dominance.{DominanceGoesOn, EachDominatesItself, EscapesCarryDown, EvasionsCarryDown, MatedCarryUp, MatesCarryUp};
+ghost use Rattle.hand_dominance.specs.Dominance.{DominanceGoesOn, EachDominatesItself, EscapesCarryDown, EvasionsCarryDown, EvasionsServeBelow, MatedCarryUp, MatesCarryUp};
 
 pub use version::Version;
 
@@ -23,6 +23,9 @@ pub fn dominance_laws()
     // Each position dominates itself, and what those dominate that it dominates.
     ensures itself { EachDominatesItself }
     ensures goes_on { DominanceGoesOn }
+    // An evasion from what dominates a position is one from the position, and leads from the one to
+    // what dominates what it leads to from the other.
+    ensures evades { EvasionsServeBelow }
     // What dominates a position that is mate within so many moves is mate within as many.
     ensures mates { MatesCarryUp }
     // And so it is where the defender is to move.

@@ -1,6 +1,7 @@
 use Rattle.mate_def.specs.Mate.{RankAtMost, IsMatedWithin, Escapes, CanEvadeTo}
 use Rattle.hand_dominance.proofs.Carried.{rank_up, mated_up, escape_down, evade_down, carries_up, carries_down}
 use Rattle.hand_dominance.proofs.Listed.{itself, above_too}
+use Rattle.hand_dominance.proofs.Above.{serves_below}
 use Rattle.hand_dominance.proofs.dominance_laws.Goals as goal
 
 pub returns-clause-mates : goal.returns-clause-mates
@@ -20,3 +21,6 @@ returns-clause-itself c = itself
 
 pub returns-clause-goes_on : goal.returns-clause-goes_on
 returns-clause-goes_on c = above_too
+
+pub returns-clause-evades : goal.returns-clause-evades
+returns-clause-evades c = serves_below
