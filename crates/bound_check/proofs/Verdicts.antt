@@ -105,7 +105,3 @@ shown entries p within v = record {
 }
 
 -- 5. From what one call found to what another says.
-
-pub turned : {T E : Type 0} (P Q : T → Type 0) → ((x : T) → P x → Q x) → (r : Result T E) → IfOk r P → IfOk r Q
-turned P Q turn (Ok x) h = turn x h
-turned P Q turn (Err e) h = h

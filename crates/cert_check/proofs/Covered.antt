@@ -1,58 +1,60 @@
 -- What is found among the positions of a list by their places.
-use Rattle.std.proofs.Common.{◌≡◌, ◌<◌, ◌↔◌, inr, ℕ, List, arith, ap, length, sym, refl, ◌∙◌, subst}
-use Rattle.std.specs.Prelude.{Some, None, Option, IfSome, IsTrue, is_some, slice_get, Result, Ok, Err, IfOk}
-use Rattle.std.specs.Option.{option_map}
-use Rattle.std.proofs.lemmas.Option.{slice_get_within, slice_get-map, same_Some}
+use Rattle.std.proofs.Common.{◌≡◌, ◌<◌, ◌↔◌, inr, ℕ, List, arith, ap, get_or, length, sym, refl, subst}
+use Rattle.std.specs.Prelude.{Some, None, Option, IfSome, IsTrue, is_some, slice_get}
+use Rattle.std.proofs.lemmas.Option.{get_or_from_slice_get, slice_get_within}
 use Rattle.list_laws.proofs.Standing.{contained, at_place, from_map}
 use Rattle.bit_boards.specs.declared.piece.Side.{Side}
 use Rattle.board_core.specs.Board.{Board}
 use Rattle.mate_facts.specs.declared.entry.MateEntry.{MateEntry}
-use Rattle.mate_facts.specs.Entries.{AreApart, positions_of}
-use Rattle.position_places.specs.Places.{ArePlacesOf, IsPlace}
-use Rattle.position_places.specs.declared.places.Places.{Places}
+use Rattle.mate_facts.specs.Entries.{positions_of}
 use Rattle.hand_dominance.specs.declared.version.Version.{Version}
-use Rattle.hand_dominance.specs.declared.version.Version.TheVariants.{One}
-use Rattle.hand_dominance.specs.BorneOut.{AreKept, CoversListed}
+use Rattle.hand_dominance.specs.BorneOut.{AreKept, CoversListed, CoversStays, IsCovered}
 use Rattle.dominance_places.specs.declared.covering.CoverPlaces.{CoverPlaces}
 use Rattle.dominance_places.specs.declared.covering.CoverPlaces.TheVariants.{Same, Boards}
-use Rattle.dominance_places.specs.Covering.{AreCoverPlacesOf, version_of}
-use Rattle.dominance_places.specs.Found.{IsFoundCovered, StandsCovered}
+use Rattle.dominance_places.specs.Covering.{AreCoverPlacesOf}
+use Rattle.dominance_places.specs.Found.{IsFoundCovered}
+use Rattle.cert_check.specs.Reached.{IsFoundFor, StandsLower}
 
 -- the positions whose places are known keep what every position keeps
 pub places_kept : (places : CoverPlaces) (positions : List Board) → AreCoverPlacesOf places positions → AreKept positions
 places_kept (Same places) positions are = are.kept
-places_kept (Boards places) positions are = are.kept
+places_kept (Boards boards by_key) positions are = are.0.kept
 
-abbrev position_of : MateEntry → Board
-position_of entry = entry.at
+-- a position that is listed covers itself
+pub covers_itself : CoversStays → (version : Version) (positions : List Board) (attacker : Side) (p : Board) (o : Option ℕ) (place : ℕ) → o ≡ Some place
+    → IfSome o (λ at. slice_get positions at ≡ Some p) → IsCovered version positions attacker p
+covers_itself stays version positions attacker p o place e at =
+    let there = subst (λ (found : Option ℕ). IfSome found (λ at. slice_get positions at ≡ Some p)) e at in
+    record { listed = p; inside = contained positions place p there; covers = stays version attacker p p refl }
 
--- what stands at the place of an entry that the position covers in version 1 is the position
-stands_there : (entries : List MateEntry) (attacker : Side) (p : Board) (place : ℕ) → StandsCovered One entries attacker p place
-    → slice_get (positions_of entries) place ≡ Some p
-stands_there entries attacker p place s =
-    slice_get-map position_of entries place ∙ (ap (option_map position_of) s.there ∙ ap Some (sym s.covers))
+-- what is found by the key of a mate's position stands among the entries
+pub listed_at : (entries : List MateEntry) (p : Board) (o : Option ℕ) (place : ℕ) → o ≡ Some place
+    → IfSome o (λ at. slice_get (positions_of entries) at ≡ Some p) → slice_get (positions_of entries) place ≡ Some p
+listed_at entries p o place e at = subst (λ (found : Option ℕ). IfSome found (λ at. slice_get (positions_of entries) at ≡ Some p)) e at
 
--- in version 1 the place of the position is that of the one entry that it covers
-found_same : (entries : List MateEntry) (attacker : Side) (p : Board) (o : Option ℕ) → AreApart (positions_of entries)
-    → IsPlace (positions_of entries) p o → IsFoundCovered One entries attacker p o
-found_same entries attacker p None apart is = λ place s.
-    is (contained (positions_of entries) place p (stands_there entries attacker p place s))
-found_same entries attacker p (Some place) apart is =
-    let f = from_map position_of entries place p is in
+pub listed_within : (entries : List MateEntry) (p : Board) (o : Option ℕ) (place : ℕ) → o ≡ Some place
+    → IfSome o (λ at. slice_get (positions_of entries) at ≡ Some p) → place < length entries
+listed_within entries p o place e at =
+    let f = from_map (λ (x : MateEntry). x.at) entries place p (listed_at entries p o place e at) in
+    slice_get_within entries place f.0 f.1
+
+-- an entry of lower rank with the position itself is one that it covers
+pub stands_lower : CoversStays → (version : Version) (entries : List MateEntry) (attacker : Side) (rank : ℕ) (p : Board) (place : ℕ) (entry : MateEntry)
+    → slice_get (positions_of entries) place ≡ Some p → (get_or entries place entry).rank.number < rank
+    → StandsLower version entries attacker rank p place
+stands_lower stays version entries attacker rank p place entry there lower =
+    let f = from_map (λ (e : MateEntry). e.at) entries place p there in
+    let same = ap (λ (e : MateEntry). e.rank.number) (get_or_from_slice_get entries place f.0 entry f.1) in
     record {
-      stands = record { entry = f.0; there = f.1; covers = sym f.2 };
-      least = λ other covered.
-          let e = apart place other p is (stands_there entries attacker p other covered) in
-          let same = same_Some f.0 covered.entry (sym f.1 ∙ subst (λ (k : ℕ). slice_get entries k ≡ Some covered.entry) (sym e) covered.there) in
-          inr (ap (λ (x : MateEntry). x.rank.number) same, omega (arith, e));
+      stands = record { entry = f.0; there = f.1; covers = stays version attacker p f.0.at (sym f.2) };
+      lower = omega (arith, same, lower);
     }
 
-pub found_by_key : (places : CoverPlaces) (same : Places) (entries : List MateEntry) (attacker : Side) (p : Board) (o : Option ℕ) → places ≡ Same same
-    → AreCoverPlacesOf places (positions_of entries) → (ArePlacesOf same (positions_of entries) → IsPlace (positions_of entries) p o)
-    → IsFoundCovered (version_of places) entries attacker p o
-found_by_key places same entries attacker p o e are place =
-    let here = subst (λ (q : CoverPlaces). AreCoverPlacesOf q (positions_of entries)) e are in
-    subst (λ (q : CoverPlaces). IsFoundCovered (version_of q) entries attacker p o) (sym e) (found_same entries attacker p o here.apart (place here))
+-- what is found without a rank is found for each
+pub for_rank : (version : Version) (entries : List MateEntry) (attacker : Side) (rank : ℕ) (p q : Board) (o : Option ℕ) → p ≡ q
+    → IsFoundCovered version entries attacker p o → IsFoundFor version entries attacker rank q o
+for_rank version entries attacker rank p q None e f = subst (λ (b : Board). IsFoundCovered version entries attacker b None) e f
+for_rank version entries attacker rank p q (Some place) e f = inr (subst (λ (b : Board). IsFoundCovered version entries attacker b (Some place)) e f)
 
 -- what is found is listed
 pub found_within : (version : Version) (entries : List MateEntry) (attacker : Side) (p : Board) (o : Option ℕ) → IsFoundCovered version entries attacker p o
@@ -71,7 +73,3 @@ found_some version entries attacker p (Some place) f = (
   (λ yes. record { entry = f.stands.entry; listed = contained entries place f.stands.entry f.stands.there; covers = f.stands.covers }),
   (λ l. refl),
 )
-
-pub turned : {T E : Type 0} (P Q : T → Type 0) → ((x : T) → P x → Q x) → (r : Result T E) → IfOk r P → IfOk r Q
-turned P Q turn (Ok x) h = turn x h
-turned P Q turn (Err e) h = h

@@ -1,5 +1,5 @@
 -- The first reason against one entry.
-use Rattle.std.proofs.Common.{◌≡◌, ◌<◌, ◌≤◌, ◌+◌, ℕ, List, get_or, length, arith, ap, sym, ◌∙◌, subst, ⊎_elim}
+use Rattle.std.proofs.Common.{◌≡◌, ◌<◌, ◌≤◌, ◌+◌, ℕ, List, get_or, length, arith, ap, sym, ◌∙◌, subst, inl, inr, ⊎_elim}
 use Rattle.std.specs.Prelude.{Some, None}
 use Rattle.std.proofs.lemmas.Option.{get_or_from_slice_get}
 use Rattle.bit_boards.specs.declared.piece.Side.{Side}
@@ -12,7 +12,8 @@ use Rattle.shogi_rules.specs.Tsume.{IsCheck, IsEvasion}
 use Rattle.mate_def.specs.Mate.{HasEvasionTo, after_both}
 use Rattle.hand_dominance.specs.declared.version.Version.{Version}
 use Rattle.hand_dominance.specs.BorneOut.{CoversListed, CoversLower, IsBorneOut, IsCovered, IsHeld}
-use Rattle.dominance_places.specs.Found.{IsFoundCovered, IsLeastCovered}
+use Rattle.dominance_places.specs.Found.{IsFoundCovered, StandsCovered}
+use Rattle.cert_check.specs.Reached.{IsFoundFor}
 use Rattle.cert_check.specs.Reasons.{IsNotLower, MateReason, IsEvasionJudged, EscapeReason, IsFirstReason, reason_order}
 use Rattle.cert_check.specs.declared.verdict.Why.{Why}
 use Rattle.cert_check.specs.declared.verdict.Why.TheVariants.{RootMissing, NotACheck, EvasionOutside, RankNotLower, CheckUnanswered}
@@ -23,32 +24,42 @@ use Rattle.list_laws.proofs.Standing.{contained, at_place}
 
 -- what is read at the place that was found is the entry that stands there
 read_there : (version : Version) (entries : List MateEntry) (attacker : Side) (p : Board) (place : ℕ) (entry : MateEntry)
-    → (f : IsLeastCovered version entries attacker p place) → (get_or entries place entry).rank.number ≡ f.stands.entry.rank.number
-read_there version entries attacker p place entry f =
-    ap (λ (x : MateEntry). x.rank.number) (get_or_from_slice_get entries place f.stands.entry entry f.stands.there)
+    → (s : StandsCovered version entries attacker p place) → (get_or entries place entry).rank.number ≡ s.entry.rank.number
+read_there version entries attacker p place entry s =
+    ap (λ (x : MateEntry). x.rank.number) (get_or_from_slice_get entries place s.entry entry s.there)
 
 pub none_found : (version : Version) (entries : List MateEntry) (attacker : Side) (p : Board) → IsFoundCovered version entries attacker p None
     → ¬ CoversListed version entries attacker p
 none_found version entries attacker p found l =
     found l.listed.0 (record { entry = l.entry; there = at_place entries l.entry l.listed; covers = l.covers })
 
-pub found_lower : (version : Version) (entries : List MateEntry) (attacker : Side) (p : Board) (place rank : ℕ) (entry : MateEntry)
-    → IsLeastCovered version entries attacker p place
+lower_there : (version : Version) (entries : List MateEntry) (attacker : Side) (p : Board) (place rank : ℕ) (entry : MateEntry)
+    → StandsCovered version entries attacker p place
     → (get_or entries place entry).rank.number < rank → CoversLower version entries attacker rank p
-found_lower version entries attacker p place rank entry f lower =
-    let same = read_there version entries attacker p place entry f in
+lower_there version entries attacker p place rank entry s lower =
+    let same = read_there version entries attacker p place entry s in
     record {
-      entry = f.stands.entry;
-      listed = contained entries place f.stands.entry f.stands.there;
-      covers = f.stands.covers;
+      entry = s.entry;
+      listed = contained entries place s.entry s.there;
+      covers = s.covers;
       lower = omega (arith, same, lower);
     }
 
+pub found_lower : (version : Version) (entries : List MateEntry) (attacker : Side) (p : Board) (place rank : ℕ) (entry : MateEntry)
+    → IsFoundFor version entries attacker rank p (Some place)
+    → (get_or entries place entry).rank.number < rank → CoversLower version entries attacker rank p
+found_lower version entries attacker p place rank entry (inl s) lower = lower_there version entries attacker p place rank entry s.stands lower
+found_lower version entries attacker p place rank entry (inr f) lower = lower_there version entries attacker p place rank entry f.stands lower
+
 pub found_not_lower : (version : Version) (entries : List MateEntry) (attacker : Side) (p : Board) (place rank : ℕ) (entry : MateEntry)
-    → IsLeastCovered version entries attacker p place
+    → IsFoundFor version entries attacker rank p (Some place)
     → rank ≤ (get_or entries place entry).rank.number → IsNotLower version entries attacker rank p
-found_not_lower version entries attacker p place rank entry f not_lower =
-    let same = read_there version entries attacker p place entry f in
+found_not_lower version entries attacker p place rank entry (inl s) not_lower =
+    let same = read_there version entries attacker p place entry s.stands in
+    let w = s.lower in
+    absurd (omega (arith, same, not_lower, w))
+found_not_lower version entries attacker p place rank entry (inr f) not_lower =
+    let same = read_there version entries attacker p place entry f.stands in
     record {
       listed = record { entry = f.stands.entry; listed = contained entries place f.stands.entry f.stands.there; covers = f.stands.covers };
       not_lower = λ l.

@@ -3,6 +3,7 @@ use Rattle.std.proofs.Common.{◌≡◌, ◌<◌, ◌≤◌, inl, inr, ◌↔◌
 use Rattle.std.specs.Prelude.{Some, None, Option, IsTrue, slice_get, IsSomeAnd, Result, IfOk}
 use Rattle.std.proofs.Math.ListN.{length-map}
 use Rattle.std.proofs.lemmas.Option.{slice_get_read, slice_get_within, get_or_from_slice_get}
+use Rattle.std.proofs.lemmas.Result.{IfOk-weaker}
 use Rattle.bit_boards.specs.declared.piece.Side.{Side}
 use Rattle.mate_facts.specs.declared.entry.MateEntry.{MateEntry}
 use Rattle.board_core.specs.Board.{Board}
@@ -15,7 +16,6 @@ use Rattle.cert_text.specs.Certificate.{Mating, Escaping, IsMating, IsEscaping}
 use Rattle.cert_text.specs.Kinds.{version_of, problem_of, positions_in, IsKeptBy}
 use Rattle.mate_facts.specs.Entries.{positions_of}
 use Rattle.cert_check.specs.Valid.{IsValid}
-use Rattle.cert_check.proofs.Covered.{turned}
 use Rattle.cert_check.specs.Reasons.{MateReason, EscapeReason, StandsFor, RootReason, EntryReason, EntryHolds, HasReason, IsFirstReason, IsSooner, IsVerdict, reason_order}
 use Rattle.cert_check.specs.Hearing.{IsFoundIn, IsRootTold}
 use Rattle.cert_check.specs.declared.hearing.Objection.{Objection}
@@ -52,8 +52,8 @@ mate_judged {E} c m attacker version entries place entry r e v f h is j =
     (subst (λ (es : List MateEntry). place < length es → entry ≡ get_or es place entry
     → IfOk r (λ reason. IsFirstReason (IsBorneOut m.version es attacker entry) (MateReason m.version es attacker entry) reason)
     → IfOk r (λ reason. IsFirstReason (EntryHolds (Mate m) attacker place) (EntryReason (Mate m) attacker place) reason)) (sym f)
-    (λ h2 is2 j2. turned _ _
-    (λ o. judged_at m.entries place entry (IsBorneOut m.version m.entries attacker) (MateReason m.version m.entries attacker) o h2 is2) r j2)
+    (λ h2 is2 j2. IfOk-weaker r _ _
+    (λ o. judged_at m.entries place entry (IsBorneOut m.version m.entries attacker) (MateReason m.version m.entries attacker) o h2 is2) j2)
     (mate_place c m entries place e f h) is
     (subst (λ (w : Version). IfOk r (λ reason. IsFirstReason (IsBorneOut w entries attacker entry) (MateReason w entries attacker entry) reason))
     (v ∙ ap version_of e) j))
@@ -79,8 +79,8 @@ escape_judged {E} c m attacker version entries place b r e v f h is j =
     (subst (λ (es : List Board). place < length es → b ≡ get_or es place b
     → IfOk r (λ reason. IsFirstReason (IsHeld m.version es attacker b) (EscapeReason m.version es attacker b) reason)
     → IfOk r (λ reason. IsFirstReason (EntryHolds (Escape m) attacker place) (EntryReason (Escape m) attacker place) reason)) (sym f)
-    (λ h2 is2 j2. turned _ _
-    (λ o. judged_at m.entries place b (IsHeld m.version m.entries attacker) (EscapeReason m.version m.entries attacker) o h2 is2) r j2)
+    (λ h2 is2 j2. IfOk-weaker r _ _
+    (λ o. judged_at m.entries place b (IsHeld m.version m.entries attacker) (EscapeReason m.version m.entries attacker) o h2 is2) j2)
     (escape_place c m entries place e f h) is
     (subst (λ (w : Version). IfOk r (λ reason. IsFirstReason (IsHeld w entries attacker b) (EscapeReason w entries attacker b) reason))
     (v ∙ ap version_of e) j))

@@ -1,5 +1,6 @@
 -- This project's: docs/formats.md.
 pub mod Hearing
 pub mod Valid
+pub mod Reached
 pub mod Reasons
 pub mod Upgraded

@@ -1,5 +1,5 @@
 // The hearing of a certificate: what is found among its entries, in one stretch or in several.
-ghost use Rattle.std.specs.Prelude.{◌≡◌, ◌<◌, ◌≤◌, ◌↔◌, length, IfOk, IfSome, IsTrue};
+ghost use Rattle.std.specs.Prelude.{◌≡◌, ◌<◌, ◌≤◌, ◌↔◌, true, length, IfOk, IfSome, IfNone, IsTrue};
 ghost use Rattle.board_core.specs.Kept.{IsKept};
 ghost use Rattle.hand_dominance.specs.BorneOut.{AreKept};
 ghost use Rattle.dominance_places.specs.Covering.{AreCoverPlacesOf};
@@ -8,7 +8,8 @@ ghost use Rattle.cert_text.specs.Kinds.{version_of, problem_of, positions_in, Is
 ghost use Rattle.cert_check.specs.Valid.{Shows};
 ghost use Rattle.cert_check.specs.Hearing.{IsFoundIn, IsRootTold};
 ghost use Rattle.cert_check.specs.Reasons.{EntryReason, EntryHolds, IsFirstReason, IsVerdict, StandsFor};
-ghost use Rattle.cert_check.specs.declared.verdict.Verdict.TheVariants.{Accepted};
+ghost use Rattle.cert_check.specs.declared.verdict.Verdict.TheVariants.{Accepted, Refused};
+ghost use Rattle.cert_check.specs.declared.verdict.Why.TheVariants.{RootMissing};
 
 use crate::places::cover_places_of;
 use crate::reasons::{Lists, escape_reason, mate_reason};
@@ -178,9 +179,9 @@ impl<'c> Hearing<'c> {
     /// problem, or none of its positions stands for the problem's. Takes no memory.
     pub fn root_verdict(&self) -> Option<Verdict>
         ensures verdict { IfSome result (IsVerdict self.now.certificate self.now.problem) }
-        // It isn't accepted.
-        ensures shows { IfSome result (λ verdict. verdict ≡ Accepted
-            → Shows self.now.certificate self.now.problem) }
+        ensures refused { IfSome result (λ verdict. verdict ≡ Refused 0 RootMissing) }
+        // There is none exactly where nothing speaks against the certificate as a whole.
+        ensures none { IfNone result (IsRootTold self.now.certificate self.now.problem true) }
     {
         if self.root() {
             return None;

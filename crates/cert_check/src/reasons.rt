@@ -9,18 +9,19 @@ ghost use Rattle.mate_facts.specs.Entries.{positions_of};
 ghost use Rattle.hand_dominance.specs.declared.version.Version.{Version};
 ghost use Rattle.hand_dominance.specs.BorneOut.{IsBorneOut, IsCovered, IsHeld};
 ghost use Rattle.dominance_places.specs.Covering.{AreCoverPlacesOf, version_of};
-ghost use Rattle.dominance_places.specs.Found.{IsFoundCovered};
+ghost use Rattle.cert_check.specs.Reached.{IsFoundFor};
 ghost use Rattle.cert_check.specs.Reasons.{MateReason, EscapeReason, IsFirstReason, IsEvasionJudged};
 
-use crate::reached::{covered_after, is_covered_after};
+use crate::reached::covered_after;
 use crate::verdict::Why;
 use board_core::{Move, Position, key, order_laws};
 use check_moves::checks_into;
 use dominance_places::CoverPlaces;
 use evasions::answers_into;
+use hand_dominance::listing_laws;
 use mate_facts::MateEntry;
 use move_lists::Moves;
-use shogi_rules::{Problem, apply, is_check};
+use shogi_rules::{Problem, apply, is_check, key_after};
 use std::alloc::{AllocError, Global};
 
 /// Lists that are filled again for each entry, and working room.
@@ -42,8 +43,8 @@ impl Lists {
     }
 }
 
-// What speaks against an evasion from an entry of this rank, by the place of the entry of least
-// rank that the position after it covers.
+// What speaks against an evasion from an entry of this rank, by the place of an entry that the
+// position after it covers, found for this rank.
 fn evasion_reason(
     entries: &[MateEntry],
     covered: Option<usize>,
@@ -52,7 +53,7 @@ fn evasion_reason(
 ) -> Option<Why>
     requires { IfSome covered (λ place. place < length entries.now) }
     ensures { (version : Version) (attacker : Side) (position : Board)
-        → IsFoundCovered version entries.now attacker position covered
+        → IsFoundFor version entries.now attacker rank position covered
         → IsEvasionJudged version entries.now attacker rank position evasion result }
 {
     match covered {
@@ -92,8 +93,10 @@ pub(crate) fn mate_reason(
     let known = key(&checked);
     answers_into(problem, &checked, &mut lists.evasions)?;
     for evasion in lists.evasions.as_slice() {
-        let room = &mut lists.room;
-        let covered = covered_after(places, entries, attacker, &checked, &known, *evasion, room)?;
+        let (room, rank) = (&mut lists.room, entry.rank.number);
+        let covered = covered_after(
+            places, entries, attacker, rank, &checked, &known, *evasion, room,
+        )?;
         if let Some(why) = evasion_reason(entries, covered, entry.rank.number, *evasion) {
             return Ok(Some(why));
         }
@@ -101,8 +104,9 @@ pub(crate) fn mate_reason(
     Ok(None)
 }
 
-// Whether an evasion to the check leads to a position that one of the positions covers. The list of
-// evasions is filled again.
+// Whether an evasion to the check leads to a position that one of the positions covers: to one that
+// is listed itself, which is found by its key and isn't made, or to another. The list of evasions
+// is filled again.
 fn has_evasion_back(
     problem: &Problem,
     positions: &[Position],
@@ -120,14 +124,19 @@ fn has_evasion_back(
         (IsCovered (version_of places.now) positions.now problem.now.position.side)
         position.now check) }
 {
+    // What is listed covers itself.
+    listing_laws();
     let attacker = problem.attacker();
     let checked = apply(position, check);
     let known = key(&checked);
     answers_into(problem, &checked, evasions)?;
     for evasion in evasions.as_slice() {
-        if is_covered_after(
-            places, positions, attacker, &checked, &known, *evasion, room,
-        )? {
+        if let Some(_) = places.find_key(&key_after(&checked, &known, *evasion)) {
+            return Ok(true);
+        }
+    }
+    for evasion in evasions.as_slice() {
+        if places.is_covered(positions, attacker, &apply(&checked, *evasion), room)? {
             return Ok(true);
         }
     }

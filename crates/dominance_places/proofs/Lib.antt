@@ -1,3 +1,4 @@
 mod Among
+mod Both
 mod Listed
 mod Same

@@ -145,9 +145,9 @@ rank_of (Some entry) = entry.rank.number
 abbrev pub rank_at : List MateEntry → ℕ → ℕ
 rank_at entries place = rank_of (slice_get entries place)
 
-rank_found : (c : Mating) (attacker : Side) (position : Board) (entries : List MateEntry) (place : ℕ) → entries ≡ c.entries
+rank_read : (c : Mating) (attacker : Side) (position : Board) (entries : List MateEntry) (place : ℕ) → entries ≡ c.entries
     → (found : IsLeastCovered c.version c.entries attacker position place) → rank_at entries place ≡ found.stands.entry.rank.number
-rank_found c attacker position entries place same found =
+rank_read c attacker position entries place same found =
     ap (λ (es : List MateEntry). rank_at es place) same ∙ ap rank_of found.stands.there
 
 pub rank_falls : (c : Mating) (p position checked next : Board) (entries : List MateEntry) (place to : ℕ) (entry : MateEntry) (evasion : Move)
@@ -159,8 +159,8 @@ rank_falls c p position checked next entries place to entry evasion same found i
     let least : new.stands.entry.rank.number ≤ below.entry.rank.number =
     rank_least c.version c.entries p.side next to below.listed.0 new
     (record { entry = below.entry; there = at_place c.entries below.entry below.listed; covers = below.covers }) in
-    let after = rank_found c p.side next entries to same new in
-    let before = rank_found c p.side position entries place same found in
+    let after = rank_read c p.side next entries to same new in
+    let before = rank_read c p.side position entries place same found in
     let one = ap (λ (x : MateEntry). x.rank.number) (entry_is c p.side position entries place entry same found is) in
     let lower = below.lower in
     omega (arith, least, after, before, one, lower)

@@ -6,7 +6,7 @@ use Rattle.shogi_rules.specs.Rules.{after}
 use Rattle.shogi_rules.specs.Tsume.{IsEvasion}
 use Rattle.hand_dominance.specs.BorneOut.{CoversLower}
 use Rattle.dominance_places.specs.Covering.{version_of}
-use Rattle.dominance_places.specs.Found.{IsFoundCovered}
+use Rattle.cert_check.specs.Reached.{IsFoundFor}
 use Rattle.cert_check.proofs.Listing.{held_at}
 use Rattle.list_laws.proofs.Standing.{each_more}
 use Rattle.cert_check.proofs.Entries.{first_against, borne_out}
@@ -27,7 +27,7 @@ returns-in-Some c =
     (subst (Lists (IsEvasion c.args.problem.now.position.side c.apply-checked.result)) (sym c.as_slice-evasion-items.ensures.moves) c.in_ok-answers_into.ensures)
     (omega arith) c.evasion-item.is c.loop-evasion.invariant
     (c.in-Some.ensures (version_of c.args.places.now) c.args.problem.now.position.side next
-    (subst (λ (side : Side). IsFoundCovered (version_of c.args.places.now) c.args.entries.now side next c.in_ok-covered.covered) c.attacker-attacker.ensures
+    (subst (λ (side : Side). IsFoundFor (version_of c.args.places.now) c.args.entries.now side c.args.entry.now.rank.number next c.in_ok-covered.covered) c.attacker-attacker.ensures
     c.in_ok-covered.ensures.found))
 
 pub loop-evasion-preserved : goal.loop-evasion-preserved
@@ -36,7 +36,7 @@ loop-evasion-preserved c =
     each_more (λ (a : Move). CoversLower (version_of c.args.places.now) c.args.entries.now c.args.problem.now.position.side c.args.entry.now.rank.number (after c.apply-checked.result a))
     c.as_slice-evasion-items.result.now c.loop-evasion.evasion-index c.evasion-item.result (omega arith) c.evasion-item.is
     (c.in_default.ensures (version_of c.args.places.now) c.args.problem.now.position.side next
-    (subst (λ (side : Side). IsFoundCovered (version_of c.args.places.now) c.args.entries.now side next c.in_ok-covered.covered) c.attacker-attacker.ensures
+    (subst (λ (side : Side). IsFoundFor (version_of c.args.places.now) c.args.entries.now side c.args.entry.now.rank.number next c.in_ok-covered.covered) c.attacker-attacker.ensures
     c.in_ok-covered.ensures.found))
     c.loop-evasion.invariant
 
