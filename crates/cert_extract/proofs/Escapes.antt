@@ -13,23 +13,27 @@ use Rattle.board_core.specs.Key.{key_of}
 use Rattle.shogi_rules.specs.Tsume.{IsCheck, IsProblem}
 use Rattle.mate_def.specs.Mate.{HasEvasionTo}
 use Rattle.mate_facts.specs.Entries.{AreApart}
+use Rattle.hand_dominance.specs.declared.version.Version.{Version}
+use Rattle.hand_dominance.specs.BorneOut.{Covers, IsCovered}
 use Rattle.cert_order.specs.Entries.{AreEscapeEntries}
-use Rattle.notes.specs.declared.rule.Conclusion.{Conclusion}
 use Rattle.notes.specs.declared.rule.Conclusion.TheVariants.{Escape}
 use Rattle.position_places.specs.declared.places.Places.{Places}
 use Rattle.position_places.specs.Places.{ArePlacesOf, IsWith, IsPlaceOrNext}
 use Rattle.list_laws.proofs.Standing.{contained}
-use Rattle.notes.specs.Valid.{IsValid}
-use Rattle.notes.specs.Derivation.{Derivation, attacker_of, conclusion_of, position_of, tag_of}
+use Rattle.notes.specs.Derivation.{Derivation, position_of, tag_of}
 use Rattle.notes.proofs.Offered.{valid_kept}
 use Rattle.cert_extract.specs.Tree.{two_under}
 use Rattle.cert_extract.specs.Extracted.{IsEscapeFrom}
-use Rattle.cert_extract.proofs.Trees.{in_itself, in_reverse, of_reverse}
+use Rattle.cert_extract.proofs.Trees.{in_reverse, of_reverse}
 use Rattle.cert_extract.proofs.Rules.{IsPending, EscapesDown, escapes_down, problem_at}
 
--- the position is that of a note that is yet to be walked
-abbrev pub IsAhead : List Derivation → Board → Type 0
-IsAhead pending q = (n : Derivation) × Contains pending n × (position_of n ≡ q)
+-- the position of a note that is yet to be walked covers this one
+abbrev pub IsAhead : Version → Side → List Derivation → Board → Type 0
+IsAhead version attacker pending q = (n : Derivation) × Contains pending n × Covers version attacker (position_of n) q
+
+-- a listed position covers this one, or one ahead does
+abbrev IsMetOrAhead : Version → Side → List Board → List Derivation → Board → Type 0
+IsMetOrAhead version attacker positions pending q = IsCovered version positions attacker q ⊎ IsAhead version attacker pending q
 
 pub record IsListed (attacker : Side) (top : Derivation) (b : Board) : Type 0 where
   pub from : IsEscapeFrom top b
@@ -37,24 +41,25 @@ pub record IsListed (attacker : Side) (top : Derivation) (b : Board) : Type 0 wh
   pub is_problem : IsProblem b
   pub turn : b.side ≡ attacker
 
--- the position is listed or ahead; from each listed position, each check has an evasion to one that
--- is; the tags of what is ahead have only keys of listed positions
-pub record IsEscapeWalk (p : Board) (top : Derivation) (positions : List Board) (pending : List Derivation) : Type 0 where
-  pub start : Contains positions p ⊎ IsAhead pending p
+-- what covers the position is listed or ahead; from each listed position, each check has an evasion
+-- to one of which that is so; the tags of what is ahead have only keys of listed positions
+pub record IsEscapeWalk (version : Version) (p : Board) (top : Derivation) (positions : List Board) (pending : List Derivation) : Type 0 where
+  pub start : IsMetOrAhead version p.side positions pending p
   pub ways : (b : Board) (check : Move) → Contains positions b → IsCheck p.side b check
-      → HasEvasionTo p.side (λ q. Contains positions q ⊎ IsAhead pending q) b check
-  pub notes : (n : Derivation) → Contains pending n → IsPending Escape p.side top n
+      → HasEvasionTo p.side (IsMetOrAhead version p.side positions pending) b check
+  pub notes : (n : Derivation) → Contains pending n → IsPending version Escape p.side top n
   pub tags : (n : Derivation) (key : Key) → Contains pending n → Contains (tag_of n) key → (b : Board) × Contains positions b × (key.0 ≡ key_of b)
   pub listed : (b : Board) → Contains positions b → IsListed p.side top b
 
 pub none_in : {X : Type 0} (x : X) (T : Type 0) → Contains [] x → T
 none_in x T c = absurd (let inside = c.1 in omega (arith, inside))
 
-pub escape_begun : (p : Board) (top : Derivation) → IsPending Escape p.side top top → position_of top ≡ p → tag_of top ≡ [] → IsEscapeWalk p top [] (top ∷ [])
-escape_begun p top h about closed = record {
-  start = inr (top, (zero, omega arith, refl), about);
+pub escape_begun : (version : Version) (p : Board) (top : Derivation) → IsPending version Escape p.side top top → Covers version p.side (position_of top) p
+    → tag_of top ≡ [] → IsEscapeWalk version p top [] (top ∷ [])
+escape_begun version p top h covers closed = record {
+  start = inr (top, (zero, omega arith, refl), covers);
   ways = λ b check c is. none_in b _ c;
-  notes = λ n c. subst (λ (d : Derivation). IsPending Escape p.side top d) (alone n c) h;
+  notes = λ n c. subst (λ (d : Derivation). IsPending version Escape p.side top d) (alone n c) h;
   tags = λ n key c held.
       none_in key _ (subst (λ (tag : List Key). Contains tag key) closed (subst (λ (d : Derivation). Contains (tag_of d) key) (sym (alone n c)) held));
   listed = λ b c. none_in b _ c;
@@ -65,25 +70,31 @@ escape_begun p top h about closed = record {
     alone n (suc k, inside, e) = absurd (omega (arith, inside))
 
 -- what was listed or ahead still is, where a note is no longer ahead but its position is listed
-still : (positions more : List Board) (rest ahead : List Derivation) (note : Derivation) → ((b : Board) → Contains positions b → Contains more b)
-    → ((n : Derivation) → Contains rest n → Contains ahead n) → Contains more (position_of note)
-    → (q : Board) → Contains positions q ⊎ IsAhead (rest ++ note ∷ []) q → Contains more q ⊎ IsAhead ahead q
-still positions more rest ahead note longer kept here q (inl h) = inl (longer q h)
-still positions more rest ahead note longer kept here q (inr (n, c, e)) = elim (Contains-push_cases rest note n c) [
-  | inl before ↦ inr (n, kept n before, e)
-  | inr same ↦ inl (subst (Contains more) (ap position_of same ∙ e) here)
+still : (version : Version) (attacker : Side) (positions more : List Board) (rest ahead : List Derivation) (note : Derivation)
+    → ((b : Board) → Contains positions b → Contains more b) → ((n : Derivation) → Contains rest n → Contains ahead n) → Contains more (position_of note)
+    → (q : Board) → IsMetOrAhead version attacker positions (rest ++ note ∷ []) q → IsMetOrAhead version attacker more ahead q
+still version attacker positions more rest ahead note longer kept here q (inl h) =
+    inl (record { listed = h.listed; inside = longer h.listed h.inside; covers = h.covers })
+still version attacker positions more rest ahead note longer kept here q (inr (n, c, covers)) = elim (Contains-push_cases rest note n c) [
+  | inl before ↦ inr (n, kept n before, covers)
+  | inr same ↦
+      inl (record {
+        listed = position_of note;
+        inside = here;
+        covers = subst (λ (d : Derivation). Covers version attacker (position_of d) q) (sym same) covers;
+      })
 ]
 
 still_way : (attacker : Side) (b : Board) (check : Move) (P Q : Board → Type 0) → ((q : Board) → P q → Q q) → HasEvasionTo attacker P b check
     → HasEvasionTo attacker Q b check
 still_way attacker b check P Q f way = record { evasion = way.evasion; is_evasion = way.is_evasion; leads = f _ way.leads }
 
-module _ (p : Board) (top : Derivation) (positions : List Board) (rest : List Derivation) (note : Derivation)
-    (walk : IsEscapeWalk p top positions (rest ++ note ∷ [])) where
+module _ (version : Version) (p : Board) (top : Derivation) (positions : List Board) (rest : List Derivation) (note : Derivation)
+    (walk : IsEscapeWalk version p top positions (rest ++ note ∷ [])) where
   -- the note's position is listed: it isn't walked again
-  pub escape_met : Contains positions (position_of note) → IsEscapeWalk p top positions rest
+  pub escape_met : Contains positions (position_of note) → IsEscapeWalk version p top positions rest
   escape_met here =
-      let go = still positions positions rest rest note (λ b c. c) (λ n c. c) here in
+      let go = still version p.side positions positions rest rest note (λ b c. c) (λ n c. c) here in
       record {
         start = go p walk.start;
         ways = λ b check c is. still_way p.side b check _ _ go (walk.ways b check c is);
@@ -92,11 +103,11 @@ module _ (p : Board) (top : Derivation) (positions : List Board) (rest : List De
         listed = walk.listed;
       }
 
-  here_pending : IsPending Escape p.side top note
+  here_pending : IsPending version Escape p.side top note
   here_pending = walk.notes note (Contains-push rest note)
 
-  down : EscapesDown p.side top note
-  down = escapes_down p.side top note here_pending
+  down : EscapesDown version p.side top note
+  down = escapes_down version p.side top note here_pending
 
   abbrev more : List Board
   more = positions ++ position_of note ∷ []
@@ -116,39 +127,39 @@ module _ (p : Board) (top : Derivation) (positions : List Board) (rest : List De
   listed_more b c = elim (Contains-push_cases positions (position_of note) b c) [
     | inl before ↦ walk.listed b before
     | inr same ↦ subst (IsListed p.side top) same (record {
-      from = record { note = note; within = here_pending.within; about = refl; concludes = here_pending.concludes };
+      from = record { note = note; within = here_pending.within; own = here_pending.own; about = refl; concludes = here_pending.concludes };
       kept = valid_kept note here_pending.valid;
-      is_problem = problem_at Escape p.side top note here_pending;
+      is_problem = problem_at version Escape p.side top note here_pending;
       turn = here_pending.turn;
     })
   ]
 
-  go_on : (q : Board) → Contains positions q ⊎ IsAhead (rest ++ note ∷ []) q → Contains more q ⊎ IsAhead ahead q
-  go_on = still positions more rest ahead note is_more (λ n c. Contains-append_left rest (reverse (two_under note)) n c) (Contains-push positions (position_of note))
+  go_on : (q : Board) → IsMetOrAhead version p.side positions (rest ++ note ∷ []) q → IsMetOrAhead version p.side more ahead q
+  go_on = still version p.side positions more rest ahead note is_more (λ n c. Contains-append_left rest (reverse (two_under note)) n c) (Contains-push positions (position_of note))
 
-  own_ways : (check : Move) → IsCheck p.side (position_of note) check → HasEvasionTo p.side (λ q. Contains more q ⊎ IsAhead ahead q) (position_of note) check
+  own_ways : (check : Move) → IsCheck p.side (position_of note) check → HasEvasionTo p.side (IsMetOrAhead version p.side more ahead) (position_of note) check
   own_ways check is =
       let way = down.ways check is in
       record {
         evasion = way.evasion;
         is_evasion = way.is_evasion;
         leads = elim way.leads [
-          | inl on ↦ inr (on.0, Contains-append_right rest (reverse (two_under note)) on.0 (in_reverse (two_under note) on.0 on.1), on.2)
+          | inl on ↦ inr (on.next, Contains-append_right rest (reverse (two_under note)) on.next (in_reverse (two_under note) on.next on.under), on.covers)
           | inr back ↦
               let found = key_listed back.key back.held in
               let same = back.of_no_other found.0 (listed_more found.0 found.1).kept (sym found.2) in
-              inl (subst (Contains more) same found.1)
+              inl (record { listed = back.back; inside = subst (Contains more) same found.1; covers = back.covers })
         ];
       }
 
   -- the note's position isn't listed yet: it is, and what is two steps under it is ahead
-  pub escape_walked : IsEscapeWalk p top more ahead
+  pub escape_walked : IsEscapeWalk version p top more ahead
   escape_walked = record {
     start = go_on p walk.start;
     ways = λ b check c is. elim (Contains-push_cases positions (position_of note) b c) [
       | inl before ↦ still_way p.side b check _ _ go_on (walk.ways b check before is)
       | inr same ↦
-          subst (λ (a : Board). HasEvasionTo p.side (λ q. Contains more q ⊎ IsAhead ahead q) a check) same
+          subst (λ (a : Board). HasEvasionTo p.side (IsMetOrAhead version p.side more ahead) a check) same
           (own_ways check (subst (λ (a : Board). IsCheck p.side a check) (sym same) is))
     ];
     notes = λ n c. elim (Contains-append_cases rest (reverse (two_under note)) n c) [
@@ -164,17 +175,19 @@ module _ (p : Board) (top : Derivation) (positions : List Board) (rest : List De
     listed = listed_more;
   }
 
-none_ahead : (positions : List Board) (q : Board) → Contains positions q ⊎ IsAhead [] q → Contains positions q
-none_ahead positions q (inl h) = h
-none_ahead positions q (inr (n, c, e)) = none_in n _ c
+none_ahead : (version : Version) (attacker : Side) (positions : List Board) (q : Board) → IsMetOrAhead version attacker positions [] q
+    → IsCovered version positions attacker q
+none_ahead version attacker positions q (inl h) = h
+none_ahead version attacker positions q (inr (n, c, covers)) = none_in n _ c
 
 -- nothing is ahead
-pub escape_ended : (p : Board) (top : Derivation) (positions : List Board) → IsEscapeWalk p top positions [] → AreApart positions → AreEscapeEntries p positions
-escape_ended p top positions walk apart = record {
-  listed = none_ahead positions p walk.start;
+pub escape_ended : (version : Version) (p : Board) (top : Derivation) (positions : List Board) → IsEscapeWalk version p top positions [] → AreApart positions
+    → AreEscapeEntries version p positions
+escape_ended version p top positions walk apart = record {
+  listed = none_ahead version p.side positions p walk.start;
   closed = record {
     turn = λ b c. (walk.listed b c).turn;
-    answered = λ b check c is. still_way p.side b check _ _ (λ q h. inl (none_ahead positions q h)) (walk.ways b check c is);
+    held = λ b c check is. still_way p.side b check _ _ (none_ahead version p.side positions) (walk.ways b check c is);
   };
   problems = λ b c. record { is_problem = (walk.listed b c).is_problem; side = (walk.listed b c).turn };
   kept = λ b c. (walk.listed b c).kept;
@@ -215,17 +228,6 @@ few_more {X} xs ys x place most is last differs few =
 
 -- The stack of notes, as references
 
--- a note about the problem is one to be walked
-pub pending_first : (conclusion : Conclusion) (p : Board) (note : Derivation) → IsValid note → conclusion_of note ≡ conclusion → position_of note ≡ p
-    → attacker_of note ≡ p.side → IsPending conclusion p.side note note
-pending_first conclusion p note valid concludes about attacks = record {
-  within = in_itself note;
-  valid = valid;
-  concludes = concludes;
-  same_attacker = attacks;
-  turn = ap (λ (b : Board). b.side) about;
-}
-
 module _ {A : Type 0} (v : A → Derivation) where
   pub first_pending : (pending none : List A) (x : A) → none ≡ [] → pending ≡ none ++ x ∷ [] → map v pending ≡ v x ∷ []
   first_pending pending none x empty is = ap (map v) (is ∙ ap (λ (xs : List A). xs ++ x ∷ []) empty)
@@ -233,28 +235,29 @@ module _ {A : Type 0} (v : A → Derivation) where
   pub popped : (pending rest : List A) (next : A) → pending ≡ rest ++ next ∷ [] → map v pending ≡ map v rest ++ v next ∷ []
   popped pending rest next is = ap (map v) is ∙ map_push v rest next
 
-  pub escape_at_first : (p : Board) (positions : List Board) (pending none : List A) (x : A) → positions ≡ [] → none ≡ [] → pending ≡ none ++ x ∷ []
-      → IsPending Escape p.side (v x) (v x) → position_of (v x) ≡ p → tag_of (v x) ≡ [] → IsEscapeWalk p (v x) positions (map v pending)
-  escape_at_first p positions pending none x unlisted empty is h about closed =
-      subst (λ (bs : List Board). IsEscapeWalk p (v x) bs (map v pending)) (sym unlisted)
-      (subst (IsEscapeWalk p (v x) []) (sym (first_pending pending none x empty is)) (escape_begun p (v x) h about closed))
+  pub escape_at_first : (version : Version) (p : Board) (positions : List Board) (pending none : List A) (x : A) → positions ≡ [] → none ≡ []
+      → pending ≡ none ++ x ∷ [] → IsPending version Escape p.side (v x) (v x) → Covers version p.side (position_of (v x)) p → tag_of (v x) ≡ []
+      → IsEscapeWalk version p (v x) positions (map v pending)
+  escape_at_first version p positions pending none x unlisted empty is h covers closed =
+      subst (λ (bs : List Board). IsEscapeWalk version p (v x) bs (map v pending)) (sym unlisted)
+      (subst (IsEscapeWalk version p (v x) []) (sym (first_pending pending none x empty is)) (escape_begun version p (v x) h covers closed))
 
-  pub escape_on : (p : Board) (top : Derivation) (positions longer : List Board) (pending rest new : List A) (next : A) (r : Board)
+  pub escape_on : (version : Version) (p : Board) (top : Derivation) (positions longer : List Board) (pending rest new : List A) (next : A) (r : Board)
       → pending ≡ rest ++ next ∷ [] → map v new ≡ map v rest ++ reverse (two_under (v next)) → r ≡ position_of (v next) → longer ≡ positions ++ r ∷ []
-      → IsEscapeWalk p top positions (map v pending) → IsEscapeWalk p top longer (map v new)
-  escape_on p top positions longer pending rest new next r is pushed same listed walk =
-      subst (λ (bs : List Board). IsEscapeWalk p top bs (map v new)) (sym (listed ∙ ap (λ (b : Board). positions ++ b ∷ []) same))
-      (subst (IsEscapeWalk p top (positions ++ position_of (v next) ∷ [])) (sym pushed)
-      (escape_walked p top positions (map v rest) (v next) (subst (IsEscapeWalk p top positions) (popped pending rest next is) walk)))
+      → IsEscapeWalk version p top positions (map v pending) → IsEscapeWalk version p top longer (map v new)
+  escape_on version p top positions longer pending rest new next r is pushed same listed walk =
+      subst (λ (bs : List Board). IsEscapeWalk version p top bs (map v new)) (sym (listed ∙ ap (λ (b : Board). positions ++ b ∷ []) same))
+      (subst (IsEscapeWalk version p top (positions ++ position_of (v next) ∷ [])) (sym pushed)
+      (escape_walked version p top positions (map v rest) (v next) (subst (IsEscapeWalk version p top positions) (popped pending rest next is) walk)))
 
-  pub escape_past : (p : Board) (top : Derivation) (positions : List Board) (pending rest : List A) (next : A) (q : Board) (place : ℕ)
+  pub escape_past : (version : Version) (p : Board) (top : Derivation) (positions : List Board) (pending rest : List A) (next : A) (q : Board) (place : ℕ)
       → pending ≡ rest ++ next ∷ [] → q ≡ position_of (v next) → slice_get positions place ≡ Some q
-      → IsEscapeWalk p top positions (map v pending) → IsEscapeWalk p top positions (map v rest)
-  escape_past p top positions pending rest next q place is same at walk =
-      escape_met p top positions (map v rest) (v next) (subst (IsEscapeWalk p top positions) (popped pending rest next is) walk)
+      → IsEscapeWalk version p top positions (map v pending) → IsEscapeWalk version p top positions (map v rest)
+  escape_past version p top positions pending rest next q place is same at walk =
+      escape_met version p top positions (map v rest) (v next) (subst (IsEscapeWalk version p top positions) (popped pending rest next is) walk)
       (subst (Contains positions) same (contained positions place q at))
 
-  pub escape_done : (p : Board) (top : Derivation) (positions : List Board) (pending : List A) → length pending ≡ 0
-      → IsEscapeWalk p top positions (map v pending) → AreApart positions → AreEscapeEntries p positions
-  escape_done p top positions [] none walk apart = escape_ended p top positions walk apart
-  escape_done p top positions (x ∷ pending) none walk apart = absurd (omega (arith, none))
+  pub escape_done : (version : Version) (p : Board) (top : Derivation) (positions : List Board) (pending : List A) → length pending ≡ 0
+      → IsEscapeWalk version p top positions (map v pending) → AreApart positions → AreEscapeEntries version p positions
+  escape_done version p top positions [] none walk apart = escape_ended version p top positions walk apart
+  escape_done version p top positions (x ∷ pending) none walk apart = absurd (omega (arith, none))

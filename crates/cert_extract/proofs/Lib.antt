@@ -1,4 +1,5 @@
 pub mod Trees
+pub mod Sources
 pub mod Pushed
 pub mod Rules
 pub mod Escapes
@@ -6,3 +7,4 @@ pub mod Texts
 pub mod Mates
 pub mod Counts
 pub mod Walked
+pub mod First

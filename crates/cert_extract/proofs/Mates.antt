@@ -10,12 +10,15 @@ use Rattle.board_core.specs.declared.moves.Move.{Move}
 use Rattle.board_core.specs.Board.{Board}
 use Rattle.board_core.specs.Kept.{IsKept}
 use Rattle.board_core.specs.Text.{HasText}
-use Rattle.list_laws.proofs.Standing.{contained, contains_map}
+use Rattle.list_laws.proofs.Standing.{contained}
 use Rattle.shogi_rules.specs.Rules.{after}
 use Rattle.shogi_rules.specs.Tsume.{IsCheck, IsEvasion, IsProblem}
 use Rattle.mate_def.specs.Mate.{after_both}
 use Rattle.mate_facts.specs.declared.entry.MateEntry.{MateEntry}
 use Rattle.mate_facts.specs.Entries.{AreApart, positions_of}
+use Rattle.hand_dominance.specs.declared.version.Version.{Version}
+use Rattle.hand_dominance.specs.declared.version.Version.TheVariants.{One}
+use Rattle.hand_dominance.specs.BorneOut.{Covers, CoversListed, CoversLower}
 use Rattle.cert_order.specs.Entries.{AreMateEntries}
 use Rattle.notes.specs.declared.rule.Rule.TheVariants.{MateBy}
 use Rattle.notes.specs.declared.rule.Conclusion.TheVariants.{Mate}
@@ -28,7 +31,7 @@ use Rattle.cert_extract.proofs.Rules.{IsPending, MatesDown, mates_down, problem_
 use Rattle.position_places.specs.declared.places.Places.{Places}
 use Rattle.position_places.specs.Places.{ArePlacesOf, IsPlaceOrNext}
 use Rattle.shogi_rules.specs.Laws.{LegalBoardMoves}
-use Rattle.cert_extract.proofs.Escapes.{IsAhead, none_in, Adds, is_old, placed_new, placed_old, first_pending, popped}
+use Rattle.cert_extract.proofs.Escapes.{none_in, Adds, is_old, placed_new, placed_old, first_pending, popped}
 use Rattle.cert_extract.proofs.Texts.{check_has_text}
 
 -- 1. Lists in which one item is put in another's place
@@ -72,37 +75,36 @@ pub record IsListedMate (attacker : Side) (top : Derivation) (entry : MateEntry)
   pub turn : entry.at.side ≡ attacker
   pub has_text : HasText entry.by
 
--- an entry lists the position with a rank lower than this one
-pub record IsListedBelow (entries : List MateEntry) (rank : ℕ) (position : Board) : Type 0 where
-  pub entry : MateEntry
-  pub listed : Contains entries entry
-  pub same : entry.at ≡ position
-  pub lower : entry.rank.number < rank
+-- the position covers that of a note that is yet to be walked
+abbrev IsAheadOf : Version → Side → List Derivation → Board → Type 0
+IsAheadOf version attacker pending q = (n : Derivation) × Contains pending n × Covers version attacker q (position_of n)
 
--- the position is listed with a lower rank, or is that of a note ahead of less than twice that
--- height
-abbrev pub IsBelow : List MateEntry → List Derivation → ℕ → Board → Type 0
-IsBelow entries pending rank q =
-    IsListedBelow entries rank q ⊎ ((n : Derivation) × Contains pending n × (position_of n ≡ q) × (height_of n < 2 * rank))
+-- the position covers one that is listed with a lower rank, or that of a note ahead of less than
+-- twice that height
+abbrev IsBelow : Version → Side → List MateEntry → List Derivation → ℕ → Board → Type 0
+IsBelow version attacker entries pending rank q =
+    CoversLower version entries attacker rank q
+    ⊎ ((n : Derivation) × Contains pending n × Covers version attacker q (position_of n) × (height_of n < 2 * rank))
 
 -- an entry's move is a check, and each evasion leads to a position with a lower rank, listed or
 -- ahead
-pub record IsBorne (attacker : Side) (entries : List MateEntry) (pending : List Derivation) (entry : MateEntry) : Type 0 where
+pub record IsBorne (version : Version) (attacker : Side) (entries : List MateEntry) (pending : List Derivation) (entry : MateEntry) : Type 0 where
   pub check : IsCheck attacker entry.at entry.by
   pub evasions : (evasion : Move) → IsEvasion attacker (after entry.at entry.by) evasion
-      → IsBelow entries pending entry.rank.number (after_both entry.at entry.by evasion)
+      → IsBelow version attacker entries pending entry.rank.number (after_both entry.at entry.by evasion)
 
-pub record IsMateWalk (p : Board) (top : Derivation) (entries : List MateEntry) (pending : List Derivation) : Type 0 where
-  pub start : Contains (positions_of entries) p ⊎ IsAhead pending p
-  pub borne : (entry : MateEntry) → Contains entries entry → IsBorne p.side entries pending entry
-  pub notes : (n : Derivation) → Contains pending n → IsPending Mate p.side top n
+pub record IsMateWalk (version : Version) (p : Board) (top : Derivation) (entries : List MateEntry) (pending : List Derivation) : Type 0 where
+  pub start : CoversListed version entries p.side p ⊎ IsAheadOf version p.side pending p
+  pub borne : (entry : MateEntry) → Contains entries entry → IsBorne version p.side entries pending entry
+  pub notes : (n : Derivation) → Contains pending n → IsPending version Mate p.side top n
   pub listed : (entry : MateEntry) → Contains entries entry → IsListedMate p.side top entry
 
-pub mate_begun : (p : Board) (top : Derivation) → IsPending Mate p.side top top → position_of top ≡ p → IsMateWalk p top [] (top ∷ [])
-mate_begun p top h about = record {
-  start = inr (top, (zero, omega arith, refl), about);
+pub mate_begun : (version : Version) (p : Board) (top : Derivation) → IsPending version Mate p.side top top → Covers version p.side p (position_of top)
+    → IsMateWalk version p top [] (top ∷ [])
+mate_begun version p top h covers = record {
+  start = inr (top, (zero, omega arith, refl), covers);
   borne = λ entry c. none_in entry _ c;
-  notes = λ n c. subst (λ (d : Derivation). IsPending Mate p.side top d) (alone n c) h;
+  notes = λ n c. subst (λ (d : Derivation). IsPending version Mate p.side top d) (alone n c) h;
   listed = λ entry c. none_in entry _ c;
 }
   where
@@ -111,39 +113,80 @@ mate_begun p top h about = record {
     alone n (suc k, inside, e) = absurd (omega (arith, inside))
 
 -- each position that is listed below a rank still is
-abbrev pub StayBelow : List MateEntry → List MateEntry → Type 0
-StayBelow entries more = (rank : ℕ) (b : Board) → IsListedBelow entries rank b → IsListedBelow more rank b
+abbrev pub StayBelow : Side → List MateEntry → List MateEntry → Type 0
+StayBelow attacker entries more = (rank : ℕ) (b : Board) → CoversLower One entries attacker rank b → CoversLower One more attacker rank b
 
--- what was below a rank still is, where a note is no longer ahead but its position is listed with a
--- rank that isn't above half its height
-still_below : (entries more : List MateEntry) (rest ahead : List Derivation) (note : Derivation) → StayBelow entries more
-    → ((n : Derivation) → Contains rest n → Contains ahead n)
-    → ((rank : ℕ) → height_of note < 2 * rank → IsListedBelow more rank (position_of note))
-    → (rank : ℕ) (q : Board) → IsBelow entries (rest ++ note ∷ []) rank q → IsBelow more ahead rank q
-still_below entries more rest ahead note stay kept here rank q (inl h) = inl (stay rank q h)
-still_below entries more rest ahead note stay kept here rank q (inr (n, c, e, low)) = elim (Contains-push_cases rest note n c) [
-  | inl before ↦ inr (n, kept n before, e, low)
+-- so is what covers it, in each version
+lower_stays : (version : Version) (attacker : Side) (entries more : List MateEntry) → StayBelow attacker entries more → (rank : ℕ) (q : Board)
+    → CoversLower version entries attacker rank q → CoversLower version more attacker rank q
+lower_stays version attacker entries more stay rank q h =
+    let found = stay rank h.entry.at (record { entry = h.entry; listed = h.listed; covers = refl; lower = h.lower }) in
+    record {
+      entry = found.entry;
+      listed = found.listed;
+      covers = subst (Covers version attacker q) found.covers h.covers;
+      lower = found.lower;
+    }
+
+listed_stays : (version : Version) (attacker : Side) (entries more : List MateEntry) → StayBelow attacker entries more → (q : Board)
+    → CoversListed version entries attacker q → CoversListed version more attacker q
+listed_stays version attacker entries more stay q h =
+    let found = lower_stays version attacker entries more stay (suc h.entry.rank.number) q
+    (record { entry = h.entry; listed = h.listed; covers = h.covers; lower = omega arith }) in
+    record { entry = found.entry; listed = found.listed; covers = found.covers }
+
+-- an entry stands for the note: it is about its position, with a rank that isn't above half its
+-- height
+pub record StandsFor (entries : List MateEntry) (note : Derivation) : Type 0 where
+  pub entry : MateEntry
+  pub listed : Contains entries entry
+  pub same : entry.at ≡ position_of note
+  pub low : 2 * entry.rank.number ≤ height_of note
+
+lower_here : (version : Version) (attacker : Side) (more : List MateEntry) (note : Derivation) → StandsFor more note → (rank : ℕ) (q : Board)
+    → Covers version attacker q (position_of note) → height_of note < 2 * rank → CoversLower version more attacker rank q
+lower_here version attacker more note here rank q covers under =
+    let low = here.low in
+    record {
+      entry = here.entry;
+      listed = here.listed;
+      covers = subst (Covers version attacker q) (sym here.same) covers;
+      lower = omega (arith, low, under);
+    }
+
+-- what was below a rank still is, where a note is no longer ahead but an entry stands for it
+still_below : (version : Version) (attacker : Side) (entries more : List MateEntry) (rest ahead : List Derivation) (note : Derivation)
+    → StayBelow attacker entries more → ((n : Derivation) → Contains rest n → Contains ahead n) → StandsFor more note
+    → (rank : ℕ) (q : Board) → IsBelow version attacker entries (rest ++ note ∷ []) rank q → IsBelow version attacker more ahead rank q
+still_below version attacker entries more rest ahead note stay kept here rank q (inl h) = inl (lower_stays version attacker entries more stay rank q h)
+still_below version attacker entries more rest ahead note stay kept here rank q (inr (n, c, covers, low)) = elim (Contains-push_cases rest note n c) [
+  | inl before ↦ inr (n, kept n before, covers, low)
   | inr same ↦
-      let high : height_of note ≡ height_of n = ap height_of same in
-      inl (subst (IsListedBelow more rank) (ap position_of same ∙ e) (here rank (omega (arith, low, high))))
+      inl (lower_here version attacker more note here rank q (subst (λ (d : Derivation). Covers version attacker q (position_of d)) (sym same) covers)
+      (subst (λ (d : Derivation). height_of d < 2 * rank) (sym same) low))
 ]
 
-still_borne : (attacker : Side) (entries more : List MateEntry) (pending ahead : List Derivation)
-    → ((rank : ℕ) (q : Board) → IsBelow entries pending rank q → IsBelow more ahead rank q) → (entry : MateEntry)
-    → IsBorne attacker entries pending entry → IsBorne attacker more ahead entry
-still_borne attacker entries more pending ahead go entry borne = record {
+still_borne : (version : Version) (attacker : Side) (entries more : List MateEntry) (pending ahead : List Derivation)
+    → ((rank : ℕ) (q : Board) → IsBelow version attacker entries pending rank q → IsBelow version attacker more ahead rank q) → (entry : MateEntry)
+    → IsBorne version attacker entries pending entry → IsBorne version attacker more ahead entry
+still_borne version attacker entries more pending ahead go entry borne = record {
   check = borne.check;
   evasions = λ evasion is. go entry.rank.number _ (borne.evasions evasion is);
 }
 
-still_start : (entries more : List MateEntry) (rest ahead : List Derivation) (note : Derivation) (p : Board)
-    → ((b : Board) → Contains (positions_of entries) b → Contains (positions_of more) b)
-    → ((n : Derivation) → Contains rest n → Contains ahead n) → Contains (positions_of more) (position_of note)
-    → Contains (positions_of entries) p ⊎ IsAhead (rest ++ note ∷ []) p → Contains (positions_of more) p ⊎ IsAhead ahead p
-still_start entries more rest ahead note p longer kept here (inl h) = inl (longer p h)
-still_start entries more rest ahead note p longer kept here (inr (n, c, e)) = elim (Contains-push_cases rest note n c) [
-  | inl before ↦ inr (n, kept n before, e)
-  | inr same ↦ inl (subst (Contains (positions_of more)) (ap position_of same ∙ e) here)
+still_start : (version : Version) (attacker : Side) (entries more : List MateEntry) (rest ahead : List Derivation) (note : Derivation) (p : Board)
+    → StayBelow attacker entries more → ((n : Derivation) → Contains rest n → Contains ahead n) → StandsFor more note
+    → CoversListed version entries attacker p ⊎ IsAheadOf version attacker (rest ++ note ∷ []) p
+    → CoversListed version more attacker p ⊎ IsAheadOf version attacker ahead p
+still_start version attacker entries more rest ahead note p stay kept here (inl h) = inl (listed_stays version attacker entries more stay p h)
+still_start version attacker entries more rest ahead note p stay kept here (inr (n, c, covers)) = elim (Contains-push_cases rest note n c) [
+  | inl before ↦ inr (n, kept n before, covers)
+  | inr same ↦
+      inl (record {
+        entry = here.entry;
+        listed = here.listed;
+        covers = subst (Covers version attacker p) (ap position_of (sym same) ∙ sym here.same) covers;
+      })
 ]
 
 -- the entry is about the note's position, by its check, and its rank is half its height
@@ -155,29 +198,27 @@ pub record IsEntryOf (note : Derivation) (entry : MateEntry) : Type 0 where
 by_of : (a b : Move) → MateBy a ≡ MateBy b → a ≡ b
 by_of a b e = cc
 
-module _ (p : Board) (top : Derivation) (entries : List MateEntry) (rest : List Derivation) (note : Derivation)
-    (walk : IsMateWalk p top entries (rest ++ note ∷ [])) where
+module _ (version : Version) (p : Board) (top : Derivation) (entries : List MateEntry) (rest : List Derivation) (note : Derivation)
+    (walk : IsMateWalk version p top entries (rest ++ note ∷ [])) where
   -- the note's position is listed with a rank that isn't above half its height: it isn't walked
   -- again
   pub mate_met : (old : MateEntry) → Contains entries old → old.at ≡ position_of note → 2 * old.rank.number ≤ height_of note
-      → IsMateWalk p top entries rest
+      → IsMateWalk version p top entries rest
   mate_met old c about low =
-      let here : (rank : ℕ) → height_of note < 2 * rank → IsListedBelow entries rank (position_of note) =
-      λ rank h. record { entry = old; listed = c; same = about; lower = omega (arith, low, h) } in
-      let go = still_below entries entries rest rest note (λ rank b l. l) (λ n c. c) here in
-      let listed_here = subst (Contains (positions_of entries)) about (contains_map (λ (e : MateEntry). e.at) entries old c) in
+      let here : StandsFor entries note = record { entry = old; listed = c; same = about; low = low } in
+      let go = still_below version p.side entries entries rest rest note (λ rank b l. l) (λ n c. c) here in
       record {
-        start = still_start entries entries rest rest note p (λ b c. c) (λ n c. c) listed_here walk.start;
-        borne = λ entry c. still_borne p.side entries entries (rest ++ note ∷ []) rest go entry (walk.borne entry c);
+        start = still_start version p.side entries entries rest rest note p (λ rank b l. l) (λ n c. c) here walk.start;
+        borne = λ entry c. still_borne version p.side entries entries (rest ++ note ∷ []) rest go entry (walk.borne entry c);
         notes = λ n c. walk.notes n (Contains-append_left rest (note ∷ []) n c);
         listed = walk.listed;
       }
 
-  here_pending : IsPending Mate p.side top note
+  here_pending : IsPending version Mate p.side top note
   here_pending = walk.notes note (Contains-push rest note)
 
-  down : MatesDown p.side top note
-  down = mates_down p.side top note here_pending
+  down : MatesDown version p.side top note
+  down = mates_down version p.side top note here_pending
 
   abbrev ahead : List Derivation
   ahead = rest ++ reverse (two_under note)
@@ -192,12 +233,12 @@ module _ (p : Board) (top : Derivation) (entries : List MateEntry) (rest : List 
     its_listed = record {
       from = record { note = note; within = here_pending.within; about = sym is.about; by = is.by; high = is.high };
       kept = subst IsKept (sym is.about) (valid_kept note here_pending.valid);
-      is_problem = subst IsProblem (sym is.about) (problem_at Mate p.side top note here_pending);
+      is_problem = subst IsProblem (sym is.about) (problem_at version Mate p.side top note here_pending);
       turn = ap (λ (b : Board). b.side) is.about ∙ here_pending.turn;
       has_text = check_has_text goes p.side entry.at entry.by (subst IsKept (sym is.about) (valid_kept note here_pending.valid)) its_check;
     }
 
-    its_borne : (more : List MateEntry) → IsBorne p.side more ahead entry
+    its_borne : (more : List MateEntry) → IsBorne version p.side more ahead entry
     its_borne more = record {
       check = its_check;
       evasions = λ evasion h.
@@ -205,31 +246,29 @@ module _ (p : Board) (top : Derivation) (entries : List MateEntry) (rest : List 
           let before : after entry.at entry.by ≡ after (position_of note) down.check =
           ap (λ (b : Board). after b entry.by) is.about ∙ ap (after (position_of note)) (sym same_check) in
           let found = down.evasions evasion (subst (λ (b : Board). IsEvasion p.side b evasion) before h) in
-          let low = down.lower found.0 found.1 in
+          let low = down.lower found.next found.under in
           let high = is.high in
           inr (
-            found.0,
-            Contains-append_right rest (reverse (two_under note)) found.0 (in_reverse (two_under note) found.0 found.1),
-            found.2 ∙ ap (λ (b : Board). after b evasion) (sym before),
+            found.next,
+            Contains-append_right rest (reverse (two_under note)) found.next (in_reverse (two_under note) found.next found.under),
+            subst (λ (b : Board). Covers version p.side b (position_of found.next)) (ap (λ (b : Board). after b evasion) (sym before)) found.covers,
             omega (arith, low, high),
           );
     }
 
     -- the entry is listed now, each other one was, and ranks have only fallen
-    pub mate_walked : (more : List MateEntry) → StayBelow entries more → Contains more entry
-        → ((other : MateEntry) → Contains more other → Contains entries other ⊎ (entry ≡ other))
-        → ((b : Board) → Contains (positions_of entries) b → Contains (positions_of more) b) → IsMateWalk p top more ahead
-    mate_walked more stay there of longer =
-        let here : (rank : ℕ) → height_of note < 2 * rank → IsListedBelow more rank (position_of note) =
-        λ rank h. record { entry = entry; listed = there; same = is.about; lower = (let high = is.high in omega (arith, high, h)) } in
+    pub mate_walked : (more : List MateEntry) → StayBelow p.side entries more → Contains more entry
+        → ((other : MateEntry) → Contains more other → Contains entries other ⊎ (entry ≡ other)) → IsMateWalk version p top more ahead
+    mate_walked more stay there of =
+        let here : StandsFor more note =
+        record { entry = entry; listed = there; same = is.about; low = (let high = is.high in omega (arith, high)) } in
         let kept = λ (n : Derivation) (c : Contains rest n). Contains-append_left rest (reverse (two_under note)) n c in
-        let go = still_below entries more rest ahead note stay kept here in
-        let listed_here = subst (Contains (positions_of more)) is.about (contains_map (λ (e : MateEntry). e.at) more entry there) in
+        let go = still_below version p.side entries more rest ahead note stay kept here in
         record {
-          start = still_start entries more rest ahead note p longer kept listed_here walk.start;
+          start = still_start version p.side entries more rest ahead note p stay kept here walk.start;
           borne = λ other c. elim (of other c) [
-            | inl before ↦ still_borne p.side entries more (rest ++ note ∷ []) ahead go other (walk.borne other before)
-            | inr same ↦ subst (IsBorne p.side more ahead) same (its_borne more)
+            | inl before ↦ still_borne version p.side entries more (rest ++ note ∷ []) ahead go other (walk.borne other before)
+            | inr same ↦ subst (IsBorne version p.side more ahead) same (its_borne more)
           ];
           notes = λ n c. elim (Contains-append_cases rest (reverse (two_under note)) n c) [
             | inl before ↦ walk.notes n (Contains-append_left rest (note ∷ []) n before)
@@ -244,11 +283,11 @@ module _ (p : Board) (top : Derivation) (entries : List MateEntry) (rest : List 
 -- 3. How the entries change
 
 -- an entry is put behind the others
-pub pushed_below : (entries : List MateEntry) (entry : MateEntry) → StayBelow entries (entries ++ entry ∷ [])
-pushed_below entries entry rank b l = record {
+pub pushed_below : (attacker : Side) (entries : List MateEntry) (entry : MateEntry) → StayBelow attacker entries (entries ++ entry ∷ [])
+pushed_below attacker entries entry rank b l = record {
   entry = l.entry;
   listed = Contains-append_left entries (entry ∷ []) l.entry l.listed;
-  same = l.same;
+  covers = l.covers;
   lower = l.lower;
 }
 
@@ -257,17 +296,17 @@ positions_pushed [] entry = refl
 positions_pushed (first ∷ entries) entry = let more = positions_pushed entries entry in λ i. first.at ∷ more i
 
 -- an entry takes the place of one of the same position and greater rank
-pub set_below : (entries : List MateEntry) (k : ℕ) (old entry : MateEntry) → slice_get entries k ≡ Some old → entry.at ≡ old.at
-    → entry.rank.number < old.rank.number → StayBelow entries (set entries k entry)
-set_below entries k old entry at about low rank b l = elim (set_keeps entries k old entry l.entry at l.listed) [
-  | inl there ↦ record { entry = l.entry; listed = there; same = l.same; lower = l.lower }
+pub set_below : (attacker : Side) (entries : List MateEntry) (k : ℕ) (old entry : MateEntry) → slice_get entries k ≡ Some old → entry.at ≡ old.at
+    → entry.rank.number < old.rank.number → StayBelow attacker entries (set entries k entry)
+set_below attacker entries k old entry at about low rank b l = elim (set_keeps entries k old entry l.entry at l.listed) [
+  | inl there ↦ record { entry = l.entry; listed = there; covers = l.covers; lower = l.lower }
   | inr same ↦
       let was : old.rank.number ≡ l.entry.rank.number = ap (λ (e : MateEntry). e.rank.number) same in
       let less = l.lower in
       record {
         entry = entry;
         listed = set_here entries k old entry at;
-        same = about ∙ (ap (λ (e : MateEntry). e.at) same ∙ l.same);
+        covers = l.covers ∙ (ap (λ (e : MateEntry). e.at) (sym same) ∙ sym about);
         lower = omega (arith, low, was, less);
       }
 ]
@@ -310,25 +349,23 @@ positions_set entries place old entry at same = map-set (λ (e : MateEntry). e.a
 
 -- 4. Nothing is ahead
 
-listed_alone : (entries : List MateEntry) (rank : ℕ) (q : Board) → IsBelow entries [] rank q → IsListedBelow entries rank q
-listed_alone entries rank q (inl h) = h
-listed_alone entries rank q (inr (n, c, e, low)) = none_in n _ c
+listed_alone : (version : Version) (attacker : Side) (entries : List MateEntry) (rank : ℕ) (q : Board) → IsBelow version attacker entries [] rank q
+    → CoversLower version entries attacker rank q
+listed_alone version attacker entries rank q (inl h) = h
+listed_alone version attacker entries rank q (inr (n, c, covers, low)) = none_in n _ c
 
-start_alone : (entries : List MateEntry) (p : Board) → Contains (positions_of entries) p ⊎ IsAhead [] p → Contains (positions_of entries) p
-start_alone entries p (inl h) = h
-start_alone entries p (inr (n, c, e)) = none_in n _ c
+start_alone : (version : Version) (attacker : Side) (entries : List MateEntry) (p : Board)
+    → CoversListed version entries attacker p ⊎ IsAheadOf version attacker [] p → CoversListed version entries attacker p
+start_alone version attacker entries p (inl h) = h
+start_alone version attacker entries p (inr (n, c, covers)) = none_in n _ c
 
-pub mate_ended : (p : Board) (top : Derivation) (entries : List MateEntry) → IsMateWalk p top entries [] → AreApart (positions_of entries) → AreMateEntries p entries
-mate_ended p top entries walk apart = record {
-  listed = start_alone entries p walk.start;
+pub mate_ended : (version : Version) (p : Board) (top : Derivation) (entries : List MateEntry) → IsMateWalk version p top entries []
+    → AreApart (positions_of entries) → AreMateEntries version p entries
+mate_ended version p top entries walk apart = record {
+  listed = start_alone version p.side entries p walk.start;
   borne_out = λ entry c.
       let b = walk.borne entry c in
-      record {
-        check = b.check;
-        evasions = λ evasion is.
-            let l = listed_alone entries entry.rank.number _ (b.evasions evasion is) in
-            record { entry = l.entry; listed = l.listed; covers = sym l.same; lower = l.lower };
-      };
+      record { check = b.check; evasions = λ evasion is. listed_alone version p.side entries entry.rank.number _ (b.evasions evasion is) };
   problems = λ entry c. record { is_problem = (walk.listed entry c).is_problem; side = (walk.listed entry c).turn };
   kept = λ entry c. (walk.listed entry c).kept;
   texts = λ entry c. (walk.listed entry c).has_text;
@@ -338,43 +375,41 @@ mate_ended p top entries walk apart = record {
 -- 5. The stack of notes, as references
 
 module _ {A : Type 0} (v : A → Derivation) where
-  pub mate_at_first : (p : Board) (entries : List MateEntry) (pending none : List A) (x : A) → entries ≡ [] → none ≡ [] → pending ≡ none ++ x ∷ []
-      → IsPending Mate p.side (v x) (v x) → position_of (v x) ≡ p → IsMateWalk p (v x) entries (map v pending)
-  mate_at_first p entries pending none x unlisted empty is h about =
-      subst (λ (es : List MateEntry). IsMateWalk p (v x) es (map v pending)) (sym unlisted)
-      (subst (IsMateWalk p (v x) []) (sym (first_pending v pending none x empty is)) (mate_begun p (v x) h about))
+  pub mate_at_first : (version : Version) (p : Board) (entries : List MateEntry) (pending none : List A) (x : A) → entries ≡ [] → none ≡ [] → pending ≡ none ++ x ∷ []
+      → IsPending version Mate p.side (v x) (v x) → Covers version p.side p (position_of (v x)) → IsMateWalk version p (v x) entries (map v pending)
+  mate_at_first version p entries pending none x unlisted empty is h about =
+      subst (λ (es : List MateEntry). IsMateWalk version p (v x) es (map v pending)) (sym unlisted)
+      (subst (IsMateWalk version p (v x) []) (sym (first_pending v pending none x empty is)) (mate_begun version p (v x) h about))
 
-  module _ (p : Board) (top : Derivation) (entries : List MateEntry) (pending rest : List A) (next : A) (is : pending ≡ rest ++ next ∷ [])
-      (walk : IsMateWalk p top entries (map v pending)) where
-    pub at_next : IsMateWalk p top entries (map v rest ++ v next ∷ [])
-    at_next = subst (IsMateWalk p top entries) (popped v pending rest next is) walk
+  module _ (version : Version) (p : Board) (top : Derivation) (entries : List MateEntry) (pending rest : List A) (next : A) (is : pending ≡ rest ++ next ∷ [])
+      (walk : IsMateWalk version p top entries (map v pending)) where
+    pub at_next : IsMateWalk version p top entries (map v rest ++ v next ∷ [])
+    at_next = subst (IsMateWalk version p top entries) (popped v pending rest next is) walk
 
     pub mate_past : (place : ℕ) (old entry : MateEntry) → IsEntryOf (v next) entry → slice_get entries place ≡ Some old → old.at ≡ entry.at
-        → old.rank.number ≤ entry.rank.number → IsMateWalk p top entries (map v rest)
+        → old.rank.number ≤ entry.rank.number → IsMateWalk version p top entries (map v rest)
     mate_past place old entry its at same low =
         let high = its.high in
-        mate_met p top entries (map v rest) (v next) at_next old (contained entries place old at) (same ∙ its.about) (omega (arith, high, low))
+        mate_met version p top entries (map v rest) (v next) at_next old (contained entries place old at) (same ∙ its.about) (omega (arith, high, low))
 
     pub mate_on : (new : List A) (entry : MateEntry) → map v new ≡ map v rest ++ reverse (two_under (v next)) → IsEntryOf (v next) entry → LegalBoardMoves
-        → (more : List MateEntry) → more ≡ entries ++ entry ∷ [] → IsMateWalk p top more (map v new)
+        → (more : List MateEntry) → more ≡ entries ++ entry ∷ [] → IsMateWalk version p top more (map v new)
     mate_on new entry pushed its goes more listed =
-        subst (λ (es : List MateEntry). IsMateWalk p top es (map v new)) (sym listed)
-        (subst (IsMateWalk p top (entries ++ entry ∷ [])) (sym pushed)
-        (mate_walked p top entries (map v rest) (v next) at_next entry its goes (entries ++ entry ∷ []) (pushed_below entries entry)
-        (Contains-push entries entry) (λ other c. Contains-push_cases entries entry other c)
-        (λ b c. subst (λ (bs : List Board). Contains bs b) (sym (positions_pushed entries entry)) (Contains-append_left (positions_of entries) (entry.at ∷ []) b c))))
+        subst (λ (es : List MateEntry). IsMateWalk version p top es (map v new)) (sym listed)
+        (subst (IsMateWalk version p top (entries ++ entry ∷ [])) (sym pushed)
+        (mate_walked version p top entries (map v rest) (v next) at_next entry its goes (entries ++ entry ∷ []) (pushed_below p.side entries entry)
+        (Contains-push entries entry) (λ other c. Contains-push_cases entries entry other c)))
 
     pub mate_lower : (new : List A) (entry old : MateEntry) (place : ℕ) → map v new ≡ map v rest ++ reverse (two_under (v next)) → IsEntryOf (v next) entry
         → LegalBoardMoves → slice_get entries place ≡ Some old → old.at ≡ entry.at → entry.rank.number < old.rank.number
-        → (more : List MateEntry) → more ≡ set entries place entry → IsMateWalk p top more (map v new)
+        → (more : List MateEntry) → more ≡ set entries place entry → IsMateWalk version p top more (map v new)
     mate_lower new entry old place pushed its goes at same low more listed =
-        subst (λ (es : List MateEntry). IsMateWalk p top es (map v new)) (sym listed)
-        (subst (IsMateWalk p top (set entries place entry)) (sym pushed)
-        (mate_walked p top entries (map v rest) (v next) at_next entry its goes (set entries place entry) (set_below entries place old entry at (sym same) low)
-        (set_here entries place old entry at) (λ other c. set_cases entries place entry other c)
-        (λ b c. subst (λ (bs : List Board). Contains bs b) (sym (positions_set entries place old entry at same)) c)))
+        subst (λ (es : List MateEntry). IsMateWalk version p top es (map v new)) (sym listed)
+        (subst (IsMateWalk version p top (set entries place entry)) (sym pushed)
+        (mate_walked version p top entries (map v rest) (v next) at_next entry its goes (set entries place entry) (set_below p.side entries place old entry at (sym same) low)
+        (set_here entries place old entry at) (λ other c. set_cases entries place entry other c)))
 
-  pub mate_done : (p : Board) (top : Derivation) (entries : List MateEntry) (pending : List A) → length pending ≡ 0
-      → IsMateWalk p top entries (map v pending) → AreApart (positions_of entries) → AreMateEntries p entries
-  mate_done p top entries [] none walk apart = mate_ended p top entries walk apart
-  mate_done p top entries (x ∷ pending) none walk apart = absurd (omega (arith, none))
+  pub mate_done : (version : Version) (p : Board) (top : Derivation) (entries : List MateEntry) (pending : List A) → length pending ≡ 0
+      → IsMateWalk version p top entries (map v pending) → AreApart (positions_of entries) → AreMateEntries version p entries
+  mate_done version p top entries [] none walk apart = mate_ended version p top entries walk apart
+  mate_done version p top entries (x ∷ pending) none walk apart = absurd (omega (arith, none))

@@ -1,12 +1,12 @@
--- The notes of a tree, and the notes two steps under a note.
-use Rattle.std.proofs.Common.{◌≡◌, ◌<◌, ◌≤◌, ◌+◌, ◌++◌, inl, inr, ℕ, zero, suc, List, [], ◌∷◌, reverse, Contains, arith, ap, sym, refl, ◌∙◌, subst}
+-- The notes of a tree, lists of lists, and how many steps trees have.
+use Rattle.std.proofs.Common.{◌≡◌, ◌<◌, ◌+◌, ◌++◌, inl, inr, ℕ, zero, suc, List, [], ◌∷◌, reverse, Contains, arith, ap, sym, refl, ◌∙◌, subst}
 use Rattle.std.specs.List.{flat_map}
 use Rattle.std.proofs.lemmas.Grind.{common_steps, flat_map-append}
 use Rattle.std.proofs.lemmas.List.{reverse-append, append-nil}
 use Rattle.std.proofs.lemmas.List.Elements.{Contains-append_left, Contains-append_right, Contains-append_cases}
 use Rattle.notes.specs.Derivation.{Derivation, Derivations, derived, none_under, one_under, listed, derivations, under_of, steps_of, steps_under}
 use Rattle.notes.specs.Valid.{IsValid, AreValid}
-use Rattle.cert_extract.specs.Tree.{IsIn, IsUnder, two_under}
+use Rattle.cert_extract.specs.Tree.{IsIn, IsUnder}
 
 -- 1. The tree
 
@@ -28,6 +28,17 @@ mutual
   under_any none_under note next h c = absurd h
   under_any (one_under first notes) note next (inl h) c = inl (under_in first note next h c)
   under_any (one_under first notes) note next (inr h) c = inr (under_any notes note next h c)
+
+mutual
+  -- what is in a note of the tree is in the tree
+  pub in_tree : (top note next : Derivation) → IsIn top note → IsIn note next → IsIn top next
+  in_tree (derived step notes) note next (inl same) c = subst (λ (n : Derivation). IsIn n next) (sym same) c
+  in_tree (derived step notes) note next (inr below) c = inr (in_any notes note next below c)
+
+  in_any : (notes : Derivations) (note next : Derivation) → IsUnder notes note → IsIn note next → IsUnder notes next
+  in_any none_under note next h c = absurd h
+  in_any (one_under first notes) note next (inl h) c = inl (in_tree first note next h c)
+  in_any (one_under first notes) note next (inr h) c = inr (in_any notes note next h c)
 
 mutual
   -- a note of a valid tree is valid
@@ -109,24 +120,12 @@ weight-reverse (x ∷ xs) =
     let e = ap weight (reverse-cons x xs) in
     omega (arith, e, weight-append (reverse xs) (x ∷ []), weight-reverse xs)
 
-weight-under : (note : Derivation) → weight (under_of note) + 1 ≡ steps_of note
+pub weight-under : (note : Derivation) → weight (under_of note) + 1 ≡ steps_of note
 weight-under (derived step notes) = omega (arith, weight-listed notes)
   where
     weight-listed : (notes : Derivations) → weight (listed notes) ≡ steps_under notes
     weight-listed none_under = refl
     weight-listed (one_under first notes) = omega (arith, weight-listed notes)
-
-flat_weight : (notes : List Derivation) → weight (flat_map under_of notes) ≤ weight notes
-flat_weight [] = omega arith
-flat_weight (note ∷ notes) = omega (arith, weight-append (under_of note) (flat_map under_of notes), weight-under note, flat_weight notes)
-
-pub two_lighter : (note : Derivation) → weight (two_under note) < steps_of note
-two_lighter note = omega (arith, flat_weight (under_of note), weight-under note)
-
--- where a note gives way to those two steps under it, the weight falls
-pub lighter : (rest : List Derivation) (note : Derivation) → weight (rest ++ reverse (two_under note)) < weight (rest ++ note ∷ [])
-lighter rest note =
-    omega (arith, weight-append rest (reverse (two_under note)), weight-append rest (note ∷ []), weight-reverse (two_under note), two_lighter note)
 
 pub some_steps : (note : Derivation) → 0 < steps_of note
 some_steps (derived step notes) = omega arith

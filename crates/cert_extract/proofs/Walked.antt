@@ -1,5 +1,5 @@
 -- The notes that were walked: which they are, what is listed of them, and which may follow.
-use Rattle.std.proofs.Common.{◌≡◌, ◌<◌, ◌≤◌, ◌*◌, ◌++◌, ◌⊎◌, inl, inr, ℕ, suc, List, [], ◌∷◌, length, map, set, reverse, Contains, arith, refl, sym, ◌∙◌, ap, subst}
+use Rattle.std.proofs.Common.{◌≡◌, ◌<◌, ◌++◌, ◌⊎◌, inl, inr, ℕ, suc, List, [], ◌∷◌, length, map, set, reverse, Contains, arith, refl, sym, ◌∙◌, ap, subst}
 use Rattle.std.specs.Prelude.{Some, slice_get}
 use Rattle.std.specs.Option.{option_map}
 use Rattle.std.proofs.lemmas.List.{length-append, length-map, map_push}
@@ -15,13 +15,14 @@ use Rattle.position_places.specs.declared.places.Places.{Places}
 use Rattle.position_places.specs.Places.{ArePlacesOf, IsPlaceOrNext}
 use Rattle.shogi_rules.specs.Laws.{LegalBoardMoves}
 use Rattle.notes.specs.declared.rule.Conclusion.TheVariants.{Mate, Escape}
-use Rattle.notes.specs.Derivation.{Derivation, position_of, height_of, concluded, conclusion_of}
+use Rattle.hand_dominance.specs.declared.version.Version.{Version}
+use Rattle.notes.specs.Derivation.{Derivation, position_of, height_of, concluded, conclusion_of, source_of}
 use Rattle.cert_extract.specs.Tree.{two_under}
 use Rattle.cert_extract.specs.Walk.{IsUnderOne, MayFollow, IsWalk}
 use Rattle.cert_extract.specs.Extracted.{IsMet, HasMoreThan}
 use Rattle.cert_extract.proofs.Trees.{of_reverse}
 use Rattle.cert_extract.proofs.Escapes.{IsListed, IsEscapeWalk, Adds, none_in, is_new, placed_new, first_pending, popped, escape_walked}
-use Rattle.cert_extract.proofs.Mates.{IsListedMate, IsMateWalk, IsEntryOf, StayBelow, pushed_below, set_below, set_here, positions_pushed, positions_set, its_listed, at_next}
+use Rattle.cert_extract.proofs.Mates.{IsListedMate, IsMateWalk, IsEntryOf, StandsFor, StayBelow, pushed_below, set_below, set_here, positions_pushed, positions_set, its_listed, at_next}
 
 -- 1. A walk, of which a note more is walked
 
@@ -57,15 +58,17 @@ longer_walk top walked note walk may before rest other e = elim (push_split walk
 abbrev pub AreNext : Derivation → List Derivation → List Derivation → Type 0
 AreNext top walked pending = ((walked ≡ []) × (pending ≡ top ∷ [])) ⊎ ((n : Derivation) → Contains pending n → IsUnderOne walked n)
 
--- the walked notes are a walk, of which what is pending goes on, and their positions are those
--- listed
+-- the tree's last step carries none; the walked notes are a walk, of which what is pending goes on,
+-- and their positions are those listed
 pub record AreWalked (top : Derivation) (positions : List Board) (pending walked : List Derivation) : Type 0 where
+  pub source : source_of top ≡ top
   pub walk : IsWalk top walked
   pub next : AreNext top walked pending
   pub same : HaveSame positions (map position_of walked)
 
-pub none_walked : (top : Derivation) → AreWalked top [] (top ∷ []) []
-none_walked top = record {
+pub none_walked : (top : Derivation) → source_of top ≡ top → AreWalked top [] (top ∷ []) []
+none_walked top source = record {
+  source = source;
   walk = λ before rest note e. absurd (no_split before rest note e);
   next = inl (refl, refl);
   same = λ b. (λ c. c, λ c. c);
@@ -80,6 +83,7 @@ module _ (top : Derivation) (positions : List Board) (rest walked : List Derivat
   -- the note is passed by
   pub still_walked : AreWalked top positions rest walked
   still_walked = record {
+    source = are.source;
     walk = are.walk;
     next = inr (elim are.next [
       | inl first ↦ λ n c. none_in n _ (subst (λ (ns : List Derivation). Contains ns n) (alone rest note top first.1).0 c)
@@ -88,9 +92,9 @@ module _ (top : Derivation) (positions : List Board) (rest walked : List Derivat
     same = are.same;
   }
 
-  stands_there : ((walked ≡ []) × (top ≡ note)) ⊎ IsUnderOne walked note
+  stands_there : ((walked ≡ []) × (source_of top ≡ note)) ⊎ IsUnderOne walked note
   stands_there = elim are.next [
-    | inl first ↦ inl (first.0, (alone rest note top first.1).1)
+    | inl first ↦ inl (first.0, are.source ∙ (alone rest note top first.1).1)
     | inr under ↦ inr (under note (Contains-push rest note))
   ]
 
@@ -109,6 +113,7 @@ module _ (top : Derivation) (positions : List Board) (rest walked : List Derivat
   pub one_walked : IsLower → (longer : List Board) → HaveSame longer (map position_of walked ++ position_of note ∷ [])
       → AreWalked top longer (rest ++ reverse (two_under note)) (walked ++ note ∷ [])
   one_walked lower longer same = record {
+    source = are.source;
     walk = longer_walk top walked note are.walk (record { stands = stands_there; lower = lower });
     next = inr (λ n c. elim (Contains-append_cases rest (reverse (two_under note)) n c) [
       | inl before ↦ before_under n before
@@ -182,10 +187,10 @@ met_escape attacker top b escape listed = record {
 
 module _ {A : Type 0} (v : A → Derivation) where
   pub escapes_at_first : (positions : List Board) (pending none : List A) (x : A) → positions ≡ [] → none ≡ [] → pending ≡ none ++ x ∷ []
-      → SomeWalked (v x) positions (map v pending)
-  escapes_at_first positions pending none x unlisted empty is =
+      → source_of (v x) ≡ v x → SomeWalked (v x) positions (map v pending)
+  escapes_at_first positions pending none x unlisted empty is source =
       subst (λ (bs : List Board). SomeWalked (v x) bs (map v pending)) (sym unlisted)
-      (subst (SomeWalked (v x) []) (sym (first_pending v pending none x empty is)) ([], none_walked (v x)))
+      (subst (SomeWalked (v x) []) (sym (first_pending v pending none x empty is)) ([], none_walked (v x) source))
 
   module _ (top : Derivation) (positions : List Board) (pending rest : List A) (next : A) (is : pending ≡ rest ++ next ∷ [])
       (some : SomeWalked top positions (map v pending)) where
@@ -206,12 +211,12 @@ module _ {A : Type 0} (v : A → Derivation) where
               (same_pushed positions (map position_of at_note.0) (position_of (v next)) at_note.1.same),
         ))
 
-    pub escape_too_many : (p q : Board) (old new : Places) (place most : ℕ) → conclusion_of top ≡ Escape → q ≡ position_of (v next)
+    pub escape_too_many : (version : Version) (p q : Board) (old new : Places) (place most : ℕ) → conclusion_of top ≡ Escape → q ≡ position_of (v next)
         → ArePlacesOf old positions → Adds old q new → IsPlaceOrNext positions q place → place ≡ length positions → place ≡ most
-        → IsEscapeWalk p top positions (map v pending) → HasMoreThan most p top
-    escape_too_many p q old new place most escape same known adds at last full walk =
-        let at_next = subst (IsEscapeWalk p top positions) (popped v pending rest next is) walk in
-        let walked = escape_walked p top positions (map v rest) (v next) at_next in
+        → IsEscapeWalk version p top positions (map v pending) → HasMoreThan most p top
+    escape_too_many version p q old new place most escape same known adds at last full walk =
+        let at_next = subst (IsEscapeWalk version p top positions) (popped v pending rest next is) walk in
+        let walked = escape_walked version p top positions (map v rest) (v next) at_next in
         more_met most p top positions (map v rest) at_note.0 (v next) at_note.1
         (subst (λ (b : Board). ¬ Contains positions b) same (is_new positions q place at last)) (sym full ∙ last)
         (placed_new old new q (position_of (v next)) positions (positions ++ position_of (v next) ∷ []) place known adds at last (sym same) refl).apart
@@ -219,21 +224,18 @@ module _ {A : Type 0} (v : A → Derivation) where
 
 -- 6. A mate
 
--- the note's position is listed with a rank that isn't above half its height
-abbrev pub IsListedLow : List MateEntry → Derivation → Type 0
-IsListedLow entries n = (entry : MateEntry) × Contains entries entry × (entry.at ≡ position_of n) × (2 * entry.rank.number ≤ height_of n)
-
 pub record MatesWalked (top : Derivation) (entries : List MateEntry) (pending : List Derivation) : Type 0 where
   pub walked : List Derivation
   pub are : AreWalked top (positions_of entries) pending walked
-  pub low : (n : Derivation) → Contains walked n → IsListedLow entries n
+  pub low : (n : Derivation) → Contains walked n → StandsFor entries n
 
 -- ranks have only fallen
-still_low : (entries more : List MateEntry) (n : Derivation) → StayBelow entries more → IsListedLow entries n → IsListedLow more n
-still_low entries more n stay (entry, c, about, low) =
-    let l = stay (suc entry.rank.number) (position_of n) (record { entry = entry; listed = c; same = about; lower = omega arith }) in
+still_low : (attacker : Side) (entries more : List MateEntry) (n : Derivation) → StayBelow attacker entries more → StandsFor entries n → StandsFor more n
+still_low attacker entries more n stay h =
+    let l = stay (suc h.entry.rank.number) h.entry.at (record { entry = h.entry; listed = h.listed; covers = refl; lower = omega arith }) in
     let under = l.lower in
-    (l.entry, l.listed, l.same, omega (arith, under, low))
+    let low = h.low in
+    record { entry = l.entry; listed = l.listed; same = sym l.covers ∙ h.same; low = omega (arith, under, low) }
 
 -- no two entries are about the same position
 one_entry : (entries : List MateEntry) (place : ℕ) (old entry : MateEntry) → AreApart (positions_of entries) → slice_get entries place ≡ Some old
@@ -258,15 +260,15 @@ met_mate attacker top entry mate listed = record {
 module _ (top : Derivation) (entries : List MateEntry) (rest : List Derivation) (note : Derivation)
     (mates : MatesWalked top entries (rest ++ note ∷ [])) where
   -- the note is walked, and its entry listed
-  mates_more : (entry : MateEntry) (more : List MateEntry) → IsEntryOf note entry → StayBelow entries more → Contains more entry
+  mates_more : (attacker : Side) (entry : MateEntry) (more : List MateEntry) → IsEntryOf note entry → StayBelow attacker entries more → Contains more entry
       → IsLower top (positions_of entries) rest mates.walked note mates.are
       → HaveSame (positions_of more) (map position_of mates.walked ++ position_of note ∷ []) → MatesWalked top more (rest ++ reverse (two_under note))
-  mates_more entry more its stay there lower same = record {
+  mates_more attacker entry more its stay there lower same = record {
     walked = mates.walked ++ note ∷ [];
     are = one_walked top (positions_of entries) rest mates.walked note mates.are lower (positions_of more) same;
     low = λ n c. elim (Contains-push_cases mates.walked note n c) [
-      | inl before ↦ still_low entries more n stay (mates.low n before)
-      | inr is ↦ subst (IsListedLow more) is (entry, there, its.about, (let high = its.high in omega (arith, high)))
+      | inl before ↦ still_low attacker entries more n stay (mates.low n before)
+      | inr is ↦ subst (StandsFor more) is (record { entry = entry; listed = there; same = its.about; low = (let high = its.high in omega (arith, high)) })
     ];
   }
 
@@ -275,19 +277,19 @@ module _ (top : Derivation) (entries : List MateEntry) (rest : List Derivation) 
       → old.at ≡ entry.at → entry.rank.number < old.rank.number → IsLower top (positions_of entries) rest mates.walked note mates.are
   lower_again place old entry its apart at same less earlier c e =
       let found = mates.low earlier c in
-      let is = one_entry entries place old found.0 apart at found.1 (found.2 ∙ (e ∙ (sym its.about ∙ sym same))) in
-      let rank : old.rank.number ≡ found.0.rank.number = ap (λ (m : MateEntry). m.rank.number) is in
-      let low = found.3 in
+      let is = one_entry entries place old found.entry apart at found.listed (found.same ∙ (e ∙ (sym its.about ∙ sym same))) in
+      let rank : old.rank.number ≡ found.entry.rank.number = ap (λ (m : MateEntry). m.rank.number) is in
+      let low = found.low in
       let high = its.high in
       (ap concluded its.by, omega (arith, rank, low, high, less))
 
 module _ {A : Type 0} (v : A → Derivation) where
   pub mates_at_first : (entries : List MateEntry) (pending none : List A) (x : A) → entries ≡ [] → none ≡ [] → pending ≡ none ++ x ∷ []
-      → MatesWalked (v x) entries (map v pending)
-  mates_at_first entries pending none x unlisted empty is =
+      → source_of (v x) ≡ v x → MatesWalked (v x) entries (map v pending)
+  mates_at_first entries pending none x unlisted empty is source =
       subst (λ (es : List MateEntry). MatesWalked (v x) es (map v pending)) (sym unlisted)
       (subst (MatesWalked (v x) []) (sym (first_pending v pending none x empty is))
-      (record { walked = []; are = none_walked (v x); low = λ n c. none_in n _ c }))
+      (record { walked = []; are = none_walked (v x) source; low = λ n c. none_in n _ c }))
 
   module _ (top : Derivation) (entries : List MateEntry) (pending rest : List A) (next : A) (is : pending ≡ rest ++ next ∷ [])
       (mates : MatesWalked top entries (map v pending)) where
@@ -301,7 +303,7 @@ module _ {A : Type 0} (v : A → Derivation) where
       low = at_mate.low;
     }
 
-    module _ (entry : MateEntry) (its : IsEntryOf (v next) entry) where
+    module _ (attacker : Side) (entry : MateEntry) (its : IsEntryOf (v next) entry) where
       fresh : (place : ℕ) → IsPlaceOrNext (positions_of entries) entry.at place → place ≡ length entries
           → ¬ Contains (positions_of entries) (position_of (v next))
       fresh place at last =
@@ -313,7 +315,7 @@ module _ {A : Type 0} (v : A → Derivation) where
       mates_on more new place pushed at last listed =
           subst (λ (es : List MateEntry). MatesWalked top es (map v new)) (sym listed)
           (subst (MatesWalked top (entries ++ entry ∷ [])) (sym pushed)
-          (mates_more top entries (map v rest) (v next) at_mate entry (entries ++ entry ∷ []) its (pushed_below entries entry) (Contains-push entries entry)
+          (mates_more top entries (map v rest) (v next) at_mate attacker entry (entries ++ entry ∷ []) its (pushed_below attacker entries entry) (Contains-push entries entry)
           (lower_where_new top (positions_of entries) (map v rest) at_mate.walked (v next) at_mate.are (fresh place at last))
           (subst (λ (bs : List Board). HaveSame bs (map position_of at_mate.walked ++ position_of (v next) ∷ []))
           (sym (positions_pushed entries entry ∙ ap (λ (b : Board). positions_of entries ++ b ∷ []) its.about))
@@ -325,7 +327,7 @@ module _ {A : Type 0} (v : A → Derivation) where
       mates_lower more new old place pushed apart at same less listed =
           subst (λ (es : List MateEntry). MatesWalked top es (map v new)) (sym listed)
           (subst (MatesWalked top (set entries place entry)) (sym pushed)
-          (mates_more top entries (map v rest) (v next) at_mate entry (set entries place entry) its (set_below entries place old entry at (sym same) less)
+          (mates_more top entries (map v rest) (v next) at_mate attacker entry (set entries place entry) its (set_below attacker entries place old entry at (sym same) less)
           (set_here entries place old entry at)
           (lower_again top entries (map v rest) (v next) at_mate place old entry its apart at same less)
           (subst (λ (bs : List Board). HaveSame bs (map position_of at_mate.walked ++ position_of (v next) ∷ []))
@@ -334,13 +336,13 @@ module _ {A : Type 0} (v : A → Derivation) where
           (subst (Contains (positions_of entries)) (same ∙ its.about)
           (contains_map (λ (e : MateEntry). e.at) entries old (contained entries place old at)))))))
 
-      pub mate_too_many : (p : Board) (old new : Places) (place most : ℕ) → conclusion_of top ≡ Mate → LegalBoardMoves → ArePlacesOf old (positions_of entries)
+      pub mate_too_many : (version : Version) (p : Board) (old new : Places) (place most : ℕ) → conclusion_of top ≡ Mate → LegalBoardMoves → ArePlacesOf old (positions_of entries)
           → Adds old entry.at new → IsPlaceOrNext (positions_of entries) entry.at place → place ≡ length entries → place ≡ most
-          → IsMateWalk p top entries (map v pending) → HasMoreThan most p top
-      mate_too_many p old new place most mate goes known adds at last full walk =
+          → IsMateWalk version p top entries (map v pending) → HasMoreThan most p top
+      mate_too_many version p old new place most mate goes known adds at last full walk =
           let many = length-map entries (λ (e : MateEntry). e.at) in
           let behind : place ≡ length (positions_of entries) = last ∙ sym many in
-          let walked = at_next v p top entries pending rest next is walk in
+          let walked = at_next v version p top entries pending rest next is walk in
           more_met most p top (positions_of entries) (map v rest) at_mate.walked (v next) at_mate.are (fresh place at last) (sym full ∙ behind)
           (placed_new old new entry.at (position_of (v next)) (positions_of entries) (positions_of entries ++ position_of (v next) ∷ []) place known adds at
           behind (sym its.about) refl).apart
@@ -351,5 +353,5 @@ module _ {A : Type 0} (v : A → Derivation) where
                 (met_mate p.side top found.0 mate (walk.listed found.0 (contained entries before.0 found.0 found.1)))
             | inr same ↦
                 subst (IsMet top p.side) (its.about ∙ same)
-                (met_mate p.side top entry mate (its_listed p top entries (map v rest) (v next) walked entry its goes))
+                (met_mate p.side top entry mate (its_listed version p top entries (map v rest) (v next) walked entry its goes))
           ])

@@ -12,7 +12,7 @@ use Rattle.cert_order.specs.Entries.{HaveSame}
 use Rattle.notes.specs.declared.rule.Rule.TheVariants.{MateBy}
 use Rattle.notes.specs.declared.rule.Conclusion.{Conclusion}
 use Rattle.notes.specs.declared.rule.Conclusion.TheVariants.{Mate, Escape}
-use Rattle.notes.specs.Derivation.{Derivation, rule_of, position_of, height_of, conclusion_of}
+use Rattle.notes.specs.Derivation.{Derivation, IsOwn, rule_of, position_of, height_of, conclusion_of}
 use Rattle.cert_extract.specs.declared.ends.ExtractEnd.{ExtractEnd}
 use Rattle.cert_extract.specs.declared.ends.ExtractEnd.TheVariants.{TooMany, NoMemory}
 use Rattle.cert_extract.specs.Tree.{IsIn}
@@ -32,11 +32,12 @@ pub record IsMateFrom (tree : Derivation) (entry : MateEntry) : Type 0 where
   pub by : rule_of note ≡ MateBy entry.by
   pub high : height_of note ≡ 2 * entry.rank.number
 
--- An escape's position comes from the tree: a note in it is about the position, and concludes an
--- escape.
+-- An escape's position comes from the tree: a note in it that carries none is about the position,
+-- and concludes an escape.
 pub record IsEscapeFrom (tree : Derivation) (b : Board) : Type 0 where
   pub note : Derivation
   pub within : IsIn tree note
+  pub own : IsOwn note
   pub about : position_of note ≡ b
   pub concludes : conclusion_of note ≡ Escape
 

@@ -1,33 +1,35 @@
 // The positions of an escape, from a note about the problem.
 ghost use Rattle.std.specs.Prelude.{◌≡◌, ◌≤◌, [], IfOk, IfErr, Contains, length};
 ghost use Rattle.board_core.specs.Board.{Board};
-ghost use Rattle.notes.specs.Derivation.{position_of, attacker_of, tag_of, conclusion_of};
+ghost use Rattle.notes.specs.Derivation.{tag_of};
 ghost use Rattle.notes.specs.declared.rule.Conclusion.TheVariants.{Escape};
 ghost use Rattle.cert_order.specs.Entries.{AreEscapeEntries};
 ghost use Rattle.cert_extract.specs.Extracted.{IsEscapeFrom, IsEndFor};
+ghost use Rattle.cert_extract.specs.Serving.{Serves};
 
 use crate::ends::ExtractEnd;
 use crate::steps::push_next;
 use board_core::Position;
+use hand_dominance::Version;
 use notes::Note;
 use position_places::Places;
 use shogi_rules::Problem;
 use std::alloc::Global;
 
-/// The attacker's positions in the note's tree, each once, in the order in which they are met; no
+/// The attacker's positions that a walk of the tree meets of a note that serves for the problem in
+/// this version, those of carried notes left out, each once, in the order in which they are met; no
 /// more than so many.
 pub(crate) fn positions(
     alloc: Global,
     problem: &Problem,
+    version: Version,
     note: &Note,
     most: usize,
 ) -> Result<Vec<Position>, ExtractEnd>
     requires closed { tag_of note.now ≡ [] }
-    requires about { position_of note.now ≡ problem.now.position }
-    requires same_attacker { attacker_of note.now ≡ problem.now.position.side }
-    requires escape { conclusion_of note.now ≡ Escape }
+    requires serves { Serves version Escape problem.now.position.side problem.now.position note.now }
     ensures entries { IfOk result
-        (λ positions. AreEscapeEntries problem.now.position positions.items) }
+        (λ positions. AreEscapeEntries version problem.now.position positions.items) }
     ensures from { IfOk result (λ positions. (b : Board) → Contains positions.items b
         → IsEscapeFrom note.now b) }
     ensures few { IfOk result (λ positions. length positions.items ≤ most) }

@@ -1,23 +1,26 @@
 // The entries of a mate, from a note about the problem.
 ghost use Rattle.std.specs.Prelude.{◌≡◌, ◌≤◌, ◌*◌, [], IfOk, IfErr, Contains, length};
 ghost use Rattle.mate_facts.specs.declared.entry.MateEntry.{MateEntry};
-ghost use Rattle.notes.specs.Derivation.{position_of, attacker_of, rule_of, height_of, conclusion_of};
+ghost use Rattle.notes.specs.Derivation.{position_of, attacker_of, rule_of, height_of, conclusion_of, IsOwn};
 ghost use Rattle.notes.specs.declared.rule.Rule.TheVariants.{MateBy};
 ghost use Rattle.notes.specs.declared.rule.Conclusion.TheVariants.{Mate};
 ghost use Rattle.notes.specs.Truth.{IsToMove};
 ghost use Rattle.cert_order.specs.Entries.{AreMateEntries};
 ghost use Rattle.cert_extract.specs.Extracted.{IsMateFrom, IsEndFor};
+ghost use Rattle.cert_extract.specs.Serving.{Serves};
 
 use crate::ends::ExtractEnd;
 use crate::steps::push_next;
+use hand_dominance::Version;
 use mate_facts::{MateEntry, Rank};
 use notes::{Note, Rule};
 use position_places::Places;
 use shogi_rules::{Problem, legal_laws};
 use std::alloc::Global;
 
-// What a note of a mate says of its position, the attacker's to move.
+// What a note of a mate that carries none says of its position, the attacker's to move.
 fn entry_of(note: &Note) -> MateEntry
+    requires own { IsOwn note.now }
     requires mate { conclusion_of note.now ≡ Mate }
     requires turn { IsToMove (attacker_of note.now) note.now }
     ensures about { result.at ≡ position_of note.now }
@@ -37,18 +40,19 @@ fn entry_of(note: &Note) -> MateEntry
     }
 }
 
-/// The attacker's positions in the note's tree, each once, with the check and half the height of
-/// the lowest note that was met there; no more than so many.
+/// The attacker's positions that a walk of the tree meets of a note that serves for the problem in
+/// this version, those of carried notes left out, each once, with the check and half the height of
+/// the lowest note that was walked there; no more than so many.
 pub(crate) fn entries(
     alloc: Global,
     problem: &Problem,
+    version: Version,
     note: &Note,
     most: usize,
 ) -> Result<Vec<MateEntry>, ExtractEnd>
-    requires about { position_of note.now ≡ problem.now.position }
-    requires same_attacker { attacker_of note.now ≡ problem.now.position.side }
-    requires mate { conclusion_of note.now ≡ Mate }
-    ensures entries { IfOk result (λ entries. AreMateEntries problem.now.position entries.items) }
+    requires { Serves version Mate problem.now.position.side problem.now.position note.now }
+    ensures entries { IfOk result
+        (λ entries. AreMateEntries version problem.now.position entries.items) }
     ensures from { IfOk result (λ entries. (entry : MateEntry) → Contains entries.items entry
         → IsMateFrom note.now entry) }
     ensures few { IfOk result (λ entries. length entries.items ≤ most) }

@@ -9,17 +9,16 @@ use Rattle.bit_boards.specs.declared.piece.Side.{Side}
 use Rattle.mate_facts.specs.declared.entry.MateEntry.{MateEntry}
 use Rattle.board_core.specs.Board.{Board}
 use Rattle.shogi_rules.specs.Tsume.{IsProblem}
-use Rattle.mate_def.specs.Mate.{IsClosed, after_both}
 use Rattle.board_core.specs.Kept.{IsKept}
 use Rattle.cert_text.specs.Certificate.{Mating, Escaping, IsMating, IsEscaping, IsRising, MayBeListed, mate_form, escape_form}
 use Rattle.cert_text.specs.Reading.{IsReadCount, IsReadableOf}
 use Rattle.mate_facts.specs.Entries.{positions_of}
-use Rattle.hand_dominance.specs.declared.version.Version.TheVariants.{One}
-use Rattle.hand_dominance.specs.BorneOut.{AreClosed, CoversListed, CoversLower}
+use Rattle.hand_dominance.specs.declared.version.Version.{Version}
+use Rattle.hand_dominance.specs.BorneOut.{AreClosed, CoversLower, IsCovered}
 use Rattle.cert_check.specs.Valid.{ValidMate, ValidEscape}
 use Rattle.cert_order.specs.Entries.{AreMateEntries, AreEscapeEntries, HaveSame}
 use Rattle.cert_order.specs.Order.{RiseAt, IsTextOrder, ArePicked}
-use Rattle.list_laws.proofs.Standing.{contained, at_place, from_map, in_first}
+use Rattle.list_laws.proofs.Standing.{contained, at_place, from_map}
 
 -- 1. The members.
 
@@ -114,9 +113,9 @@ of_entries P entries h b c =
 pub as_many : (entries : List MateEntry) → length (positions_of entries) ≡ length entries
 as_many entries = length-map entries position_of
 
-pub mating : (p : Board) (entries sorted : List MateEntry) (order : List ℕ) → IsProblem p → AreMateEntries p entries
-    → IsTextOrder (positions_of entries) order → ArePicked entries order sorted → IsMating (record { version = One; problem = p; entries = sorted })
-mating p entries sorted order accepted are ordered picked = record {
+pub mating : (version : Version) (p : Board) (entries sorted : List MateEntry) (order : List ℕ) → IsProblem p → AreMateEntries version p entries
+    → IsTextOrder (positions_of entries) order → ArePicked entries order sorted → IsMating (record { version = version; problem = p; entries = sorted })
+mating version p entries sorted order accepted are ordered picked = record {
   is_problem = accepted;
   rising = rising (positions_of entries) order (positions_of sorted) (picked_map position_of entries order sorted picked) ordered.rises;
   listed = λ entry c.
@@ -127,57 +126,50 @@ mating p entries sorted order accepted are ordered picked = record {
 all_entries : (entries : List MateEntry) (order : List ℕ) → IsTextOrder (positions_of entries) order → (place : ℕ) → place < length entries → Contains order place
 all_entries entries order ordered place h = ordered.all place (let n = length-map entries position_of in omega arith)
 
-still_below : (attacker : Side) (entries sorted : List MateEntry) → ((entry : MateEntry) → Contains entries entry → Contains sorted entry) → (rank : ℕ) (b : Board)
-    → CoversLower One entries attacker rank b → CoversLower One sorted attacker rank b
-still_below attacker entries sorted kept rank b l = record { entry = l.entry; listed = kept l.entry l.listed; covers = l.covers; lower = l.lower }
+still_below : (version : Version) (attacker : Side) (entries sorted : List MateEntry) → ((entry : MateEntry) → Contains entries entry → Contains sorted entry) → (rank : ℕ) (b : Board)
+    → CoversLower version entries attacker rank b → CoversLower version sorted attacker rank b
+still_below version attacker entries sorted kept rank b l = record { entry = l.entry; listed = kept l.entry l.listed; covers = l.covers; lower = l.lower }
 
--- what is listed covers what is listed
-covered : (attacker : Side) (entries : List MateEntry) (b : Board) → Contains (positions_of entries) b → CoversListed One entries attacker b
-covered attacker entries b c =
-    let found = from_map position_of entries c.0 b (at_place (positions_of entries) b c) in
-    record { entry = found.0; listed = contained entries c.0 found.0 found.1; covers = sym found.2 }
-
-valid_sorted : (p : Board) (entries sorted : List MateEntry) (order : List ℕ) → AreMateEntries p entries
-    → IsTextOrder (positions_of entries) order → ArePicked entries order sorted → ValidMate (record { version = One; problem = p; entries = sorted }) p
-valid_sorted p entries sorted order are ordered picked =
+valid_sorted : (version : Version) (p : Board) (entries sorted : List MateEntry) (order : List ℕ) → AreMateEntries version p entries
+    → IsTextOrder (positions_of entries) order → ArePicked entries order sorted → ValidMate (record { version = version; problem = p; entries = sorted }) p
+valid_sorted version p entries sorted order are ordered picked =
     let kept = λ (entry : MateEntry) (c : Contains entries entry). is_picked entries order sorted (all_entries entries order ordered) picked entry c in
     record {
       problem = refl;
-      listed = covered p.side sorted p
-          (is_picked (positions_of entries) order (positions_of sorted) ordered.all (picked_map position_of entries order sorted picked) p are.listed);
+      listed = record { entry = are.listed.entry; listed = kept are.listed.entry are.listed.listed; covers = are.listed.covers };
       entries = λ entry c.
           let b = are.borne_out entry (of_picked entries order sorted picked entry c) in
-          record { check = b.check; evasions = λ evasion h. still_below p.side entries sorted kept entry.rank.number _ (b.evasions evasion h) };
+          record { check = b.check; evasions = λ evasion h. still_below version p.side entries sorted kept entry.rank.number _ (b.evasions evasion h) };
     }
 
-pub valid_mate : (p : Board) (entries sorted : List MateEntry) (order : List ℕ) (certificate : Mating)
-    → certificate ≡ record { version = One; problem = p; entries = sorted } → AreMateEntries p entries
+pub valid_mate : (version : Version) (p : Board) (entries sorted : List MateEntry) (order : List ℕ) (certificate : Mating)
+    → certificate ≡ record { version = version; problem = p; entries = sorted } → AreMateEntries version p entries
     → IsTextOrder (positions_of entries) order → ArePicked entries order sorted → ValidMate certificate p
-valid_mate p entries sorted order certificate is are ordered picked =
-    subst (λ (c : Mating). ValidMate c p) (sym is) (valid_sorted p entries sorted order are ordered picked)
+valid_mate version p entries sorted order certificate is are ordered picked =
+    subst (λ (c : Mating). ValidMate c p) (sym is) (valid_sorted version p entries sorted order are ordered picked)
 
-pub same_mate : (p : Board) (entries sorted : List MateEntry) (order : List ℕ) (certificate : Mating)
-    → certificate ≡ record { version = One; problem = p; entries = sorted }
+pub same_mate : (version : Version) (p : Board) (entries sorted : List MateEntry) (order : List ℕ) (certificate : Mating)
+    → certificate ≡ record { version = version; problem = p; entries = sorted }
     → IsTextOrder (positions_of entries) order → ArePicked entries order sorted → HaveSame certificate.entries entries
-same_mate p entries sorted order certificate is ordered picked =
+same_mate version p entries sorted order certificate is ordered picked =
     subst (λ (c : Mating). HaveSame c.entries entries) (sym is)
     (λ entry. (of_picked entries order sorted picked entry, is_picked entries order sorted (all_entries entries order ordered) picked entry))
 
-pub count_mate : (p : Board) (entries sorted : List MateEntry) (order : List ℕ) (certificate : Mating)
-    → certificate ≡ record { version = One; problem = p; entries = sorted }
+pub count_mate : (version : Version) (p : Board) (entries sorted : List MateEntry) (order : List ℕ) (certificate : Mating)
+    → certificate ≡ record { version = version; problem = p; entries = sorted }
     → IsTextOrder (positions_of entries) order → ArePicked entries order sorted → length certificate.entries ≡ length entries
-count_mate p entries sorted order certificate is ordered picked =
+count_mate version p entries sorted order certificate is ordered picked =
     ap (λ (c : Mating). length c.entries) is ∙ (as_many_picked entries order sorted picked ∙ (ordered.count ∙ as_many entries))
 
-pub readable_mate : (p : Board) (entries sorted : List MateEntry) (order : List ℕ) (certificate : Mating)
-    → certificate ≡ record { version = One; problem = p; entries = sorted } → IsProblem p → AreMateEntries p entries
+pub readable_mate : (version : Version) (p : Board) (entries sorted : List MateEntry) (order : List ℕ) (certificate : Mating)
+    → certificate ≡ record { version = version; problem = p; entries = sorted } → IsProblem p → IsKept p → AreMateEntries version p entries
     → IsTextOrder (positions_of entries) order → ArePicked entries order sorted
     → IsReadCount (length certificate.entries) → IsReadableOf (mate_form certificate.problem) certificate
-readable_mate p entries sorted order certificate is accepted are ordered picked =
-    let keeps = mating p entries sorted order accepted are ordered picked in
+readable_mate version p entries sorted order certificate is accepted kept are ordered picked =
+    let keeps = mating version p entries sorted order accepted are ordered picked in
     subst (λ (c : Mating). IsReadCount (length c.entries) → IsReadableOf (mate_form c.problem) c) (sym is)
     (λ count. record {
-      kept = of_entries IsKept entries are.kept p are.listed;
+      kept = kept;
       is_problem = accepted;
       count = count;
       good = record {
@@ -189,58 +181,58 @@ readable_mate p entries sorted order certificate is accepted are ordered picked 
 
 -- 3. An escape's entries.
 
-pub escaping : (p : Board) (entries sorted : List Board) (order : List ℕ) → IsProblem p → AreEscapeEntries p entries
-    → IsTextOrder entries order → ArePicked entries order sorted → IsEscaping (record { version = One; problem = p; entries = sorted })
-escaping p entries sorted order accepted are ordered picked = record {
+pub escaping : (version : Version) (p : Board) (entries sorted : List Board) (order : List ℕ) → IsProblem p → AreEscapeEntries version p entries
+    → IsTextOrder entries order → ArePicked entries order sorted → IsEscaping (record { version = version; problem = p; entries = sorted })
+escaping version p entries sorted order accepted are ordered picked = record {
   is_problem = accepted;
   rising = subst IsRising (sym (map-id sorted)) (rising entries order sorted picked ordered.rises);
   listed = λ b c. are.problems b (of_picked entries order sorted picked b c);
 }
 
-closed_sorted : (attacker : Side) (entries sorted : List Board) → ((b : Board) → Contains entries b → Contains sorted b)
-    → ((b : Board) → Contains sorted b → Contains entries b) → IsClosed attacker entries [] → AreClosed One sorted attacker
-closed_sorted attacker entries sorted kept of closed = record {
+still_covered : (version : Version) (attacker : Side) (entries sorted : List Board) → ((b : Board) → Contains entries b → Contains sorted b) → (b : Board)
+    → IsCovered version entries attacker b → IsCovered version sorted attacker b
+still_covered version attacker entries sorted kept b h = record { listed = h.listed; inside = kept h.listed h.inside; covers = h.covers }
+
+closed_sorted : (version : Version) (attacker : Side) (entries sorted : List Board) → ((b : Board) → Contains entries b → Contains sorted b)
+    → ((b : Board) → Contains sorted b → Contains entries b) → AreClosed version entries attacker → AreClosed version sorted attacker
+closed_sorted version attacker entries sorted kept of closed = record {
   turn = λ b c. closed.turn b (of b c);
   held = λ b c check is_check.
-      let a = closed.answered b check (of b c) is_check in
-      record {
-        evasion = a.evasion;
-        is_evasion = a.is_evasion;
-        leads = record { listed = after_both b check a.evasion; inside = kept _ (in_first entries _ a.leads); covers = refl };
-      };
+      let a = closed.held b (of b c) check is_check in
+      record { evasion = a.evasion; is_evasion = a.is_evasion; leads = still_covered version attacker entries sorted kept _ a.leads };
 }
 
-pub valid_escape : (p : Board) (entries sorted : List Board) (order : List ℕ) (certificate : Escaping)
-    → certificate ≡ record { version = One; problem = p; entries = sorted } → AreEscapeEntries p entries
+pub valid_escape : (version : Version) (p : Board) (entries sorted : List Board) (order : List ℕ) (certificate : Escaping)
+    → certificate ≡ record { version = version; problem = p; entries = sorted } → AreEscapeEntries version p entries
     → IsTextOrder entries order → ArePicked entries order sorted → ValidEscape certificate p
-valid_escape p entries sorted order certificate is are ordered picked =
+valid_escape version p entries sorted order certificate is are ordered picked =
     let kept = λ (b : Board) (c : Contains entries b). is_picked entries order sorted ordered.all picked b c in
     let of = λ (b : Board) (c : Contains sorted b). of_picked entries order sorted picked b c in
     subst (λ (c : Escaping). ValidEscape c p) (sym is)
-    (record { problem = refl; listed = record { listed = p; inside = kept p are.listed; covers = refl }; closed = closed_sorted p.side entries sorted kept of are.closed })
+    (record { problem = refl; listed = still_covered version p.side entries sorted kept p are.listed; closed = closed_sorted version p.side entries sorted kept of are.closed })
 
-pub same_escape : (p : Board) (entries sorted : List Board) (order : List ℕ) (certificate : Escaping)
-    → certificate ≡ record { version = One; problem = p; entries = sorted } → IsTextOrder entries order → ArePicked entries order sorted
+pub same_escape : (version : Version) (p : Board) (entries sorted : List Board) (order : List ℕ) (certificate : Escaping)
+    → certificate ≡ record { version = version; problem = p; entries = sorted } → IsTextOrder entries order → ArePicked entries order sorted
     → HaveSame certificate.entries entries
-same_escape p entries sorted order certificate is ordered picked =
+same_escape version p entries sorted order certificate is ordered picked =
     subst (λ (c : Escaping). HaveSame c.entries entries) (sym is)
     (λ b. (of_picked entries order sorted picked b, is_picked entries order sorted ordered.all picked b))
 
-pub count_escape : (p : Board) (entries sorted : List Board) (order : List ℕ) (certificate : Escaping)
-    → certificate ≡ record { version = One; problem = p; entries = sorted } → IsTextOrder entries order → ArePicked entries order sorted
+pub count_escape : (version : Version) (p : Board) (entries sorted : List Board) (order : List ℕ) (certificate : Escaping)
+    → certificate ≡ record { version = version; problem = p; entries = sorted } → IsTextOrder entries order → ArePicked entries order sorted
     → length certificate.entries ≡ length entries
-count_escape p entries sorted order certificate is ordered picked =
+count_escape version p entries sorted order certificate is ordered picked =
     ap (λ (c : Escaping). length c.entries) is ∙ (as_many_picked entries order sorted picked ∙ ordered.count)
 
-pub readable_escape : (p : Board) (entries sorted : List Board) (order : List ℕ) (certificate : Escaping)
-    → certificate ≡ record { version = One; problem = p; entries = sorted } → IsProblem p → AreEscapeEntries p entries
+pub readable_escape : (version : Version) (p : Board) (entries sorted : List Board) (order : List ℕ) (certificate : Escaping)
+    → certificate ≡ record { version = version; problem = p; entries = sorted } → IsProblem p → IsKept p → AreEscapeEntries version p entries
     → IsTextOrder entries order → ArePicked entries order sorted
     → IsReadCount (length certificate.entries) → IsReadableOf (escape_form certificate.problem) certificate
-readable_escape p entries sorted order certificate is accepted are ordered picked =
-    let keeps = escaping p entries sorted order accepted are ordered picked in
+readable_escape version p entries sorted order certificate is accepted kept are ordered picked =
+    let keeps = escaping version p entries sorted order accepted are ordered picked in
     subst (λ (c : Escaping). IsReadCount (length c.entries) → IsReadableOf (escape_form c.problem) c) (sym is)
     (λ count. record {
-      kept = are.kept p are.listed;
+      kept = kept;
       is_problem = accepted;
       count = count;
       good = record {

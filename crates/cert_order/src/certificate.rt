@@ -3,7 +3,6 @@ ghost use Rattle.std.specs.Prelude.{◌≡◌, ◌<◌, ℕ, IfOk, Contains, len
 ghost use Rattle.cert_text.specs.Certificate.{mate_form, escape_form};
 ghost use Rattle.cert_text.specs.Reading.{IsReadCount, IsReadableOf};
 ghost use Rattle.cert_check.specs.Valid.{ValidMate, ValidEscape};
-ghost use Rattle.hand_dominance.specs.declared.version.Version.TheVariants.{One};
 ghost use Rattle.cert_order.specs.Entries.{AreMateEntries, AreEscapeEntries, HaveSame};
 ghost use Rattle.cert_order.specs.Order.{ArePicked};
 
@@ -28,17 +27,19 @@ pub fn items_at<T: Copy>(alloc: Global, items: &[T], order: &[usize]) -> Result<
     Ok(picked)
 }
 
-/// The certificate of a mate's entries, of version 1: it is about the problem, lists the same
-/// entries, each once, in the order of the bytes of their positions' SFEN texts, and is valid. Its
-/// text can be read, where a reader takes that many entries. Errors: want of memory alone.
+/// The certificate of a mate's entries, of the version in which they bear it out: it is about the
+/// problem, lists the same entries, each once, in the order of the bytes of their positions' SFEN
+/// texts, and is valid. Its text can be read, where a reader takes that many entries. Errors: want
+/// of memory alone.
 pub fn mate_certificate(
     alloc: Global,
     problem: &Problem,
+    version: Version,
     entries: &[MateEntry],
 ) -> Result<MateCertificate, AllocError>
-    requires { AreMateEntries problem.now.position entries.now }
+    requires { AreMateEntries version problem.now.position entries.now }
     ensures valid { IfOk result (λ certificate. ValidMate certificate problem.now.position) }
-    ensures version { IfOk result (λ certificate. certificate.version ≡ One) }
+    ensures version { IfOk result (λ certificate. certificate.version ≡ version) }
     ensures same { IfOk result (λ certificate. HaveSame certificate.entries entries.now) }
 
     // It has as many entries. Where that many are read, it can be read once it is written.
@@ -46,26 +47,29 @@ pub fn mate_certificate(
     ensures readable { IfOk result (λ certificate. IsReadCount (length certificate.entries)
         → IsReadableOf (mate_form certificate.problem) certificate) }
 {
+    problem.position.laws();
     let mut positions = Vec::new(alloc);
     for entry in entries {
         positions.push(entry.at)?;
     }
     let order = text_order(alloc, &positions)?;
     let sorted = items_at(alloc, entries, &order)?;
-    Ok(MateCertificate::new(Version::One, *problem, sorted))
+    Ok(MateCertificate::new(version, *problem, sorted))
 }
 
-/// The certificate of an escape's positions, of version 1: it is about the problem, lists the same
-/// positions, each once, in the order of the bytes of their SFEN texts, and is valid. Its text can
-/// be read, where a reader takes that many entries. Errors: want of memory alone.
+/// The certificate of an escape's positions, of the version in which they bear it out: it is about
+/// the problem, lists the same positions, each once, in the order of the bytes of their SFEN texts,
+/// and is valid. Its text can be read, where a reader takes that many entries. Errors: want of
+/// memory alone.
 pub fn escape_certificate(
     alloc: Global,
     problem: &Problem,
+    version: Version,
     entries: &[Position],
 ) -> Result<EscapeCertificate, AllocError>
-    requires { AreEscapeEntries problem.now.position entries.now }
+    requires { AreEscapeEntries version problem.now.position entries.now }
     ensures valid { IfOk result (λ certificate. ValidEscape certificate problem.now.position) }
-    ensures version { IfOk result (λ certificate. certificate.version ≡ One) }
+    ensures version { IfOk result (λ certificate. certificate.version ≡ version) }
     ensures same { IfOk result (λ certificate. HaveSame certificate.entries entries.now) }
 
     // It has as many entries. Where that many are read, it can be read once it is written.
@@ -73,7 +77,8 @@ pub fn escape_certificate(
     ensures readable { IfOk result (λ certificate. IsReadCount (length certificate.entries)
         → IsReadableOf (escape_form certificate.problem) certificate) }
 {
+    problem.position.laws();
     let order = text_order(alloc, entries)?;
     let sorted = items_at(alloc, entries, &order)?;
-    Ok(EscapeCertificate::new(Version::One, *problem, sorted))
+    Ok(EscapeCertificate::new(version, *problem, sorted))
 }

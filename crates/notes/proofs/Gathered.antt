@@ -1,5 +1,5 @@
 -- Notes gone through one after the other.
-use Rattle.std.proofs.Common.{◌≡◌, ◌≢◌, ◌+◌, ◌⊎◌, inl, inr, ◌↔◌, ℕ, max, List, [], ◌∷◌, ◌++◌, take, Contains, arith, sym, ◌∙◌, ap, subst}
+use Rattle.std.proofs.Common.{◌≡◌, ◌≢◌, ◌+◌, ◌⊎◌, inl, inr, ◌↔◌, ℕ, max, List, [], ◌∷◌, ◌++◌, take, Contains, arith, sym, ◌∙◌, ap, subst, refl}
 use Rattle.std.specs.Prelude.{Some, slice_get}
 use Rattle.std.proofs.lemmas.List.{take_more}
 use Rattle.std.proofs.lemmas.Option.{slice_get_within, get_or_from_slice_get}
@@ -8,7 +8,9 @@ use Rattle.board_laws.proofs.Keys.{same_key}
 use Rattle.board_core.specs.declared.keys.Key.{Key}
 use Rattle.board_core.specs.Board.{Board}
 use Rattle.board_core.specs.Key.{key_of}
-use Rattle.notes.specs.Derivation.{Derivation, derivations, tag_of, height_of, highest}
+use Rattle.hand_dominance.specs.declared.version.Version.{Version}
+use Rattle.hand_dominance.specs.declared.version.Version.TheVariants.{One, Two}
+use Rattle.notes.specs.Derivation.{Derivation, derivations, tag_of, height_of, highest, later, version_in, version_under}
 use Rattle.notes.specs.Valid.{IsValid, AreValid, JoinsTags}
 
 -- one more of the first ones
@@ -19,6 +21,20 @@ first_more notes k note is =
 pub highest_more : (notes : List Derivation) (note : Derivation) → highest (notes ++ note ∷ []) ≡ max (highest notes) (height_of note)
 highest_more [] note = omega arith
 highest_more (first ∷ notes) note = let up = highest_more notes note in omega (arith, up)
+
+none_later : (version : Version) → later version One ≡ later One version
+none_later One = refl
+none_later Two = refl
+
+later_on : (one between two : Version) → later one (later between two) ≡ later (later one between) two
+later_on One between two = refl
+later_on Two between two = refl
+
+pub version_more : (notes : List Derivation) (note : Derivation)
+    → version_under (derivations (notes ++ note ∷ [])) ≡ later (version_under (derivations notes)) (version_in note)
+version_more [] note = none_later (version_in note)
+version_more (first ∷ notes) note =
+    ap (later (version_in first)) (version_more notes note) ∙ later_on (version_in first) (version_under (derivations notes)) (version_in note)
 
 pub valid_more : (notes : List Derivation) (note : Derivation) → AreValid (derivations notes) → IsValid note → AreValid (derivations (notes ++ note ∷ []))
 valid_more [] note all one = (one, tt)

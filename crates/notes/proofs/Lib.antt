@@ -1,3 +1,4 @@
+mod Carrying
 mod Gathered
 mod Meeting
 mod Truth

@@ -2,3 +2,4 @@
 pub use Rattle.notes.proofs.Truth.{note_after, height_le, valid_kept}
 -- may cross threads
 pub use Rattle.notes.proofs.Sent.{note_send}
+pub use Rattle.notes.proofs.Carrying.{own_source}

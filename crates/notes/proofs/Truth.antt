@@ -15,28 +15,30 @@ use Rattle.board_core.specs.Key.{key_of}
 use Rattle.list_laws.proofs.Standing.{at_place, contained, first_of}
 use Rattle.shogi_rules.specs.Rules.{after}
 use Rattle.shogi_rules.proofs.Offered.{after_check, after_evasion}
-use Rattle.mate_def.specs.Mate.{RankAtMost, RankGrows, IsMatedWithin, EscapesInto, EscapesJoined, CanEvadeTo}
+use Rattle.mate_def.specs.Mate.{RankAtMost, RankGrows, IsMatedWithin, Escapes, EscapesInto, EscapesIntoMore, EscapesJoined, CanEvadeTo}
+use Rattle.hand_dominance.specs.Dominance.{MatesCarryUp, MatedCarryUp, EscapesCarryDown, EvasionsCarryDown}
 use Rattle.notes.specs.declared.rule.Rule.{Rule}
-use Rattle.notes.specs.declared.rule.Rule.TheVariants.{MateEnd, MateAll, MateBy, EscapeEnd, EscapeBy, EscapeRepeat, EscapeAll}
+use Rattle.notes.specs.declared.rule.Rule.TheVariants.{MateEnd, MateAll, MateBy, EscapeEnd, EscapeBy, EscapeRepeat, EscapeAll, Carry}
 use Rattle.notes.specs.declared.rule.Conclusion.{Conclusion}
 use Rattle.notes.specs.declared.rule.Conclusion.TheVariants.{Mate, Escape}
-use Rattle.notes.specs.Derivation.{Step, Derivation, Derivations, derived, none_under, one_under, listed, rule_of, attacker_of, position_of, tag_of, height_of, conclusion_of, concluded, highest}
-use Rattle.notes.specs.Valid.{Says, SayEach, IsStep, IsValid, AreValid, meets}
+use Rattle.notes.specs.Derivation.{Step, Derivation, Derivations, derived, none_under, one_under, listed, rule_of, attacker_of, position_of, tag_of, height_of, conclusion_of, concluded, height_by, highest}
+use Rattle.notes.specs.Valid.{Says, SayEach, CarriesTo, IsStep, IsValid, AreValid, meets}
 use Rattle.notes.specs.Truth.{StandFor, IsTrueMate, IsTrueMated, IsTrueEscape, IsTrueEvading, NotesAreTrue}
 
 -- 1. Sides
 
--- who is to move where a rule is met
-abbrev turn_by : Rule → Side → Side
-turn_by MateEnd attacker = other attacker
-turn_by MateAll attacker = other attacker
-turn_by (MateBy check) attacker = attacker
-turn_by EscapeEnd attacker = attacker
-turn_by (EscapeBy evasion) attacker = other attacker
-turn_by (EscapeRepeat evasion) attacker = other attacker
-turn_by EscapeAll attacker = attacker
+-- who is to move where a rule is met: either, where a note is carried
+abbrev IsTurn : Rule → Side → Side → Type 0
+IsTurn MateEnd turn attacker = turn ≡ other attacker
+IsTurn MateAll turn attacker = turn ≡ other attacker
+IsTurn (MateBy check) turn attacker = turn ≡ attacker
+IsTurn EscapeEnd turn attacker = turn ≡ attacker
+IsTurn (EscapeBy evasion) turn attacker = turn ≡ other attacker
+IsTurn (EscapeRepeat evasion) turn attacker = turn ≡ other attacker
+IsTurn EscapeAll turn attacker = turn ≡ attacker
+IsTurn (Carry conclusion) turn attacker = Unit {0}
 
-turn_met : (rule : Rule) (s : Step) (notes : List Derivation) → meets rule s notes → s.position.side ≡ turn_by rule s.attacker
+turn_met : (rule : Rule) (s : Step) (notes : List Derivation) → meets rule s notes → IsTurn rule s.position.side s.attacker
 turn_met MateEnd s notes m = m.0.turn
 turn_met MateAll s notes m = let one = first_of m.0.evasions m.0.some in (m.0.lists.sound one.0 one.1).mover
 turn_met (MateBy check) s notes m = m.0.mover
@@ -44,19 +46,28 @@ turn_met EscapeEnd s notes m = m.0.turn
 turn_met (EscapeBy evasion) s notes m = m.0.mover
 turn_met (EscapeRepeat evasion) s notes m = m.0.mover
 turn_met EscapeAll s notes m = let one = first_of m.0.checks m.0.some in (m.0.lists.sound one.0 one.1).mover
+turn_met (Carry conclusion) s notes m = tt
 
 -- 2. What a note by a rule says, and what that is by its conclusion and the side to move
 
-abbrev true_by : Rule → Derivation → Type 0
-true_by MateEnd note = IsTrueMated note
-true_by MateAll note = IsTrueMated note
-true_by (MateBy check) note = IsTrueMate note
-true_by EscapeEnd note = IsTrueEscape note
-true_by (EscapeBy evasion) note = IsTrueEvading note
-true_by (EscapeRepeat evasion) note = IsTrueEvading note
-true_by EscapeAll note = IsTrueEscape note
+-- what a carried note says, whoever is to move
+record IsTrueCarried (conclusion : Conclusion) (turn attacker : Side) (note : Derivation) : Type 0 where
+  pub mate : conclusion ≡ Mate → turn ≡ attacker → IsTrueMate note
+  pub mated : conclusion ≡ Mate → turn ≡ other attacker → IsTrueMated note
+  pub escape : conclusion ≡ Escape → turn ≡ attacker → IsTrueEscape note
+  pub evading : conclusion ≡ Escape → turn ≡ other attacker → IsTrueEvading note
 
-mate_by_rule : (rule : Rule) (note : Derivation) (turn attacker : Side) → turn ≡ turn_by rule attacker → true_by rule note → concluded rule ≡ Mate
+abbrev true_by : Rule → Side → Side → Derivation → Type 0
+true_by MateEnd turn attacker note = IsTrueMated note
+true_by MateAll turn attacker note = IsTrueMated note
+true_by (MateBy check) turn attacker note = IsTrueMate note
+true_by EscapeEnd turn attacker note = IsTrueEscape note
+true_by (EscapeBy evasion) turn attacker note = IsTrueEvading note
+true_by (EscapeRepeat evasion) turn attacker note = IsTrueEvading note
+true_by EscapeAll turn attacker note = IsTrueEscape note
+true_by (Carry conclusion) turn attacker note = IsTrueCarried conclusion turn attacker note
+
+mate_by_rule : (rule : Rule) (note : Derivation) (turn attacker : Side) → IsTurn rule turn attacker → true_by rule turn attacker note → concluded rule ≡ Mate
     → turn ≡ attacker → IsTrueMate note
 mate_by_rule MateEnd note turn attacker met says is at = absurd (other_apart attacker (sym met ∙ at))
 mate_by_rule MateAll note turn attacker met says is at = absurd (other_apart attacker (sym met ∙ at))
@@ -65,8 +76,9 @@ mate_by_rule EscapeEnd note turn attacker met says is at = absurd (cc)
 mate_by_rule (EscapeBy evasion) note turn attacker met says is at = absurd (cc)
 mate_by_rule (EscapeRepeat evasion) note turn attacker met says is at = absurd (cc)
 mate_by_rule EscapeAll note turn attacker met says is at = absurd (cc)
+mate_by_rule (Carry conclusion) note turn attacker met says is at = says.mate is at
 
-mated_by_rule : (rule : Rule) (note : Derivation) (turn attacker : Side) → turn ≡ turn_by rule attacker → true_by rule note → concluded rule ≡ Mate
+mated_by_rule : (rule : Rule) (note : Derivation) (turn attacker : Side) → IsTurn rule turn attacker → true_by rule turn attacker note → concluded rule ≡ Mate
     → turn ≡ other attacker → IsTrueMated note
 mated_by_rule MateEnd note turn attacker met says is at = says
 mated_by_rule MateAll note turn attacker met says is at = says
@@ -75,8 +87,9 @@ mated_by_rule EscapeEnd note turn attacker met says is at = absurd (cc)
 mated_by_rule (EscapeBy evasion) note turn attacker met says is at = absurd (cc)
 mated_by_rule (EscapeRepeat evasion) note turn attacker met says is at = absurd (cc)
 mated_by_rule EscapeAll note turn attacker met says is at = absurd (cc)
+mated_by_rule (Carry conclusion) note turn attacker met says is at = says.mated is at
 
-escape_by_rule : (rule : Rule) (note : Derivation) (turn attacker : Side) → turn ≡ turn_by rule attacker → true_by rule note → concluded rule ≡ Escape
+escape_by_rule : (rule : Rule) (note : Derivation) (turn attacker : Side) → IsTurn rule turn attacker → true_by rule turn attacker note → concluded rule ≡ Escape
     → turn ≡ attacker → IsTrueEscape note
 escape_by_rule MateEnd note turn attacker met says is at = absurd (cc)
 escape_by_rule MateAll note turn attacker met says is at = absurd (cc)
@@ -85,8 +98,9 @@ escape_by_rule EscapeEnd note turn attacker met says is at = says
 escape_by_rule (EscapeBy evasion) note turn attacker met says is at = absurd (other_apart attacker (sym met ∙ at))
 escape_by_rule (EscapeRepeat evasion) note turn attacker met says is at = absurd (other_apart attacker (sym met ∙ at))
 escape_by_rule EscapeAll note turn attacker met says is at = says
+escape_by_rule (Carry conclusion) note turn attacker met says is at = says.escape is at
 
-evading_by_rule : (rule : Rule) (note : Derivation) (turn attacker : Side) → turn ≡ turn_by rule attacker → true_by rule note → concluded rule ≡ Escape
+evading_by_rule : (rule : Rule) (note : Derivation) (turn attacker : Side) → IsTurn rule turn attacker → true_by rule turn attacker note → concluded rule ≡ Escape
     → turn ≡ other attacker → IsTrueEvading note
 evading_by_rule MateEnd note turn attacker met says is at = absurd (cc)
 evading_by_rule MateAll note turn attacker met says is at = absurd (cc)
@@ -95,10 +109,12 @@ evading_by_rule EscapeEnd note turn attacker met says is at = absurd (other_apar
 evading_by_rule (EscapeBy evasion) note turn attacker met says is at = says
 evading_by_rule (EscapeRepeat evasion) note turn attacker met says is at = says
 evading_by_rule EscapeAll note turn attacker met says is at = absurd (other_apart attacker (sym at ∙ met))
+evading_by_rule (Carry conclusion) note turn attacker met says is at = says.evading is at
 
 -- a valid note of which is known what its rule says
 abbrev Known : Derivation → Type 0
-Known note = ((position_of note).side ≡ turn_by (rule_of note) (attacker_of note)) × true_by (rule_of note) note
+Known note = IsTurn (rule_of note) (position_of note).side (attacker_of note) × true_by (rule_of note) (position_of note).side (attacker_of note) note
+    × IsKept (position_of note)
 
 known_mate : (note : Derivation) → Known note → conclusion_of note ≡ Mate → (position_of note).side ≡ attacker_of note → IsTrueMate note
 known_mate note k is at = mate_by_rule (rule_of note) note (position_of note).side (attacker_of note) k.0 k.1 is at
@@ -185,10 +201,11 @@ stand_with b tag one t kept join stand key c = elim (cases_Bool (pointwise nat_e
 
 -- 6. Each rule
 
-module _ (grows : RankGrows) (joins : EscapesJoined) where
-  mate_all_true : (s : Step) (ds : Derivations) → ((note : Derivation) → Contains (listed ds) note → Known note) → IsStep s (listed ds) → meets MateAll s (listed ds)
-      → IsTrueMated (derived s ds)
-  mate_all_true s ds known step m =
+module _ (grows : RankGrows) (joins : EscapesJoined) (into : EscapesIntoMore) (mates : MatesCarryUp) (mated : MatedCarryUp) (escapes : EscapesCarryDown)
+    (evasions : EvasionsCarryDown) where
+  mate_all_true : (s : Step) (ds : Derivations) → ((note : Derivation) → Contains (listed ds) note → Known note) → s.height ≡ highest (listed ds) + 1
+      → meets MateAll s (listed ds) → IsTrueMated (derived s ds)
+  mate_all_true s ds known high m =
       let all = m.0 in
       let back : (note : Derivation) → Contains (listed ds) note → (n : ℕ) × (height_of note ≡ 2 * n) =
       λ note c.
@@ -202,7 +219,7 @@ module _ (grows : RankGrows) (joins : EscapesJoined) where
       let found = mate_after s.attacker _ note (known note c) says (after_evasion s.attacker s.position _ is) in
       (found.0, found.1) in
       let top = even_highest (listed ds) back in
-      let high = step.height in let even = top.1 in (
+      let even = top.1 in (
         top.0,
         (omega (arith, high, even)),
         λ evasion is.
@@ -212,14 +229,14 @@ module _ (grows : RankGrows) (joins : EscapesJoined) where
             grows s.attacker mate.0 top.0 (after s.position evasion) (omega (arith, low, same, even)) mate.2,
       )
 
-  mate_by_true : (s : Step) (ds : Derivations) (check : Move) → ((note : Derivation) → Contains (listed ds) note → Known note) → IsStep s (listed ds)
-      → meets (MateBy check) s (listed ds) → IsTrueMate (derived s ds)
-  mate_by_true s ds check known step m =
+  mate_by_true : (s : Step) (ds : Derivations) (check : Move) → ((note : Derivation) → Contains (listed ds) note → Known note)
+      → s.height ≡ highest (listed ds) + 1 → meets (MateBy check) s (listed ds) → IsTrueMate (derived s ds)
+  mate_by_true s ds check known high m =
       let one = m.1 in
       let member : Contains (listed ds) one.note = subst (λ (notes : List Derivation). Contains notes one.note) (sym one.alone) (zero, omega arith, refl) in
       let found = mated_after s.attacker _ one.note (known one.note member) one.says (after_check s.attacker s.position check m.0) in
       let top : highest (listed ds) ≡ highest (one.note ∷ []) = ap highest one.alone in
-      let high = step.height in let same = found.1 in
+      let same = found.1 in
       (suc found.0, omega (arith, high, same, top), (check, m.0, λ evasion is. found.2 evasion is))
 
   escape_end_true : (s : Step) (ds : Derivations) → meets EscapeEnd s (listed ds) → IsTrueEscape (derived s ds)
@@ -253,23 +270,89 @@ module _ (grows : RankGrows) (joins : EscapesJoined) where
       let same : found.0 ≡ after s.position evasion = one.of_no_other found.0 found.2 (sym found.3) in
       record { evasion = evasion; is_evasion = m.0; leads = inl (subst (λ (q : Board). Contains t q) same found.1) }
 
+  -- the note that a step carries: it is as high, and where it concludes this it carries over
+  module _ (s : Step) (ds : Derivations) (conclusion : Conclusion) (known : (note : Derivation) → Contains (listed ds) note → Known note) (kept : IsKept s.position)
+      (high : s.height ≡ highest (listed ds)) (m : meets (Carry conclusion) s (listed ds)) where
+    abbrev one : Derivation
+    one = m.0.note
+
+    one_known : Known one
+    one_known = known one (subst (λ (notes : List Derivation). Contains notes one) (sym m.0.alone) (zero, omega arith, refl))
+
+    one_high : s.height ≡ height_of one
+    one_high = let top : highest (listed ds) ≡ highest (one ∷ []) = ap highest m.0.alone in omega (arith, high, top)
+
+    holds : (c : Conclusion) → conclusion ≡ c → CarriesTo c s.attacker (position_of one) s.position
+    holds c is = subst (λ (it : Conclusion). CarriesTo it s.attacker (position_of one) s.position) (m.0.concludes ∙ is) m.0.may.holds
+
+    none_stand : StandFor (tag_of one) []
+    none_stand key held = absurd (let gone = subst (λ (keys : List Key). Contains keys key) m.0.may.closed held in let inside = gone.1 in omega (arith, inside))
+
+    into_any : (q : Board) (t : List Board) → Escapes s.attacker q → EscapesInto s.attacker q t
+    into_any q t escaped = into s.attacker q [] t (λ p c. absurd (let inside = c.1 in omega (arith, inside))) escaped
+
+    carried_mate : conclusion ≡ Mate → s.position.side ≡ s.attacker → IsTrueMate (derived s ds)
+    carried_mate is at =
+        let d = holds Mate is in
+        let own = known_mate one one_known (m.0.concludes ∙ is) (sym d.turn ∙ (at ∙ sym m.0.may.same_attacker)) in
+        let same = own.1 in (
+          own.0,
+          omega (arith, one_high, same),
+          mates own.0 s.attacker s.position (position_of one) kept one_known.2 d
+              (subst (λ (side : Side). RankAtMost side own.0 (position_of one)) m.0.may.same_attacker own.2),
+        )
+
+    carried_mated : conclusion ≡ Mate → s.position.side ≡ other s.attacker → IsTrueMated (derived s ds)
+    carried_mated is at =
+        let d = holds Mate is in
+        let own = known_mated one one_known (m.0.concludes ∙ is) (sym d.turn ∙ (at ∙ ap other (sym m.0.may.same_attacker))) in
+        let same = own.1 in (
+          own.0,
+          omega (arith, one_high, same),
+          mated own.0 s.attacker s.position (position_of one) kept one_known.2 d
+              (subst (λ (side : Side). IsMatedWithin side own.0 (position_of one)) m.0.may.same_attacker own.2),
+        )
+
+    carried_escape : conclusion ≡ Escape → s.position.side ≡ s.attacker → IsTrueEscape (derived s ds)
+    carried_escape is at t stand =
+        let d = holds Escape is in
+        let own = known_escape one one_known (m.0.concludes ∙ is) (d.turn ∙ (at ∙ sym m.0.may.same_attacker)) [] none_stand in
+        into_any s.position t (escapes s.attacker (position_of one) s.position one_known.2 kept d
+        (subst (λ (side : Side). Escapes side (position_of one)) m.0.may.same_attacker own))
+
+    carried_evading : conclusion ≡ Escape → s.position.side ≡ other s.attacker → IsTrueEvading (derived s ds)
+    carried_evading is at t stand =
+        let d = holds Escape is in
+        let own = known_evading one one_known (m.0.concludes ∙ is) (d.turn ∙ (at ∙ ap other (sym m.0.may.same_attacker))) [] none_stand in
+        let its = subst (λ (side : Side). CanEvadeTo side (λ q. Contains [] q ⊎ EscapesInto side q []) (position_of one)) m.0.may.same_attacker own in
+        let free : CanEvadeTo s.attacker (Escapes s.attacker) (position_of one) = record {
+          evasion = its.evasion;
+          is_evasion = its.is_evasion;
+          leads = elim its.leads [ inl c ↦ absurd (let inside = c.1 in omega (arith, inside)) | inr e ↦ e ];
+        } in
+        let way = evasions s.attacker (position_of one) s.position one_known.2 kept d free in
+        record { evasion = way.evasion; is_evasion = way.is_evasion; leads = inr (into_any (after s.position way.evasion) t way.leads) }
+
+    carried_true : IsTrueCarried conclusion s.position.side s.attacker (derived s ds)
+    carried_true = record { mate = carried_mate; mated = carried_mated; escape = carried_escape; evading = carried_evading }
+
   true_step : (rule : Rule) (s : Step) (ds : Derivations) → ((note : Derivation) → Contains (listed ds) note → Known note) → IsStep s (listed ds)
-      → meets rule s (listed ds) → true_by rule (derived s ds)
-  true_step MateEnd s ds known step m =
+      → s.height ≡ height_by rule (listed ds) → meets rule s (listed ds) → true_by rule s.position.side s.attacker (derived s ds)
+  true_step MateEnd s ds known step high m =
       let none : highest (listed ds) ≡ 0 = ap highest m.1 in
-      let high = step.height in
       (0, omega (arith, high, none), λ evasion is. absurd (m.0.no_evasion evasion is))
-  true_step MateAll s ds known step m = mate_all_true s ds known step m
-  true_step (MateBy check) s ds known step m = mate_by_true s ds check known step m
-  true_step EscapeEnd s ds known step m = escape_end_true s ds m
-  true_step (EscapeBy evasion) s ds known step m = escape_by_true s ds evasion known m
-  true_step (EscapeRepeat evasion) s ds known step m = escape_repeat_true s ds evasion m
-  true_step EscapeAll s ds known step m = escape_all_true s ds known step m
+  true_step MateAll s ds known step high m = mate_all_true s ds known high m
+  true_step (MateBy check) s ds known step high m = mate_by_true s ds check known high m
+  true_step EscapeEnd s ds known step high m = escape_end_true s ds m
+  true_step (EscapeBy evasion) s ds known step high m = escape_by_true s ds evasion known m
+  true_step (EscapeRepeat evasion) s ds known step high m = escape_repeat_true s ds evasion m
+  true_step EscapeAll s ds known step high m = escape_all_true s ds known step m
+  true_step (Carry conclusion) s ds known step high m = carried_true s ds conclusion known step.kept high m
 
   mutual
     known_note : (note : Derivation) → IsValid note → Known note
     known_note (derived s ds) v =
-        (turn_met s.rule s (listed ds) v.1.rule, true_step s.rule s ds (known_under ds v.0) v.1 v.1.rule)
+        (turn_met s.rule s (listed ds) v.1.rule, true_step s.rule s ds (known_under ds v.0) v.1 v.1.height v.1.rule, v.1.kept)
 
     known_under : (ds : Derivations) → AreValid ds → (note : Derivation) → Contains (listed ds) note → Known note
     known_under none_under v note c = absurd (let inside = c.1 in omega (arith, inside))
@@ -286,6 +369,7 @@ untagged_by EscapeEnd s notes m is = absurd (cc)
 untagged_by (EscapeBy evasion) s notes m is = absurd (cc)
 untagged_by (EscapeRepeat evasion) s notes m is = absurd (cc)
 untagged_by EscapeAll s notes m is = absurd (cc)
+untagged_by (Carry conclusion) s notes m is = m.1
 
 mate_untagged : (note : Derivation) → IsValid note → conclusion_of note ≡ Mate → tag_of note ≡ []
 mate_untagged (derived s ds) v is = untagged_by s.rule s (listed ds) v.1.rule is
@@ -317,6 +401,7 @@ keys_by (EscapeRepeat evasion) s notes m under key c =
     let alone = subst (λ (tag : List Key). Contains tag key) one.alone c in
     (after s.position evasion, one.kept, sym (ap (λ (k : Key). k.0) (only one.key key alone)) ∙ one.is_key)
 keys_by EscapeAll s notes m under key c = let from = (m.1 key).0 c in under from.0.0 from.0.1 key from.0.2
+keys_by (Carry conclusion) s notes m under key c = no_keys s.tag m.1 key c
 
 mutual
   keys_of : (note : Derivation) → IsValid note → AreKeys (tag_of note)
@@ -329,9 +414,9 @@ mutual
 
 -- 8. All of it
 
-pub notes_are_true : RankGrows → EscapesJoined → NotesAreTrue
-notes_are_true grows joins note v =
-    let k = known_note grows joins note v in
+pub notes_are_true : RankGrows → EscapesJoined → EscapesIntoMore → MatesCarryUp → MatedCarryUp → EscapesCarryDown → EvasionsCarryDown → NotesAreTrue
+notes_are_true grows joins into mates mated escapes evasions note v =
+    let k = known_note grows joins into mates mated escapes evasions note v in
     record {
       mate = λ is at. known_mate note k is at;
       mated = λ is at. known_mated note k is at;

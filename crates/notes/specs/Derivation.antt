@@ -1,10 +1,12 @@
--- What contracts see of a note: a tree of steps, each by one of the seven rules.
+-- What contracts see of a note: a tree of steps, each by one of the eight rules.
 use Rattle.std.specs.Prelude.{◌≡◌, ◌+◌, ℕ, max, List, [], ◌∷◌}
 use Rattle.bit_boards.specs.declared.piece.Side.{Side}
 use Rattle.board_core.specs.declared.keys.Key.{Key}
 use Rattle.board_core.specs.Board.{Board}
+use Rattle.hand_dominance.specs.declared.version.Version.{Version}
+use Rattle.hand_dominance.specs.declared.version.Version.TheVariants.{One, Two}
 use Rattle.notes.specs.declared.rule.Rule.{Rule}
-use Rattle.notes.specs.declared.rule.Rule.TheVariants.{MateEnd, MateAll, MateBy, EscapeEnd, EscapeBy, EscapeRepeat, EscapeAll}
+use Rattle.notes.specs.declared.rule.Rule.TheVariants.{MateEnd, MateAll, MateBy, EscapeEnd, EscapeBy, EscapeRepeat, EscapeAll, Carry}
 use Rattle.notes.specs.declared.rule.Conclusion.{Conclusion}
 use Rattle.notes.specs.declared.rule.Conclusion.TheVariants.{Mate, Escape}
 
@@ -88,6 +90,7 @@ concluded EscapeEnd = Escape
 concluded (EscapeBy move) = Escape
 concluded (EscapeRepeat move) = Escape
 concluded EscapeAll = Escape
+concluded (Carry conclusion) = conclusion
 
 -- What a note concludes.
 abbrev pub conclusion_of : Derivation → Conclusion
@@ -97,6 +100,46 @@ conclusion_of note = concluded (rule_of note)
 abbrev pub highest : List Derivation → ℕ
 highest [] = 0
 highest (note ∷ notes) = max (height_of note) (highest notes)
+
+-- How high a step by this rule is over such notes: as high as the note that it carries, else one
+-- more than the greatest of their heights.
+abbrev pub height_by : Rule → List Derivation → ℕ
+height_by (Carry conclusion) notes = highest notes
+height_by rule notes = highest notes + 1
+
+-- The later of two versions.
+abbrev pub later : Version → Version → Version
+later One version = version
+later Two version = Two
+
+-- The version of a step by this rule, over notes of such a version: 2 where it carries one.
+abbrev pub version_by : Rule → Version → Version
+version_by (Carry conclusion) version = Two
+version_by rule version = version
+
+-- The version in which a certificate says what a derivation does: 2 where a step of it carries a
+-- note, else 1.
+abbrev mutual
+  pub version_in : Derivation → Version
+  version_in (derived step notes) = version_by step.rule (version_under notes)
+
+  pub version_under : Derivations → Version
+  version_under none_under = One
+  version_under (one_under note notes) = later (version_in note) (version_under notes)
+
+-- The note itself; where the rule carries a note, that one's source.
+abbrev pub source_by : Rule → Derivation → Derivation → Derivation
+source_by (Carry conclusion) note source = source
+source_by rule note source = note
+
+-- The note's last step carries none.
+abbrev pub IsOwn : Derivation → Type 0
+IsOwn note = (conclusion : Conclusion) → ¬ (rule_of note ≡ Carry conclusion)
+
+-- The note that a note was carried from: itself where its last step carries none.
+abbrev pub source_of : Derivation → Derivation
+source_of (derived step none_under) = derived step none_under
+source_of (derived step (one_under note notes)) = source_by step.rule (derived step (one_under note notes)) (source_of note)
 
 -- How many steps a derivation has, each as often as it stands in the tree.
 abbrev mutual

@@ -1,5 +1,5 @@
 -- When a note is valid: each of its steps meets its rule, and no height is above 4,096.
-use Rattle.std.specs.Prelude.{◌≡◌, ◌≢◌, ◌<◌, ◌≤◌, ◌+◌, ◌↔◌, ℕ, List, [], ◌∷◌, length, Some, Contains, slice_get}
+use Rattle.std.specs.Prelude.{◌≡◌, ◌≢◌, ◌<◌, ◌≤◌, ◌↔◌, ℕ, List, [], ◌∷◌, length, Some, Contains, slice_get}
 use Rattle.bit_boards.specs.declared.piece.Side.{Side}
 use Rattle.bit_boards.specs.Kind.{other}
 use Rattle.board_core.specs.declared.keys.Key.{Key}
@@ -10,12 +10,14 @@ use Rattle.board_core.specs.Key.{key_of}
 use Rattle.board_core.specs.Order.{Lists}
 use Rattle.shogi_rules.specs.Rules.{IsInCheck, IsQuiet, after}
 use Rattle.shogi_rules.specs.Tsume.{IsCheck, IsEvasion}
+use Rattle.hand_dominance.specs.declared.version.Version.{Version}
+use Rattle.hand_dominance.specs.Dominance.{Dominates}
 use Rattle.path_tags.specs.Tag.{IsRising}
 use Rattle.notes.specs.declared.rule.Rule.{Rule}
-use Rattle.notes.specs.declared.rule.Rule.TheVariants.{MateEnd, MateAll, MateBy, EscapeEnd, EscapeBy, EscapeRepeat, EscapeAll}
+use Rattle.notes.specs.declared.rule.Rule.TheVariants.{MateEnd, MateAll, MateBy, EscapeEnd, EscapeBy, EscapeRepeat, EscapeAll, Carry}
 use Rattle.notes.specs.declared.rule.Conclusion.{Conclusion}
 use Rattle.notes.specs.declared.rule.Conclusion.TheVariants.{Mate, Escape}
-use Rattle.notes.specs.Derivation.{Step, Derivation, Derivations, derived, none_under, one_under, listed, attacker_of, position_of, tag_of, conclusion_of, highest}
+use Rattle.notes.specs.Derivation.{Step, Derivation, Derivations, derived, none_under, one_under, listed, attacker_of, position_of, tag_of, conclusion_of, height_by, version_in}
 
 -- A position as play has it: the defender has a king, and the side not to move isn't in check.
 pub record IsInPlay (attacker : Side) (b : Board) : Type 0 where
@@ -78,6 +80,26 @@ pub record IsKeyAlone (tag : List Key) (b : Board) : Type 0 where
   pub is_key : key.0 ≡ key_of b
   pub of_no_other : (q : Board) → IsKept q → key_of q ≡ key.0 → q ≡ b
 
+-- What is concluded of the one position holds of the other: a mate of each that dominates it, an
+-- escape of each that it dominates.
+abbrev pub CarriesTo : Conclusion → Side → Board → Board → Type 0
+CarriesTo Mate attacker from to = Dominates attacker to from
+CarriesTo Escape attacker from to = Dominates attacker from to
+
+-- The note may be carried to the position: it is this attacker's, depends on no repetition, and
+-- what it concludes holds there too.
+pub record MayBeCarried (attacker : Side) (b : Board) (note : Derivation) : Type 0 where
+  pub same_attacker : attacker_of note ≡ attacker
+  pub closed : tag_of note ≡ []
+  pub holds : CarriesTo (conclusion_of note) attacker (position_of note) b
+
+-- The one note concludes this, and may be carried to the position.
+pub record CarriesOne (conclusion : Conclusion) (attacker : Side) (b : Board) (notes : List Derivation) : Type 0 where
+  pub note : Derivation
+  pub alone : notes ≡ note ∷ []
+  pub concludes : conclusion_of note ≡ conclusion
+  pub may : MayBeCarried attacker b note
+
 -- What each rule asks of its step and the notes under it, with the tag that it gives.
 abbrev pub meets : Rule → Step → List Derivation → Type 0
 meets MateEnd s notes = EndsInMate s.attacker s.position × (notes ≡ []) × (s.tag ≡ [])
@@ -89,15 +111,16 @@ meets (EscapeBy evasion) s notes = IsEvasion s.attacker s.position evasion
 meets (EscapeRepeat evasion) s notes = IsEvasion s.attacker s.position evasion × (notes ≡ [])
     × IsKeyAlone s.tag (after s.position evasion)
 meets EscapeAll s notes = EscapesAfterAll s.attacker s.position notes × JoinsTags s.tag s.position notes
+meets (Carry conclusion) s notes = CarriesOne conclusion s.attacker s.position notes × (s.tag ≡ [])
 
--- A step meets its rule at a position as play has it; its tag rises; its height is one more than
--- the greatest under it, and at most 4,096.
+-- A step meets its rule at a position as play has it; its tag rises; its height is the one by its
+-- rule, and at most 4,096.
 pub record IsStep (s : Step) (notes : List Derivation) : Type 0 where
   pub kept : IsKept s.position
   pub play : IsInPlay s.attacker s.position
   pub rule : meets s.rule s notes
   pub rising : IsRising s.tag
-  pub height : s.height ≡ highest notes + 1
+  pub height : s.height ≡ height_by s.rule notes
   pub low : s.height ≤ 4096
 
 -- A note is valid where each of its steps is.
@@ -108,3 +131,7 @@ abbrev mutual
   pub AreValid : Derivations → Type 0
   AreValid none_under = Unit {0}
   AreValid (one_under note notes) = IsValid note × AreValid notes
+
+-- What a note keeps: it is valid, and this is the version of a certificate that says what it does.
+abbrev pub KeepsVersion : Derivation → Version → Type 0
+KeepsVersion note version = IsValid note × (version ≡ version_in note)

@@ -1,4 +1,4 @@
-//! Notes: facts about positions, each a derivation that only seven rules can make, and so true for
+//! Notes: facts about positions, each a derivation that only eight rules can make, and so true for
 //! every reader.
 //!
 //! A search shares what it has found among paths. A disproof that depends on a repetition holds
@@ -10,6 +10,7 @@
 //! (`specs/Valid.antt`); [`Note::laws`] says what is then true (`specs/Truth.antt`).
 #![tactic(auto)]
 
+mod carried;
 mod escapes;
 mod lists;
 mod mates;
@@ -17,6 +18,7 @@ mod note;
 mod rule;
 mod words;
 
+pub use carried::carry;
 pub use escapes::{escape_all, escape_by, escape_end, escape_repeat};
 pub use mates::{mate_all, mate_by, mate_end};
 pub use note::{HEIGHT_LIMIT, Note, NoteEnd, note_laws};

@@ -1,13 +1,15 @@
-// What a rule takes of the notes under it: their height, other owners of them, and their tags.
+// What a rule takes of the notes under it: their height, their version, other owners of them, and
+// their tags.
 ghost use Rattle.std.specs.Prelude.{◌≡◌, ◌+◌, ◌<◌, ◌≤◌, ◌↔◌, max, IfOk, IsErr, Err};
 ghost use Rattle.path_tags.specs.Tag.{IsRising};
-ghost use Rattle.notes.specs.Derivation.{derivations, highest};
+ghost use Rattle.notes.specs.Derivation.{derivations, highest, later, version_by, version_under};
 ghost use Rattle.notes.specs.Valid.{AreValid, JoinsTags};
 ghost use Rattle.notes.specs.declared.note.NoteEnd.TheVariants.{TooHigh};
 
 use crate::note::HEIGHT_LIMIT;
-use crate::{Note, NoteEnd};
+use crate::{Note, NoteEnd, Rule};
 use board_core::{Position, key};
+use hand_dominance::Version;
 use path_tags::Tag;
 use std::alloc::{AllocError, Global};
 
@@ -32,6 +34,30 @@ pub(crate) fn height_over(notes: &[Note]) -> Result<u32, NoteEnd>
         return Err(NoteEnd::TooHigh);
     }
     Ok(greatest + 1)
+}
+
+// The later of two versions.
+fn later_of(one: Version, another: Version) -> Version
+    ensures { result ≡ later one another }
+{
+    match one {
+        Version::One => another,
+        Version::Two => Version::Two,
+    }
+}
+
+/// The version of a note by this rule over these.
+pub(crate) fn version_over(rule: Rule, notes: &[Note]) -> Version
+    ensures { result ≡ version_by rule (version_under (derivations notes.now)) }
+{
+    if let Rule::Carry(_) = rule {
+        return Version::Two;
+    }
+    let mut version = Version::One;
+    for note in notes {
+        version = later_of(version, note.version());
+    }
+    version
 }
 
 /// Other owners of the same notes, in the same order.

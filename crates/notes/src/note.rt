@@ -1,12 +1,14 @@
 // A note, and how one is made over others.
 ghost use Rattle.std.specs.Prelude.{◌≡◌, ◌+◌, ◌≤◌, ◌↔◌, [], IfOk, IsTrue};
-ghost use Rattle.notes.specs.Derivation.{derivations, step_over, note_over, highest, conclusion_of, rule_of, attacker_of, position_of, tag_of, height_of, under_of};
+ghost use Rattle.notes.specs.Derivation.{derivations, step_over, note_over, height_by, conclusion_of, rule_of, attacker_of, position_of, tag_of, height_of, source_of, under_of, version_in, IsOwn};
 ghost use Rattle.notes.specs.Valid.{IsInPlay, IsValid, AreValid, meets};
 ghost use Rattle.notes.specs.Truth.{IsTrueNote, NotesAreTrue};
 ghost use Rattle.notes.specs.declared.note.NoteEnd.TheVariants.{NoMemory};
 
+use crate::lists::version_over;
 use crate::{Conclusion, Rule};
 use board_core::{Position, Side};
+use hand_dominance::Version;
 use path_tags::Tag;
 use std::alloc::{AllocError, Global};
 use std::marker::Model;
@@ -37,7 +39,7 @@ impl From<AllocError> for NoteEnd {
     }
 }
 
-/// A fact about a position, with its derivation: a tree of steps, each by one of seven rules. Notes
+/// A fact about a position, with its derivation: a tree of steps, each by one of eight rules. Notes
 /// share the notes under them; another owner of one is made by [`Note::share`].
 ///
 /// It keeps that each step meets its rule, and that no height is above 4,096.
@@ -57,6 +59,8 @@ struct Node {
     height: u32,
     rule: Rule,
     attacker: Side,
+    // The version of a certificate that says what the note does.
+    version: Version,
 }
 
 impl Model for Note {
@@ -64,7 +68,7 @@ impl Model for Note {
     ghost use Rattle.std.proofs.Common.{arith};
     ghost use Rattle.notes.specs.Derivation.{Derivation, note_over, steps_of};
     ghost use Rattle.notes.specs.Code.{coded_derivation};
-    ghost use Rattle.notes.specs.Valid.{IsValid};
+    ghost use Rattle.notes.specs.Valid.{KeepsVersion};
     ghost use Rattle.notes.specs.Steps.{most_le-steps};
 
     ghost Value = { Derivation };
@@ -73,7 +77,7 @@ impl Model for Note {
 
     ghost view = { λ n. note_over n.node.value.rule n.node.value.attacker n.node.value.position n.node.value.tag n.node.value.height n.node.value.under.items };
 
-    ghost invariant = { λ n. IsValid (note_over n.node.value.rule n.node.value.attacker n.node.value.position n.node.value.tag n.node.value.height n.node.value.under.items) };
+    ghost invariant = { λ n. KeepsVersion (note_over n.node.value.rule n.node.value.attacker n.node.value.position n.node.value.tag n.node.value.height n.node.value.under.items) n.node.value.version };
 
     ghost size = { steps_of };
 
@@ -94,13 +98,14 @@ impl Note {
         requires valid { AreValid (derivations under.items) }
         requires play { IsInPlay attacker position.now }
         requires rule { meets rule (step_over rule attacker position.now tag height) under.items }
-        requires height { height ≡ highest under.items + 1 }
+        requires height { height ≡ height_by rule under.items }
         requires low { height ≤ 4096 }
         ensures { IfOk result (λ note. note
             ≡ note_over rule attacker position.now tag height under.items) }
     {
         position.laws();
         tag.laws();
+        let version = version_over(rule, &under);
         let node = Node {
             position: *position,
             under,
@@ -108,6 +113,7 @@ impl Note {
             height,
             rule,
             attacker,
+            version,
         };
         Ok(Note {
             node: Arc::new(alloc, node)?,
@@ -159,8 +165,8 @@ impl Note {
         &self.node.tag
     }
 
-    /// How high its tree is: 1 where nothing is under it, else 1 more than the greatest height
-    /// under it; at most 4,096. Takes no memory.
+    /// How high its tree is: as high as the note that it carries, where it carries one; else 1 more
+    /// than the greatest height under it, 1 where nothing is; at most 4,096. Takes no memory.
     pub fn height(&self) -> u32
         ensures { result ≡ height_of self.now }
     {
@@ -179,6 +185,28 @@ impl Note {
         ensures { result.now ≡ under_of self.now }
     {
         self.node.under.as_slice()
+    }
+
+    /// The version of a certificate that says what it does: [`Version::Two`] exactly where a note
+    /// is carried in its tree. Takes no memory.
+    pub fn version(&self) -> Version
+        ensures { result ≡ version_in self.now }
+    {
+        self.node.version
+    }
+
+    /// The note that it was carried from, whose last step carries none; itself where it carries
+    /// none. Takes no memory.
+    pub fn source(&self) -> &Note
+        ensures source { result.now ≡ source_of self.now }
+        ensures own { IsOwn result.now }
+    {
+        self.laws();
+        let mut note = self;
+        while let Rule::Carry(_) = note.rule() {
+            note = &note.under()[0];
+        }
+        note
     }
 
     /// Laws: what every note keeps and says. A mate where the attacker is to move is a mate within
@@ -203,4 +231,6 @@ pub fn note_laws()
 {
     mate_def::rank_grows();
     mate_def::escapes_joined();
+    mate_def::escape_grows();
+    hand_dominance::dominance_laws();
 }

@@ -32,6 +32,10 @@ pub enum Rule {
     /// The attacker has a check, and each leads to an escape; the notes under it are in the order
     /// of the checks.
     EscapeAll,
+    /// The note under it concludes this of a position from which it carries over: a mate of one
+    /// that this position dominates, an escape of one that dominates it. (Nagai 2002: pieces in
+    /// hand that a proof or a disproof doesn't need.)
+    Carry(Conclusion),
 }
 
 impl Rule {
@@ -47,6 +51,7 @@ impl Rule {
             Rule::EscapeBy(_) => Conclusion::Escape,
             Rule::EscapeRepeat(_) => Conclusion::Escape,
             Rule::EscapeAll => Conclusion::Escape,
+            Rule::Carry(conclusion) => conclusion,
         }
     }
 }

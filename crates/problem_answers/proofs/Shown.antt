@@ -12,8 +12,8 @@ use Rattle.cert_text.specs.declared.certificate.Certificate.TheVariants as certi
 use Rattle.play_line.specs.Line.{IsMainLine}
 use Rattle.app_texts.specs.Texts.{solution_text}
 use Rattle.cert_text.specs.declared.certificate.Certificate.{Certificate}
-use Rattle.cert_text.specs.Kinds.{claim_of}
-use Rattle.notes.specs.Derivation.{Derivation, conclusion_of}
+use Rattle.cert_text.specs.Kinds.{claim_of, version_of}
+use Rattle.notes.specs.Derivation.{Derivation, conclusion_of, version_in}
 use Rattle.cert_extract.specs.Extracted.{claim_by, ComesFrom}
 use Rattle.app_texts.specs.declared.answer.Solution.{Solution}
 use Rattle.app_texts.specs.declared.answer.Solution.TheVariants.{Mate, NoMate, Unknown}
@@ -33,13 +33,14 @@ no_mate_told c = (line nomate_text, inr (nomate_text, refl, refl), refl)
 
 -- What shows with the certificate of a note what it says is the note's verdict.
 pub shown_by : (solution : Solution) (p : Board) (note : Derivation) (certificate : Certificate) → claim_of certificate ≡ claim_by (conclusion_of note)
-    → ComesFrom note certificate → IsShown p certificate solution → IsVerdictOf p note solution
-shown_by (Mate c moves) p note certificate claim from shown = record { certificate = certificate; claim = claim; from = from; shown = shown }
-shown_by (NoMate c) p note certificate claim from shown = record { certificate = certificate; claim = claim; from = from; shown = shown }
-shown_by (Unknown cause crew) p note certificate claim from shown = absurd shown
+    → version_of certificate ≡ version_in note → ComesFrom note certificate → IsShown p certificate solution → IsVerdictOf p note solution
+shown_by (Mate c moves) p note certificate claim version from shown = record { certificate = certificate; claim = claim; version = version; from = from; shown = shown }
+shown_by (NoMate c) p note certificate claim version from shown = record { certificate = certificate; claim = claim; version = version; from = from; shown = shown }
+shown_by (Unknown cause crew) p note certificate claim version from shown = absurd shown
 
 -- The same where memory may have been wanted.
 pub verdict_of : {E : Type 0} (result : Result Solution E) (p : Board) (note : Derivation) (certificate : Certificate)
-    → claim_of certificate ≡ claim_by (conclusion_of note) → ComesFrom note certificate → IfOk result (IsShown p certificate) → IfOk result (IsVerdictOf p note)
-verdict_of (Ok solution) p note certificate claim from shown = shown_by solution p note certificate claim from shown
-verdict_of (Err error) p note certificate claim from shown = tt
+    → claim_of certificate ≡ claim_by (conclusion_of note) → version_of certificate ≡ version_in note
+    → ComesFrom note certificate → IfOk result (IsShown p certificate) → IfOk result (IsVerdictOf p note)
+verdict_of (Ok solution) p note certificate claim version from shown = shown_by solution p note certificate claim version from shown
+verdict_of (Err error) p note certificate claim version from shown = tt

@@ -6,14 +6,14 @@ use Rattle.mate_def.specs.Mate.{IsMate}
 use Rattle.cert_text.specs.declared.certificate.Certificate.{Certificate}
 use Rattle.cert_text.specs.declared.certificate.Certificate.TheVariants as certificates
 use Rattle.cert_text.specs.Certificate.{Mating, Escaping}
-use Rattle.cert_text.specs.Kinds.{claim_of}
+use Rattle.cert_text.specs.Kinds.{claim_of, version_of}
 use Rattle.cert_text.specs.Reading.{IsReadable, IsTextOf}
 use Rattle.cert_text.specs.declared.limits.TheConstants.{MOST_ENTRIES}
 use Rattle.cert_check.specs.Valid.{ValidMate, ValidEscape}
 use Rattle.cert_check.specs.declared.verdict.Verdict.{Verdict}
 use Rattle.cert_check.specs.declared.verdict.Verdict.TheVariants.{Accepted as CheckAccepted}
 use Rattle.cert_check.specs.Reasons.{IsVerdict}
-use Rattle.notes.specs.Derivation.{Derivation, conclusion_of}
+use Rattle.notes.specs.Derivation.{Derivation, conclusion_of, version_in}
 use Rattle.cert_extract.specs.Extracted.{claim_by, ComesFrom, HasMoreThan}
 use Rattle.search_limits.specs.declared.cause.Cause.{Cause}
 use Rattle.search_limits.specs.declared.cause.Cause.TheVariants.{Entries}
@@ -56,10 +56,11 @@ IsShown p certificate (NoMate c) = (certificate ≡ certificates.Escape c) × Is
 IsShown p certificate (Unknown cause crew) = ⊥
 
 -- A solution shows with a certificate what it says; the certificate claims what the note concludes,
--- and what it lists comes from the note's tree.
+-- is of the version that the note's tree has, and what it lists comes from that tree.
 pub record IsShownBy (p : Board) (note : Derivation) (solution : Solution) : Type 0 where
   pub certificate : Certificate
   pub claim : claim_of certificate ≡ claim_by (conclusion_of note)
+  pub version : version_of certificate ≡ version_in note
   pub from : ComesFrom note certificate
   pub shown : IsShown p certificate solution
 

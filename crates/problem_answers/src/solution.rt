@@ -1,5 +1,5 @@
 // The verdict of a search.
-ghost use Rattle.std.specs.Prelude.{◌≡◌, IfOk};
+ghost use Rattle.std.specs.Prelude.{IfOk};
 ghost use Rattle.cert_text.specs.Reading.{IsReadable};
 ghost use Rattle.cert_check.specs.Valid.{ValidMate, ValidEscape};
 ghost use Rattle.visit_log.specs.Frame.{task_for};

@@ -1,9 +1,14 @@
 -- Where a worker stands after a log: for each stage, which visits go on, and what was done in each.
 -- So its log is the beginning of a visit log.
 use Rattle.std.proofs.Common.{◌≡◌, ◌≤◌, ◌+◌, ◌⊎◌, inl, inr, List, [], ◌∷◌, ◌++◌, arith, refl, sym, ap, ap₂, ◌∙◌, subst, ℕ, true, false, append_assoc, append-nil}
-use Rattle.std.specs.Prelude.{Option, Some, None, slice_get}
+use Rattle.std.specs.Prelude.{Bool, if◌then◌else◌, Option, Some, None, slice_get}
+use Rattle.board_core.specs.declared.moves.Move.{Move}
+use Rattle.pn_numbers.specs.declared.node.Node.{Node}
+use Rattle.pn_numbers.specs.declared.node.Node.TheVariants.{Attacker, Defender}
 use Rattle.board_core.specs.declared.keys.Key.{Key}
-use Rattle.notes.specs.Derivation.{Derivation, derived, highest}
+use Rattle.notes.specs.declared.rule.Rule.{Rule}
+use Rattle.notes.specs.declared.rule.Rule.TheVariants.{EscapeBy, EscapeRepeat}
+use Rattle.notes.specs.Derivation.{Derivation, derived, height_by, highest, listed}
 use Rattle.notes.specs.declared.words.Draw.{Draw}
 use Rattle.notes.specs.declared.words.Draw.TheVariants.{Go, Done, Spent as AllDrawn}
 use Rattle.notes.specs.declared.words.RoomAnswer.TheVariants.{Room, NoRoom as Full}
@@ -24,7 +29,7 @@ use Rattle.visit_log.specs.declared.words.Request.TheVariants.{Post}
 use Rattle.visit_log.specs.declared.words.Reply.{Reply}
 use Rattle.visit_log.specs.declared.words.Reply.TheVariants.{Poll as Polled, Draw as Drew, Claim as Claimed, Look as Looked, Enter as Entered, Leave as LeftIt, Post as PostedIt}
 use Rattle.visit_log.specs.Frame.{Task, attacker_in, Place, FrameView, root, begun, opened, choose}
-use Rattle.visit_log.specs.Children.{notes_under}
+use Rattle.visit_log.specs.Children.{deciding, notes_under, rule_with}
 use Rattle.visit_log.specs.Round.{node_in, own, Solves, GivesUp, LooksNext, GoesDown, child_place, Sight, looked, IsMade, MayShow, Tells, IsSight, came_back}
 use Rattle.visit_log.specs.Visit.{Exchange, Visit, Unpolled, Halted, Undrawn, Refused, Unentered, Unlisted, nothing_yet, and_look, and_visit, Tail, Cut, Blind, Unclaimed, Unmade, Made, Passed, Ending, Winds, Ends, ending, after_child, known_after, polled, drew, entered, claimed, leave, drawn_on, entered_on, visit_on, tail_on, doings_on, tail_ending, EndsOpen, IsVisit, IsTail, EndsLog, IsVisitLog}
 use Rattle.visit_log.specs.Machine.{State, at_stage, one_visit, one_claim, MayShowAt, Begins, path_of, place_by, start, entered_ones, wind, starve, starve_at, starve_winding, Settles, GoesOn, Opens, Makes, Returns, LeadsAt, FitsAt, keep, asks, asks_at, ask_look, update_by, end_at}
@@ -360,12 +365,29 @@ told_of task (Winding end) (f ∷ fs) visits claims LeftIt t log h fits leads =
     as_state task (at_stage (the_state (Winding end) (f ∷ fs) visits claims) (Winding end) fs) t (log ++ leave f Nothing ∷ []) leads (unwinds task end f fs log h)
 told_of task stage fs visits claims answer t log h fits leads = absurd fits
 
+-- No rule of a node carries a note, so the one that is made is one higher than those that it rests
+-- on.
+by_child : (on_path : Bool) (by : Move) (notes : List Derivation) → height_by (if on_path then EscapeRepeat by else EscapeBy by) notes ≡ highest notes + 1
+by_child true by notes = refl
+by_child false by notes = refl
+
+one_higher : (node : Node) (children : List Child) (decides : Option Child) (notes : List Derivation)
+    → height_by (rule_with node children decides) notes ≡ highest notes + 1
+one_higher Attacker [] None notes = refl
+one_higher Attacker (child ∷ children) None notes = refl
+one_higher Defender [] None notes = refl
+one_higher Defender (child ∷ children) None notes = refl
+one_higher Attacker children (Some child) notes = refl
+one_higher Defender children (Some child) notes = by_child child.on_path child.by notes
+
 -- A note that is made isn't too high.
 pub made_low : (task : Task) (f : FrameView) (note : Derivation) → IsMade task f note → highest (notes_under (node_in task f) f.children) + 1 ≤ 4096
 made_low task f (derived step notes) made =
     let valid = made.valid.1 in
     let same = ap highest made.under in
-    omega (arith, valid.height, valid.low, same)
+    let node = node_in task f in
+    let higher = ap (λ (rule : Rule). height_by rule (listed notes)) made.rule ∙ one_higher node f.children (deciding node f.children) (listed notes) in
+    omega (arith, valid.height, higher, valid.low, same)
 
 -- It is starved.
 starving : (task : Task) (stage : Stage) (fs : List FrameView) (visits claims : ℕ) (log : List Exchange) → StandsAt task stage fs log

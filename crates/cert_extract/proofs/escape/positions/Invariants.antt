@@ -8,7 +8,7 @@ use Rattle.cert_extract.proofs.escape.positions.Given as goal
 abbrev pub invariant-loop-next : goal.invariant-loop-next
 invariant-loop-next l = record {
   places : ArePlacesOf l.places l.positions.items;
-  walk : IsEscapeWalk l.problem.position l.note l.positions.items (map (λ n. n.now) l.pending.items);
+  walk : IsEscapeWalk l.fn.version l.problem.position l.note l.positions.items (map (λ n. n.now) l.pending.items);
   walked : SomeWalked l.note l.positions.items (map (λ n. n.now) l.pending.items);
   few : length l.positions.items ≤ l.most;
 }

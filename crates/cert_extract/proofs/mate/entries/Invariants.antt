@@ -9,7 +9,7 @@ use Rattle.cert_extract.proofs.mate.entries.Given as goal
 abbrev pub invariant-loop-next : goal.invariant-loop-next
 invariant-loop-next l = record {
   places : ArePlacesOf l.places (positions_of l.entries.items);
-  walk : IsMateWalk l.problem.position l.note l.entries.items (map (λ n. n.now) l.pending.items);
+  walk : IsMateWalk l.fn.version l.problem.position l.note l.entries.items (map (λ n. n.now) l.pending.items);
   walked : MatesWalked l.note l.entries.items (map (λ n. n.now) l.pending.items);
   few : length l.entries.items ≤ l.most;
 }

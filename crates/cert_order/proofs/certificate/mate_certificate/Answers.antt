@@ -28,7 +28,7 @@ items_at-requires c place there =
 pub new-requires : goal.new-requires
 new-requires c =
     let e = c.deref.ensures.value ∙ all_positions c.args.entries.now c.loop-entry.entry-index c.loop-entry.positions.items c.loop-entry.invariant c.loop-entry-test.false in
-    mating c.args.problem.now.position c.args.entries.now c.in_ok-sorted.sorted.items c.in_ok-order.order.items c.args.problem.now.accepted c.requires
+    mating c.args.version c.args.problem.now.position c.args.entries.now c.in_ok-sorted.sorted.items c.in_ok-order.order.items c.args.problem.now.accepted c.requires
     (subst (λ (bs : List Board). IsTextOrder bs c.in_ok-order.order.items) e c.in_ok-order.ensures)
     (subst (λ (os : List ℕ). ArePicked c.args.entries.now os c.in_ok-sorted.sorted.items) c.deref-2.ensures.value c.in_ok-sorted.ensures)
 
@@ -38,13 +38,13 @@ returns c =
     let ordered = subst (λ (bs : List Board). IsTextOrder bs c.in_ok-order.order.items) e c.in_ok-order.ensures in
     let picked = subst (λ (os : List ℕ). ArePicked c.args.entries.now os c.in_ok-sorted.sorted.items) c.deref-2.ensures.value c.in_ok-sorted.ensures in
     record {
-      valid = valid_mate c.args.problem.now.position c.args.entries.now c.in_ok-sorted.sorted.items c.in_ok-order.order.items c.new.result c.new.ensures
+      valid = valid_mate c.args.version c.args.problem.now.position c.args.entries.now c.in_ok-sorted.sorted.items c.in_ok-order.order.items c.new.result c.new.ensures
           c.requires ordered picked;
       version = ap (λ (c : Mating). c.version) c.new.ensures;
-      same = same_mate c.args.problem.now.position c.args.entries.now c.in_ok-sorted.sorted.items c.in_ok-order.order.items c.new.result c.new.ensures
+      same = same_mate c.args.version c.args.problem.now.position c.args.entries.now c.in_ok-sorted.sorted.items c.in_ok-order.order.items c.new.result c.new.ensures
           ordered picked;
-      count = count_mate c.args.problem.now.position c.args.entries.now c.in_ok-sorted.sorted.items c.in_ok-order.order.items c.new.result c.new.ensures
+      count = count_mate c.args.version c.args.problem.now.position c.args.entries.now c.in_ok-sorted.sorted.items c.in_ok-order.order.items c.new.result c.new.ensures
           ordered picked;
-      readable = readable_mate c.args.problem.now.position c.args.entries.now c.in_ok-sorted.sorted.items c.in_ok-order.order.items c.new.result
-          c.new.ensures c.args.problem.now.accepted c.requires ordered picked;
+      readable = readable_mate c.args.version c.args.problem.now.position c.args.entries.now c.in_ok-sorted.sorted.items c.in_ok-order.order.items c.new.result
+          c.new.ensures c.args.problem.now.accepted c.laws.ensures c.requires ordered picked;
     }
