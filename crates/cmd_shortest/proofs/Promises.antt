@@ -47,7 +47,7 @@ names_shortest p rank c b moves printed own is =
         accepted = record {
           mate = record {
             valid = at.valid;
-            ranked = record { entry = at.own_rank.entry; listed = at.own_rank.listed; same = at.own_rank.same; is_rank = at.own_rank.has_rank };
+            ranked = at.own_rank;
           };
           bound = at.bound;
           shortest = record { mate = at.mate; no_shorter = at.none_shorter };
@@ -143,6 +143,7 @@ unknown_of asked stops source sink input made cause ended does told tells =
       stands_for = stands_at asked stops source input answer d told;
       why = d.true_of.true_of;
       heeded = d.true_of.heeded;
+      polled = d.true_of.polled;
     }
 
 -- what stands for a problem has no fault

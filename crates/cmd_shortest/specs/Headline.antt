@@ -23,7 +23,7 @@ use Rattle.one_run.specs.Outside.{Shown}
 use Rattle.one_run.specs.Run.{IsEnded, AreUsedTill, IsCounted, IsAnswered, WantsMemory}
 use Rattle.one_run.specs.Stops.{Signals, once_armed}
 use Rattle.cmd_bound.specs.Headline.{IsNoneText, IsShortestText}
-use Rattle.cmd_shortest.specs.Answer.{IsOneHeeded}
+use Rattle.cmd_shortest.specs.Answer.{IsOneHeeded, IsOnePolled}
 use Rattle.cmd_shortest.specs.Asked.{ShortestView}
 use Rattle.cmd_shortest.specs.Meaning.{shortest_meaning}
 use Rattle.cmd_shortest.specs.Text.{finding_text}
@@ -68,14 +68,16 @@ pub record StandsForNone (form : ProblemForm) (limit : ℕ) (input : List ℕ) (
   pub is_limit : told.number ≡ limit
   pub names : NamesNone told b
 
--- The bytes stand for a problem of which neither is told, after so many expansions, for this cause:
--- all expansions that were asked for were made; or the stop signalled, once, which it did nowhere
--- else; or what is known, or an escape, leads to more positions than are read.
+-- The bytes stand for a problem of which neither is told, after so many expansions, for each of
+-- which the stop was polled, and for this cause: all expansions that were asked for were made; or
+-- the stop signalled, once, which it did nowhere else; or what is known, or an escape, leads to
+-- more positions than are read.
 pub record StandsForUnknown (asked : ShortestView) (stops : Signals) (input : List ℕ) (made : ℕ) (cause : Cause) : Type 0 where
   pub problem : Board
   pub stands_for : StandsFor asked.form input (Ok problem)
   pub why : IsTrueOf problem asked.limit asked.expansions made (Unknown cause)
   pub heeded : IsOneHeeded (Unknown cause) stops.before stops.after
+  pub polled : IsOnePolled made stops.before stops.after
 
 -- The bytes that the source has left are a problem, and short enough.
 pub record HasProblemLeft (form : ProblemForm) (left : Option (List ℕ)) : Type 0 where

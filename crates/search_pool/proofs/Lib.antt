@@ -13,5 +13,6 @@ pub mod Winding
 pub mod Way
 pub mod Watching
 pub mod Ends
+pub mod Polled
 pub mod Sent
 pub mod Offered

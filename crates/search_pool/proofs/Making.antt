@@ -6,8 +6,8 @@ use Rattle.shogi_rules.specs.Rules.{after}
 use Rattle.path_tags.specs.Tag.{IsRising}
 use Rattle.path_tags.specs.Laws.{TagsApart}
 use Rattle.notes.specs.declared.rule.Rule.{Rule}
-use Rattle.notes.specs.declared.rule.Rule.TheVariants.{MateEnd, MateAll, MateBy, EscapeEnd, EscapeBy, EscapeRepeat, EscapeAll}
-use Rattle.notes.specs.Derivation.{Step, Derivation, Derivations, derived, none_under, one_under, derivations, listed, under_of, rule_of, attacker_of, position_of, tag_of}
+use Rattle.notes.specs.declared.rule.Rule.TheVariants.{MateEnd, MateAll, MateBy, EscapeEnd, EscapeBy, EscapeRepeat, EscapeAll, Carry}
+use Rattle.notes.specs.Derivation.{Step, Derivation, Derivations, derived, none_under, one_under, derivations, height_by, listed, under_of, rule_of, attacker_of, position_of, tag_of}
 use Rattle.notes.specs.Valid.{IsStep, IsValid, IsKeyAlone, JoinsTags, meets}
 use Rattle.visit_log.specs.Frame.{Task, FrameView}
 use Rattle.visit_log.specs.Round.{IsMade}
@@ -41,6 +41,7 @@ tag_once apart (EscapeRepeat evasion) a b s t notes p q at up too h k =
 tag_once apart EscapeAll a b s t notes p q at up too h k =
     joined_once apart a b s.position notes up too (subst (λ (x : List Key). JoinsTags x s.position notes) p h.1)
     (subst (λ (x : List Key). JoinsTags x s.position notes) q (subst (λ (x : Board). JoinsTags t.tag x notes) (sym at) k.1))
+tag_once apart (Carry conclusion) a b s t notes p q at up too h k = sym p ∙ (h.1 ∙ (sym k.1 ∙ q))
 
 -- 2. NOTES.
 
@@ -52,7 +53,7 @@ step_once : TagsApart → (s t : Step) (notes : List Derivation) → s.rule ≡ 
 step_once apart s t notes rule attacker position h k =
     let tag : s.tag ≡ t.tag = tag_once apart t.rule s.tag t.tag s t notes refl refl position h.rising k.rising
     (subst (λ (r : Rule). meets r s notes) rule h.rule) k.rule in
-    let height : s.height ≡ t.height = h.height ∙ sym k.height in
+    let height : s.height ≡ t.height = h.height ∙ (ap (λ (r : Rule). height_by r notes) rule ∙ sym k.height) in
     λ i. record { rule = rule i; attacker = attacker i; position = position i; tag = tag i; height = height i }
 
 note_once : TagsApart → (m n : Derivation) → rule_of m ≡ rule_of n → attacker_of m ≡ attacker_of n → position_of m ≡ position_of n → under_of m ≡ under_of n → IsValid m

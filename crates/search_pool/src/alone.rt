@@ -1,5 +1,6 @@
 // A search with one worker.
-ghost use Rattle.std.specs.Prelude.{◌≡◌, ℕ, IfOk, IfSome, IfNone, ◌⊎◌, Some};
+ghost use Rattle.std.specs.Prelude.{◌≡◌, ◌≤◌, ℕ, IfOk, IfSome, IfNone, ◌⊎◌, Some};
+ghost use Rattle.search_gate.specs.Polls.{IsPolledForEach};
 ghost use Rattle.search_limits.specs.Settings.{settings_in};
 ghost use Rattle.visit_log.specs.Machine.{end_of};
 ghost use Rattle.visit_log.specs.declared.words.WorkEnd.TheVariants.{Posted, NoMemory};
@@ -16,7 +17,7 @@ use search_gate::{Gate, OpenGate, QuietStop, Stop};
 use search_limits::{Cause, Settings};
 use shogi_rules::Problem;
 use std::alloc::{AllocError, Global};
-use visit_log::{WorkEnd, visit_laws};
+use visit_log::{WorkEnd, count_laws, visit_laws};
 use worker_core::{Worker, work};
 
 // Has the worker work over a table and a desk that are watched, until it has ended, and says how.
@@ -109,6 +110,9 @@ pub(crate) fn search_over<G: Gate, T: Stop>(
         (T.signal stop.new) end port.new.desk.drawn) }
     ensures solution { IfOk result (IsSolution problem.now.position) }
     ensures heeds { IfOk result (HeedsStop (T.signal stop.old) (T.signal stop.new)) }
+    ensures few { IfOk result (λ end. port.new.desk.drawn ≤ settings.now.expansions) }
+    ensures polled { IfOk result (λ end. IsPolledForEach 0 port.new.desk.drawn
+        (T.signal stop.old) (T.signal stop.new)) }
     ensures armed { (T.signal stop.new).armed ≡ (T.signal stop.old).armed }
     ensures arms { (T.signal stop.new).arms ≡ (T.signal stop.old).arms }
     ensures early { (T.signal stop.new).early ≡ (T.signal stop.old).early }
@@ -118,6 +122,7 @@ pub(crate) fn search_over<G: Gate, T: Stop>(
     port.laws();
     worker.laws();
     visit_laws();
+    count_laws();
     if let Some(posted) = port.posted() {
         let note = posted.share()?;
         note.laws();
@@ -176,6 +181,10 @@ pub fn search_alone_counted<G: Gate, T: Stop>(
     ensures solution { IfOk result (λ found. IsSolution problem.now.position found.0) }
     ensures heeds { IfOk result (λ found.
         HeedsStop (T.signal stop.old) (T.signal stop.new) found.0) }
+    // No more visits were drawn than the settings say; and the stop was polled for each of them.
+    ensures few { IfOk result (λ found. found.1 ≤ settings.now.expansions) }
+    ensures polled { IfOk result (λ found. IsPolledForEach 0 found.1 (T.signal stop.old)
+        (T.signal stop.new)) }
     // A stop is polled, and nothing else.
     ensures armed { (T.signal stop.new).armed ≡ (T.signal stop.old).armed }
     ensures arms { (T.signal stop.new).arms ≡ (T.signal stop.old).arms }

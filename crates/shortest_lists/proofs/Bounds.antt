@@ -105,6 +105,7 @@ module _ (k : Known) (p : Board) (most place : ℕ) (walk : BoundWalk) (same : k
         is_check = is_check;
         evasion = evasion;
         by = subst (λ (b : Board). (k.at b).by ≡ Some evasion) e by;
+        long = subst (λ (b : Board). 1 < (k.at b).least) e checked_above;
         leads = sym (f ∙ ap (λ (b : Board). after b evasion) e);
       });
     }

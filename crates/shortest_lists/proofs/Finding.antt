@@ -6,12 +6,12 @@ use Rattle.std.specs.Option.{option_map}
 use Rattle.board_core.specs.Board.{Board}
 use Rattle.board_core.specs.Text.{HasText}
 use Rattle.mate_facts.specs.declared.entry.MateEntry.{MateEntry}
-use Rattle.mate_facts.specs.Entries.{AreApart, positions_of}
+use Rattle.mate_facts.specs.Entries.{AreApart, IsListedWith, positions_of}
 use Rattle.mate_facts.specs.Laws.{EntriesApart, EntriesAreFound}
 use Rattle.cert_text.specs.Certificate.{Mating, IsMating}
 use Rattle.bound_text.specs.Bound.{bounded_in}
 use Rattle.bound_text.specs.declared.entry.BoundEntry.{BoundEntry}
-use Rattle.shortest_lists.specs.Line.{IsMoveAt, IsRankAt}
+use Rattle.shortest_lists.specs.Line.{IsListedMove}
 use Rattle.bound_check.specs.Valid.{IsListedFrom}
 use Rattle.list_laws.proofs.Standing.{contained, at_place, from_map}
 
@@ -20,18 +20,18 @@ module _ (found : EntriesAreFound) (c : Mating) (entries : List MateEntry) (plac
   entry_there : Contains c.entries entry × (entry.at ≡ b)
   entry_there = found c.entries place b entry at (subst (λ (es : List MateEntry). entry ≡ get_or es place entry) same is)
 
-  pub move_there : IsMoveAt c b (get_or entries place entry).by
+  pub move_there : IsListedMove c b (get_or entries place entry).by
   move_there = let there = entry_there in
       record { entry = entry; listed = there.0; same = there.1; has_move = ap (λ (e : MateEntry). e.by) is }
 
   pub text_there : IsMating c → HasText (get_or entries place entry).by
   text_there kept = let there = entry_there in subst (λ (e : MateEntry). HasText e.by) is (kept.listed entry there.0).has_text
 
-  pub rank_there : (rank : ℕ) → (get_or entries place entry).rank.number ≡ rank → IsRankAt c b rank
+  pub rank_there : (rank : ℕ) → (get_or entries place entry).rank.number ≡ rank → IsListedWith c.entries rank b
   rank_there rank its = let there = entry_there in
       record { entry = entry; listed = there.0; same = there.1; has_rank = ap (λ (e : MateEntry). e.rank.number) is ∙ its }
 
-  pub rank_only : EntriesApart → AreApart (positions_of c.entries) → (rank : ℕ) → IsRankAt c b rank → (get_or entries place entry).rank.number ≡ rank
+  pub rank_only : EntriesApart → AreApart (positions_of c.entries) → (rank : ℕ) → IsListedWith c.entries rank b → (get_or entries place entry).rank.number ≡ rank
   rank_only law apart rank ranked =
       let there = entry_there in
       let one = law c.entries apart entry ranked.entry there.0 ranked.listed (there.1 ∙ sym ranked.same) in

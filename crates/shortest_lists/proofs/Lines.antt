@@ -13,7 +13,7 @@ use Rattle.shogi_rules.specs.Rules.{IsQuiet, after}
 use Rattle.shogi_rules.specs.Tsume.{IsCheck, IsEvasion}
 use Rattle.mate_def.specs.Mate.{after_both, HasEvasionTo, CanEvadeTo, RankAtMost, RankGrows}
 use Rattle.mate_facts.specs.declared.entry.MateEntry.{MateEntry}
-use Rattle.mate_facts.specs.Entries.{AreApart, positions_of}
+use Rattle.mate_facts.specs.Entries.{AreApart, IsListedWith, positions_of}
 use Rattle.hand_dominance.specs.declared.version.Version.{Version}
 use Rattle.hand_dominance.specs.declared.version.Version.TheVariants.{One}
 use Rattle.hand_dominance.specs.BorneOut.{CoversLower, IsBorneOut}
@@ -23,7 +23,7 @@ use Rattle.cert_check.specs.Valid.{ValidMate, ShowsMate}
 use Rattle.bound_text.specs.declared.entry.BoundEntry.{BoundEntry}
 use Rattle.bound_check.specs.Valid.{IsListedFrom, Keeps, IsValidBound, ShowsBound}
 use Rattle.list_laws.proofs.Standing.{at_place, contains_map}
-use Rattle.shortest_lists.specs.Line.{IsMoveAt, IsRankAt, Lasts, IsFirstLasting, IsLineFrom}
+use Rattle.shortest_lists.specs.Line.{IsListedMove, Lasts, IsFirstLasting, IsLineFrom}
 
 -- 1. An evasion lasts.
 
@@ -33,7 +33,7 @@ pub record IsBorneAt (c : Mating) (attacker : Side) (rank : ℕ) (b : Board) (ch
   pub below : (evasion : Move) → IsEvasion attacker (after b check) evasion → CoversLower One c.entries attacker rank (after_both b check evasion)
 
 pub borne_at : EntriesApart → (c : Mating) (p b : Board) (rank : ℕ) (check : Move) → ValidMate c p → c.version ≡ One → AreApart (positions_of c.entries)
-    → IsRankAt c b rank → IsMoveAt c b check → IsBorneAt c p.side rank b check
+    → IsListedWith c.entries rank b → IsListedMove c b check → IsBorneAt c p.side rank b check
 borne_at law c p b rank check valid one_version apart ranked moved =
     let borne = subst (λ (v : Version). IsBorneOut v c.entries p.side moved.entry) one_version (valid.entries moved.entry moved.listed) in
     let one = law c.entries apart moved.entry ranked.entry moved.listed ranked.listed (moved.same ∙ sym ranked.same) in
@@ -51,7 +51,7 @@ held_at bounds p b within least check valid from is_check =
 
 pub some_lasts : EntriesApart → RankGrows → (c : Mating) (bounds : List BoundEntry) (p b : Board) (within rank : ℕ) (check : Move) → ValidMate c p → c.version ≡ One
     → AreApart (positions_of c.entries) → ShowsMate c p → IsValidBound bounds p within → ShowsBound bounds p within → 1 < rank
-    → Lasts c bounds rank b → IsMoveAt c b check → CanEvadeTo p.side (Lasts c bounds (rank - 1)) (after b check)
+    → Lasts c bounds rank b → IsListedMove c b check → CanEvadeTo p.side (Lasts c bounds (rank - 1)) (after b check)
 some_lasts law grows c bounds p b within rank check valid one_version apart shows bounded shows_bound some lasts moved =
     let borne = borne_at law c p b rank check valid one_version apart lasts.ranked moved in
     let from = lasts.kept some in
@@ -99,7 +99,7 @@ exact grows c bounds p b within rank shows shows_bound lasts = (
   ]),
 )
   where
-    ranked : IsRankAt c b rank
+    ranked : IsListedWith c.entries rank b
     ranked = lasts.ranked
 
 -- 2. The first that does.
@@ -138,7 +138,7 @@ pub record IsOnLine (c : Mating) (bounds : List BoundEntry) (p : Board) (rank : 
   pub texts : AllHaveText ms
   pub long : length ms + 2 * left ≡ 2 * rank
 
-pub begins : (c : Mating) (bounds : List BoundEntry) (p : Board) (rank : ℕ) (ms : List Move) → ms ≡ [] → IsRankAt c p rank
+pub begins : (c : Mating) (bounds : List BoundEntry) (p : Board) (rank : ℕ) (ms : List Move) → ms ≡ [] → IsListedWith c.entries rank p
     → IsValidBound bounds p (rank - 1) → IsOnLine c bounds p rank ms rank p
 begins c bounds p rank ms none ranked bounded = record {
   leads = λ rest h. subst (λ (xs : List Move). IsLineFrom c bounds p.side rank p (xs ++ rest)) (sym none) h;
@@ -150,12 +150,12 @@ begins c bounds p rank ms none ranked bounded = record {
 pub some_left : (c : Mating) (bounds : List BoundEntry) (left : ℕ) (b : Board) → Lasts c bounds left b → 1 ≤ left
 some_left c bounds left b lasts = let least = lasts.ranked.entry.rank.some in let same = lasts.ranked.has_rank in omega (arith, least, same)
 
-pub listed_at : (c : Mating) (b : Board) (rank : ℕ) → IsRankAt c b rank → Contains (positions_of c.entries) b
+pub listed_at : (c : Mating) (b : Board) (rank : ℕ) → IsListedWith c.entries rank b → Contains (positions_of c.entries) b
 listed_at c b rank at = subst (Contains (positions_of c.entries)) at.same (contains_map (λ (e : MateEntry). e.at) c.entries at.entry at.listed)
 
 -- a check and an evasion more
 pub goes_on : (c : Mating) (bounds : List BoundEntry) (p : Board) (rank : ℕ) (ms longer longest : List Move) (left : ℕ) (b checked next : Board)
-    (check evasion : Move) → IsOnLine c bounds p rank ms left b → IsMoveAt c b check → 1 < left → checked ≡ after b check
+    (check evasion : Move) → IsOnLine c bounds p rank ms left b → IsListedMove c b check → 1 < left → checked ≡ after b check
     → next ≡ after checked evasion → IsFirstLasting c bounds p.side (left - 1) checked evasion → longer ≡ ms ++ check ∷ []
     → longest ≡ longer ++ evasion ∷ [] → HasText check → HasText evasion → IsOnLine c bounds p rank longest (left - 1) next
 goes_on c bounds p rank ms longer longest left b checked next check evasion on moved some e f first longer_by longest_by check_text evasion_text = record {
@@ -182,5 +182,5 @@ goes_on c bounds p rank ms longer longest left b checked next check evasion on m
     joined : (rest : List Move) → ((ms ++ check ∷ []) ++ evasion ∷ []) ++ rest ≡ ms ++ (check ∷ evasion ∷ rest)
     joined rest = simp append_assoc
 
-pub quiet_at : (c : Mating) → IsMating c → (b : Board) (rank : ℕ) → IsRankAt c b rank → IsQuiet b
+pub quiet_at : (c : Mating) → IsMating c → (b : Board) (rank : ℕ) → IsListedWith c.entries rank b → IsQuiet b
 quiet_at c kept b rank at = subst IsQuiet at.same (kept.listed at.entry at.listed).is_entry.is_problem.quiet

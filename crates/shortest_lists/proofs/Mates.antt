@@ -16,13 +16,12 @@ use Rattle.shogi_rules.specs.Tsume.{IsProblem, IsCheck, IsEvasion}
 use Rattle.shogi_rules.proofs.Offered.{after_evasion}
 use Rattle.mate_def.specs.Mate.{after_both}
 use Rattle.mate_facts.specs.declared.entry.MateEntry.{MateEntry}
-use Rattle.mate_facts.specs.Entries.{positions_of}
+use Rattle.mate_facts.specs.Entries.{IsListedWith, positions_of}
 use Rattle.hand_dominance.specs.declared.version.Version.TheVariants.{One}
 use Rattle.hand_dominance.specs.BorneOut.{CoversLower, IsBorneOut}
 use Rattle.position_places.specs.Places.{ArePlacesOf}
 use Rattle.cert_text.specs.Certificate.{IsEntry, Mating}
 use Rattle.cert_order.specs.Entries.{AreMateEntries, HaveSame}
-use Rattle.shortest_lists.specs.Line.{IsRankAt}
 use Rattle.list_laws.proofs.Standing.{contained, at_place, from_map, contains_map, more, of_all}
 use Rattle.shortest_facts.specs.declared.fact.TheConstants.{NEVER}
 use Rattle.shortest_facts.specs.Facts.{Known, Mates}
@@ -283,9 +282,9 @@ borne_out k p most n walk same are whole entry c =
     }
 
 pub mate_listed : (k : Known) (p : Board) (most n : ℕ) (walk : MateWalk) → k.attacker ≡ p.side → AreFollowed k p most walk n
-    → length walk.entries.items ≤ n → AreMateEntries p walk.entries.items
+    → length walk.entries.items ≤ n → AreMateEntries One p walk.entries.items
 mate_listed k p most n walk same are whole = record {
-  listed = subst (Contains (positions_of walk.entries.items)) are.root.same (contains_map place_in walk.entries.items are.root.entry are.root.listed);
+  listed = record { entry = are.root.entry; listed = are.root.listed; covers = sym are.root.same };
   borne_out = borne_out k p most n walk same are whole;
   problems = λ entry c. (are.walks.listed entry c).is_entry;
   kept = λ entry c. (are.walks.listed entry c).kept;
@@ -326,7 +325,7 @@ followed_all k p most begun walk place entry checked items evasions n same at e 
     })
 
 pub rank_there : (k : Known) (p : Board) (c : Mating) (entries : List MateEntry) → HaveSame c.entries entries → HasRankIn k entries p
-    → IsRankAt c p (k.at p).most
+    → IsListedWith c.entries (k.at p).most p
 rank_there k p c entries same root = record {
   entry = root.entry;
   listed = (same root.entry).1 root.listed;

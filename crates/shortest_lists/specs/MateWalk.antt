@@ -8,7 +8,7 @@ use Rattle.shogi_rules.specs.Rules.{after}
 use Rattle.shogi_rules.specs.Tsume.{IsEvasion}
 use Rattle.mate_def.specs.Mate.{after_both}
 use Rattle.mate_facts.specs.declared.entry.MateEntry.{MateEntry}
-use Rattle.mate_facts.specs.Entries.{positions_of}
+use Rattle.mate_facts.specs.Entries.{IsListedWith, positions_of}
 use Rattle.position_places.specs.Places.{ArePlacesOf}
 use Rattle.cert_text.specs.Certificate.{IsEntry}
 use Rattle.shortest_facts.specs.declared.fact.TheConstants.{NEVER}
@@ -40,8 +40,5 @@ pub record IsFollowed (k : Known) (entries : List MateEntry) (entry : MateEntry)
       → Contains (positions_of entries) (after_both entry.at entry.by evasion)
 
 -- The position is listed, with the most moves of its fact as the rank.
-pub record HasRankIn (k : Known) (entries : List MateEntry) (position : Board) : Type 0 where
-  pub entry : MateEntry
-  pub listed : Contains entries entry
-  pub same : entry.at ≡ position
-  pub has_rank : entry.rank.number ≡ (k.at position).most
+abbrev pub HasRankIn : Known → List MateEntry → Board → Type 0
+HasRankIn k entries position = IsListedWith entries (k.at position).most position

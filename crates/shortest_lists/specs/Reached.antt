@@ -19,12 +19,14 @@ pub record IsMateStep (k : Known) (b next : Board) : Type 0 where
   pub leads : after_both b check evasion ≡ next
 
 -- The bound that the facts show goes on from the one position to the other: the attacker plays a
--- check, and the defender the evasion of the fact after it.
+-- check, and the defender the evasion of the fact after it, where a mate is known to take more than
+-- one move.
 pub record IsBoundStep (k : Known) (b next : Board) : Type 0 where
   pub check : Move
   pub is_check : IsCheck k.attacker b check
   pub evasion : Move
   pub by : (k.at (after b check)).by ≡ Some evasion
+  pub long : 1 < (k.at (after b check)).least
   pub leads : after_both b check evasion ≡ next
 
 -- So many steps lead from the position to the other.

@@ -3,16 +3,14 @@ ghost use Rattle.std.specs.Prelude.{◌≡◌, ◌-◌, ◌*◌, ◌+◌, ◌↔
 ghost use Rattle.board_core.specs.Text.{HasText};
 ghost use Rattle.shogi_rules.specs.Rules.{IsQuiet};
 ghost use Rattle.mate_def.specs.Mate.{CanEvadeTo};
-ghost use Rattle.mate_facts.specs.Entries.{positions_of};
+ghost use Rattle.mate_facts.specs.Entries.{IsListedWith, positions_of};
 ghost use Rattle.position_places.specs.Places.{ArePlacesOf};
 ghost use Rattle.usi_text.specs.Lines.{AllHaveText};
 ghost use Rattle.hand_dominance.specs.declared.version.Version.TheVariants.{One};
 ghost use Rattle.bound_text.specs.Bound.{bounded_in};
-ghost use Rattle.cert_text.specs.Certificate.{mate_form};
-ghost use Rattle.cert_text.specs.Reading.{IsReadableOf};
 ghost use Rattle.cert_check.specs.Valid.{ValidMate};
 ghost use Rattle.bound_check.specs.Valid.{IsValidBound, Keeps};
-ghost use Rattle.shortest_lists.specs.Line.{IsMoveAt, IsRankAt, Lasts, IsFirstLasting, IsShortestLine, LastingIsExact};
+ghost use Rattle.shortest_lists.specs.Line.{IsListedMove, Lasts, IsFirstLasting, IsShortestLine, LastingIsExact};
 
 use board_core::{Move, Position, order_laws};
 use bound_check::valid_bound_is_accepted;
@@ -30,7 +28,7 @@ use std::alloc::{AllocError, Global};
 fn move_at(certificate: &MateCertificate, places: &Places, position: &Position) -> Move
     requires places { ArePlacesOf places.now (positions_of certificate.now.entries) }
     requires listed { Contains (positions_of certificate.now.entries) position.now }
-    ensures is_move { IsMoveAt certificate.now position.now result }
+    ensures is_move { IsListedMove certificate.now position.now result }
     ensures text { HasText result }
 {
     // The entry that is found is the position's.
@@ -44,7 +42,7 @@ fn move_at(certificate: &MateCertificate, places: &Places, position: &Position) 
 // Whether the certificate has this rank at the position.
 fn has_rank(certificate: &MateCertificate, places: &Places, rank: u32, position: &Position) -> bool
     requires { ArePlacesOf places.now (positions_of certificate.now.entries) }
-    ensures { IsTrue result ↔ IsRankAt certificate.now position.now rank }
+    ensures { IsTrue result ↔ IsListedWith certificate.now.entries rank position.now }
 {
     // Entries of one position are one entry.
     entry_laws();
@@ -147,8 +145,7 @@ pub fn line_of(
 ) -> Result<Vec<Move>, AllocError>
     requires valid { ValidMate certificate.now problem.now.position }
     requires version { certificate.now.version ≡ One }
-    requires readable { IsReadableOf (mate_form certificate.now.problem) certificate.now }
-    requires rank { IsRankAt certificate.now problem.now.position rank }
+    requires rank { IsListedWith certificate.now.entries rank problem.now.position }
     requires bound { IsValidBound bound.now.entries problem.now.position (rank - 1) }
     ensures line { IfOk result (λ moves. IsShortestLine certificate.now bound.now.entries
         problem.now.position rank moves.items) }
@@ -164,6 +161,7 @@ pub fn line_of(
     rank_grows();
     entry_laws();
     certificate.laws();
+    problem.position.laws();
     let standing = Standing {
         mate: places_of(alloc, certificate)?,
         bound: places_of(alloc, bound)?,

@@ -3,14 +3,13 @@ ghost use Rattle.std.specs.Prelude.{◌≡◌, ◌<◌, ◌≤◌, ◌↔◌, So
 ghost use Rattle.board_core.specs.Board.{Board};
 ghost use Rattle.board_core.specs.Kept.{IsKept};
 ghost use Rattle.mate_facts.specs.declared.entry.MateEntry.{MateEntry};
-ghost use Rattle.mate_facts.specs.Entries.{positions_of};
+ghost use Rattle.mate_facts.specs.Entries.{IsListedWith, positions_of};
 ghost use Rattle.cert_text.specs.declared.limits.TheConstants.{MOST_ENTRIES};
 ghost use Rattle.cert_text.specs.Certificate.{mate_form};
 ghost use Rattle.cert_text.specs.Reading.{IsReadableOf};
 ghost use Rattle.cert_check.specs.Valid.{ValidMate};
 ghost use Rattle.cert_order.specs.Entries.{AreMateEntries};
 ghost use Rattle.hand_dominance.specs.declared.version.Version.TheVariants.{One};
-ghost use Rattle.shortest_lists.specs.Line.{IsRankAt};
 ghost use Rattle.shortest_facts.specs.declared.fact.TheConstants.{NEVER};
 ghost use Rattle.shortest_facts.specs.Facts.{AreBorneOut, Mates};
 ghost use Rattle.shortest_facts.specs.Keys.{known_of};
@@ -25,6 +24,7 @@ use board_core::Position;
 use cert_order::mate_certificate;
 use cert_text::MateCertificate;
 use evasions::answers;
+use hand_dominance::Version;
 use mate_facts::{MateEntry, Rank};
 use position_places::Places;
 use shogi_rules::{Problem, apply};
@@ -127,7 +127,8 @@ fn mate_entries(
     requires same { (known_of facts.now).attacker ≡ problem.now.position.side }
     requires borne_out { AreBorneOut (known_of facts.now) }
     requires known { ((known_of facts.now).at problem.now.position).most < NEVER }
-    ensures entries { IfOk result (λ entries. AreMateEntries problem.now.position entries.items) }
+    ensures entries { IfOk result
+        (λ entries. AreMateEntries One problem.now.position entries.items) }
     ensures root { IfOk result
         (λ entries. HasRankIn (known_of facts.now) entries.items problem.now.position) }
     ensures listed { IfOk result (λ entries. (entry : MateEntry) → Contains entries.items entry
@@ -165,8 +166,8 @@ pub fn mate_of(
     // It is valid for the problem, of which it has the rank that the facts show.
     ensures valid { IfOk result (λ certificate. ValidMate certificate problem.now.position) }
     ensures version { IfOk result (λ certificate. certificate.version ≡ One) }
-    ensures rank { IfOk result (λ certificate. IsRankAt certificate problem.now.position
-        ((known_of facts.now).at problem.now.position).most) }
+    ensures rank { IfOk result (λ certificate. IsListedWith certificate.entries
+        ((known_of facts.now).at problem.now.position).most problem.now.position) }
 
     // It lists exactly what is reached, each position as the facts say.
     ensures positions { IfOk result (λ certificate. (position : Board)
@@ -186,5 +187,5 @@ pub fn mate_of(
         (IsEndFor (IsMateStep (known_of facts.now)) problem.now.position most) }
 {
     let entries = mate_entries(alloc, problem, facts, most)?;
-    Ok(mate_certificate(alloc, problem, &entries)?)
+    Ok(mate_certificate(alloc, problem, Version::One, &entries)?)
 }

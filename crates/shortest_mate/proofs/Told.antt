@@ -24,7 +24,7 @@ abbrev pub IsQuietAnyway : Finding → Type 0
 IsQuietAnyway finding = (before after_it : Signal) → after_it.raised ≡ before.raised → HeedsStop before after_it finding
 
 pub told : (p : Board) (limit most made : ℕ) (listed : Result Finding ListEnd) (finding : Finding) → IfOk listed (IsTrueAnyway p limit)
-    → (listed ≡ Err TooMany → HasTooMany p) → IsOf listed finding → IsTrueOf p limit most made finding
+    → (listed ≡ Err TooMany → HasTooMany p limit) → IsOf listed finding → IsTrueOf p limit most made finding
 told p limit most made listed finding all many (inl e) =
     subst (λ (r : Result Finding ListEnd). IfOk r (IsTrueAnyway p limit)) e all most made
 told p limit most made listed finding all many (inr (e, f)) = subst (λ (x : Finding). IsTrueOf p limit most made x) (sym e) (refl, many f)

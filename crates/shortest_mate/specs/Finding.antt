@@ -4,6 +4,7 @@ use Rattle.board_core.specs.declared.moves.Move.{Move}
 use Rattle.board_core.specs.Board.{Board}
 use Rattle.mate_def.specs.Mate.{RankAtMost}
 use Rattle.mate_facts.specs.declared.rank.Rank.{Rank}
+use Rattle.mate_facts.specs.Entries.{IsListedWith}
 use Rattle.hand_dominance.specs.declared.version.Version.TheVariants.{One}
 use Rattle.cert_text.specs.Certificate.{CertificateView, Escaping, IsEscaping, Mating, mate_form}
 use Rattle.cert_text.specs.Reading.{IsReadableOf}
@@ -12,8 +13,9 @@ use Rattle.bound_text.specs.declared.entry.BoundEntry.{BoundEntry}
 use Rattle.bound_text.specs.Reading as bounds
 use Rattle.bound_check.specs.Valid.{IsValidBound}
 use Rattle.shortest_facts.specs.Facts.{Known, AreBorneOut}
-use Rattle.shortest_lists.specs.Line.{IsRankAt, IsShortestLine}
+use Rattle.shortest_lists.specs.Line.{IsShortestLine}
 use Rattle.shortest_lists.specs.Reached.{HasMoreThan, IsBoundStep, IsMateStep}
+use Rattle.shortest_search.specs.Visit.{IsLength}
 use Rattle.usi_text.specs.Lines.{AllHaveText}
 use Rattle.cert_text.specs.declared.limits.TheConstants.{MOST_ENTRIES}
 use Rattle.search_gate.specs.Stop.{Signal, one_more}
@@ -29,7 +31,7 @@ use Rattle.shortest_mate.specs.declared.finding.Finding.TheVariants.{Found, None
 pub record IsShortest (problem : Board) (rank : Rank) (c : Mating) (b : CertificateView BoundEntry) (line : List Move) : Type 0 where
   pub valid : ValidMate c problem
   pub version : c.version ≡ One
-  pub own_rank : IsRankAt c problem rank.number
+  pub own_rank : IsListedWith c.entries rank.number problem
   pub about : b.problem ≡ problem
   pub bound : IsValidBound b.entries problem (rank.number - 1)
   pub is_line : IsShortestLine c b.entries problem rank.number line
@@ -46,12 +48,13 @@ pub record IsNoneWithin (problem : Board) (limit : ℕ) (b : CertificateView Bou
   pub none : ¬ RankAtMost problem.side limit problem
   pub bound_readable : bounds.IsReadable problem b
 
--- What is known of lengths, which is borne out, leads along such steps from the problem to more
--- positions than are read.
-pub record LeadsTooFar (problem : Board) (Step : Known → Board → Board → Type 0) : Type 0 where
+-- What is known of lengths, which is borne out and tells this, leads along such steps from the
+-- problem to more positions than are read.
+pub record LeadsTooFar (problem : Board) (Tells : Known → Type 0) (Step : Known → Board → Board → Type 0) : Type 0 where
   pub known : Known
   pub for_attacker : known.attacker ≡ problem.side
   pub borne_out : AreBorneOut known
+  pub tells : Tells known
   pub more : HasMoreThan (Step known) problem MOST_ENTRIES
 
 -- A certificate that the problem is no mate, which is valid and keeps what each keeps, lists more
@@ -62,10 +65,16 @@ pub record ListsTooMany (problem : Board) : Type 0 where
   pub valid : ValidEscape certificate problem
   pub more : MOST_ENTRIES < length certificate.entries
 
--- More positions than are read would have to be listed: along the mate, along the bound, or of an
--- escape.
-abbrev pub HasTooMany : Board → Type 0
-HasTooMany problem = LeadsTooFar problem IsMateStep ⊎ (LeadsTooFar problem IsBoundStep ⊎ ListsTooMany problem)
+-- The length of the problem's mate is known, and within the limit; or it is known to be more.
+abbrev pub IsKnownUpTo : ℕ → Board → Known → Type 0
+IsKnownUpTo limit problem known = IsLength known problem limit ⊎ (limit < (known.at problem).least)
+
+-- More positions than are read would have to be listed: along the mate whose length is known,
+-- within the limit; along the bound below that length, or up to the limit; or of an escape.
+abbrev pub HasTooMany : Board → ℕ → Type 0
+HasTooMany problem limit =
+    LeadsTooFar problem (λ known. IsLength known problem limit) IsMateStep
+    ⊎ (LeadsTooFar problem (IsKnownUpTo limit problem) IsBoundStep ⊎ ListsTooMany problem)
 
 -- When a finding about the shortest mate of a problem, up to a limit, with so many expansions at
 -- most, of which so many were made, is true.
@@ -74,7 +83,7 @@ IsTrueOf problem limit expansions made (Found rank c b line) = IsShortest proble
 IsTrueOf problem limit expansions made (NoneWithin found b) = (found.number ≡ limit) × IsNoneWithin problem limit b
 IsTrueOf problem limit expansions made (Unknown (Expansions number)) = (number ≡ expansions) × (made ≡ expansions)
 IsTrueOf problem limit expansions made (Unknown (Stopped worker)) = worker ≡ 1
-IsTrueOf problem limit expansions made (Unknown (Entries number)) = (number ≡ MOST_ENTRIES) × HasTooMany problem
+IsTrueOf problem limit expansions made (Unknown (Entries number)) = (number ≡ MOST_ENTRIES) × HasTooMany problem limit
 IsTrueOf problem limit expansions made (Unknown (Room number)) = ⊥
 IsTrueOf problem limit expansions made (Unknown (Height number)) = ⊥
 

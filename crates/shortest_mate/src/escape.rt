@@ -1,9 +1,7 @@
 // The bound of an escape: no mate is as short as anything.
-ghost use Rattle.std.specs.Prelude.{◌≡◌, IfOk, IfErr};
+ghost use Rattle.std.specs.Prelude.{◌≡◌, IfOk};
 ghost use Rattle.hand_dominance.specs.declared.version.Version.TheVariants.{One};
 ghost use Rattle.cert_check.specs.Valid.{ValidEscape};
-ghost use Rattle.cert_text.specs.declared.limits.TheConstants.{MOST_ENTRIES};
-ghost use Rattle.shortest_mate.specs.declared.finding.Finding.TheVariants.{NoneWithin};
 ghost use Rattle.shortest_mate.specs.Finding.{IsNoneWithin};
 
 use bound_check::valid_bound_is_accepted;

@@ -5,7 +5,7 @@ ghost use Rattle.shogi_rules.specs.Rules.{IsQuiet, after};
 ghost use Rattle.shogi_rules.specs.Tsume.{IsCheck, IsEvasion};
 ghost use Rattle.mate_def.specs.Mate.{after_both};
 ghost use Rattle.cert_check.specs.Valid.{ValidMate};
-ghost use Rattle.shortest_facts.specs.Facts.{AreBorneOut, IsBetter};
+ghost use Rattle.shortest_facts.specs.Facts.{AreBorneOut};
 ghost use Rattle.shortest_facts.specs.Keys.{known_of};
 
 use board_core::{Move, Position};

@@ -1,12 +1,12 @@
 // The search for the shortest mate.
 ghost use Rattle.std.specs.Prelude.{◌≡◌, ◌≤◌, ◌<◌, ◌⊎◌, ℕ, Ok, Err, IfOk, IfSome};
-ghost use Rattle.board_core.specs.Board.{Board};
+ghost use Rattle.search_gate.specs.Polls.{IsPolledForEach};
 ghost use Rattle.search_gate.specs.Stop.{Signal};
 ghost use Rattle.search_limits.specs.declared.expansions.TheConstants.{MOST_EXPANSIONS};
 ghost use Rattle.shortest_facts.specs.Facts.{AreBorneOut};
 ghost use Rattle.shortest_facts.specs.Keys.{known_of};
 ghost use Rattle.shortest_lists.specs.declared.ends.ListEnd.TheVariants.{TooMany};
-ghost use Rattle.shortest_search.specs.Visit.{IsLength, IsStopped};
+ghost use Rattle.shortest_search.specs.Visit.{IsLength};
 ghost use Rattle.shortest_mate.specs.declared.search.TheConstants.{MOST_LIMIT};
 ghost use Rattle.shortest_mate.specs.Finding.{IsPrintable, HasTooMany, HeedsStop, IsTrueOf};
 ghost use Rattle.hand_dominance.specs.declared.version.Version.TheVariants.{One};
@@ -53,7 +53,7 @@ fn found(alloc: Global, problem: &Problem, facts: &Facts, limit: u32) -> Result<
     requires borne_out { AreBorneOut (known_of facts.now) }
     requires length { IsLength (known_of facts.now) problem.now.position limit }
     requires small { limit ≤ MOST_LIMIT }
-    ensures too_many { result ≡ Err TooMany → HasTooMany problem.now.position }
+    ensures too_many { result ≡ Err TooMany → HasTooMany problem.now.position limit }
     ensures finding { IfOk result (λ finding. (expansions made : ℕ)
         → IsTrueOf problem.now.position limit expansions made finding) }
     ensures printable { IfOk result IsPrintable }
@@ -87,7 +87,7 @@ fn none_within(
     requires same { (known_of facts.now).attacker ≡ problem.now.position.side }
     requires borne_out { AreBorneOut (known_of facts.now) }
     requires more { limit.number < ((known_of facts.now).at problem.now.position).least }
-    ensures too_many { result ≡ Err TooMany → HasTooMany problem.now.position }
+    ensures too_many { result ≡ Err TooMany → HasTooMany problem.now.position limit.number }
     ensures finding { IfOk result (λ finding. (expansions made : ℕ)
         → IsTrueOf problem.now.position limit.number expansions made finding) }
     ensures printable { IfOk result IsPrintable }
@@ -153,6 +153,7 @@ fn run_from(
     ensures borne_out { IfOk result (λ run. AreBorneOut (known_of run.facts)) }
     ensures made { IfOk result (λ run. run.made ≤ run.most) }
     ensures most { IfOk result (λ run. run.most ≡ expansions) }
+    ensures before { IfOk result (λ run. run.made ≡ made) }
 {
     let mut facts = Facts::new(alloc, problem.attacker());
     if let Some(mate) = mate {
@@ -182,6 +183,9 @@ fn by_lengths<T: Stop, O: LengthOnlooker>(
         (λ found. IsTrueOf problem.now.position limit.number run.most found.1 found.0) }
     ensures printable { IfOk result (λ found. IsPrintable found.0) }
     ensures few { IfOk result (λ found. found.1 ≤ run.most) }
+    ensures more { IfOk result (λ found. run.made ≤ found.1) }
+    ensures polled { IfOk result (λ found. IsPolledForEach run.made found.1 (T.signal stop.old)
+        (T.signal stop.new)) }
     ensures heeds { IfOk result (λ found. HeedsStop (T.signal stop.old) (T.signal stop.new)
         found.0) }
     ensures armed { (T.signal stop.new).armed ≡ (T.signal stop.old).armed }
@@ -201,7 +205,9 @@ fn by_lengths<T: Stop, O: LengthOnlooker>(
 }
 
 // With what the first search is run: half of the expansions; none where that is none.
-fn first_settings(expansions: u64) -> Option<Settings> {
+fn first_settings(expansions: u64) -> Option<Settings>
+    ensures { IfSome result (λ settings. settings.expansions ≤ expansions) }
+{
     match Settings::new(1, expansions / 2, ROOM, ROWS, 1) {
         Ok(settings) => Some(settings),
         Err(_) => None,
@@ -230,7 +236,10 @@ pub fn shortest<G: Gate + LengthOnlooker, T: Stop>(
     ensures finding { IfOk result
         (λ found. IsTrueOf problem.now.position limit expansions found.1 found.0) }
     ensures printable { IfOk result (λ found. IsPrintable found.0) }
+    // No more expansions were made than asked for, and the stop was polled for each of them.
     ensures few { IfOk result (λ found. found.1 ≤ expansions) }
+    ensures polled { IfOk result (λ found. IsPolledForEach 0 found.1 (T.signal stop.old)
+        (T.signal stop.new)) }
     // It was stopped exactly where the stop signalled, which it does once; then it is polled no
     // more.
     ensures heeds { IfOk result (λ found. HeedsStop (T.signal stop.old) (T.signal stop.new)
@@ -246,8 +255,6 @@ pub fn shortest<G: Gate + LengthOnlooker, T: Stop>(
         return by_lengths(problem, run, stop, limit, gate);
     };
     let (first, drawn) = search_first(alloc, problem, &settings, gate, stop)?;
-    // (The first search makes no more than half of them.)
-    let drawn = drawn.min(expansions);
     match first {
         First::Stopped => Ok((Finding::Unknown(Cause::Stopped(1)), drawn)),
         First::Answered(Certificate::Escape(escape)) => {

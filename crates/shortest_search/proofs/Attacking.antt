@@ -11,6 +11,7 @@ use Rattle.board_core.specs.Board.{Board}
 use Rattle.board_core.specs.Kept.{IsKept}
 use Rattle.board_core.specs.Order.{Lists}
 use Rattle.list_laws.proofs.Standing.{contained, at_place, first_of, from_map}
+use Rattle.search_gate.specs.Polls.{IsPolledForEach}
 use Rattle.search_gate.specs.Stop.{Signal, polled}
 use Rattle.shogi_rules.specs.Rules.{after}
 use Rattle.shogi_rules.specs.Tsume.{IsCheck, IsEvasion}
@@ -23,7 +24,7 @@ use Rattle.shortest_facts.specs.Keys.{known_of}
 use Rattle.shortest_search.specs.declared.child.Child.{Child}
 use Rattle.shortest_search.specs.declared.run.Run.{Run}
 use Rattle.shortest_search.specs.Children.{AreAll, IsKnownCheck, IsKnownEvasion, IsNext}
-use Rattle.shortest_search.specs.Visit.{GoesOn, IsPolled, TakesMore, TakesNoMore}
+use Rattle.shortest_search.specs.Visit.{GoesOn, TakesMore, TakesNoMore}
 
 -- Of the first checks of a list each has an evasion, and a mate is known to take so many moves from
 -- where it leads, where that is more than one.
@@ -46,33 +47,31 @@ pub record MatedEvasions (k : Known) (b : Board) (children : List Child) (n with
 
 -- The stop signalled nothing by now, between so many expansions and so many.
 pub record StaysQuiet (made made_after : ℕ) (before after_it : Signal) : Type 0 where
-  pub polled : IsPolled made made_after before after_it
+  pub polled : IsPolledForEach made made_after before after_it
   pub quiet : after_it.raised ≡ before.raised
 
 -- 1. WHAT GOES ON.
 
-pub polled_on : (m n o : ℕ) (a b c : Signal) → IsPolled m n a b → IsPolled n o b c → IsPolled m o a c
-polled_on m n o a b c one two = record {
-  armed = two.armed ∙ one.armed;
-  arms = two.arms ∙ one.arms;
-  early = two.early ∙ one.early;
-  more = λ low.
-      let i = two.more low in
-      let h = one.more (omega (arith, low, i)) in
-      omega (arith, h, i);
+polled_on : (m n o : ℕ) (a b c : Signal) → IsPolledForEach m n a b → IsPolledForEach n o b c → n ≤ o → IsPolledForEach m o a c
+polled_on m n o a b c one two more = record {
+  polled = record {
+    armed = two.polled.armed ∙ one.polled.armed;
+    arms = two.polled.arms ∙ one.polled.arms;
+    early = two.polled.early ∙ one.polled.early;
+  };
   each = λ low.
-      let more = two.more low in
-      let h = one.each (omega (arith, low, more)) in
       let i = two.each low in
+      let h = one.each (omega (arith, low, i, more)) in
       omega (arith, h, i);
 }
 
-pub polled_once : (made : ℕ) (s after_it : Signal) (stops : Bool) → after_it ≡ polled s stops → IsPolled made (made + 1) s after_it
+pub polled_once : (made : ℕ) (s after_it : Signal) (stops : Bool) → after_it ≡ polled s stops → IsPolledForEach made (made + 1) s after_it
 polled_once made s after_it stops e = record {
-  armed = ap (λ (x : Signal). x.armed) e;
-  arms = ap (λ (x : Signal). x.arms) e;
-  early = ap (λ (x : Signal). x.early) e;
-  more = λ low. let h = polls in omega (arith, h, low);
+  polled = record {
+    armed = ap (λ (x : Signal). x.armed) e;
+    arms = ap (λ (x : Signal). x.arms) e;
+    early = ap (λ (x : Signal). x.early) e;
+  };
   each = λ low. let h = polls in omega (arith, h, low);
 }
   where
@@ -80,18 +79,15 @@ polled_once made s after_it stops e = record {
     polls = ap (λ (x : Signal). x.polls) e
 
 -- an expansion that wasn't made needs no poll
-pub polled_more : (made : ℕ) (a b : Signal) → IsPolled made (made + 1) a b → IsPolled made made a b
+pub polled_more : (made : ℕ) (a b : Signal) → IsPolledForEach made (made + 1) a b → IsPolledForEach made made a b
 polled_more made a b p = record {
-  armed = p.armed;
-  arms = p.arms;
-  early = p.early;
-  more = p.more;
+  polled = p.polled;
   each = λ low. let h = p.each low in omega (arith, h);
 }
 
-pub quiet_on : (m n o : ℕ) (a b c : Signal) → StaysQuiet m n a b → IsPolled n o b c → c.raised ≡ b.raised → StaysQuiet m o a c
-quiet_on m n o a b c before polled same = record {
-  polled = polled_on m n o a b c before.polled polled;
+pub quiet_on : (m n o : ℕ) (a b c : Signal) → StaysQuiet m n a b → IsPolledForEach n o b c → n ≤ o → c.raised ≡ b.raised → StaysQuiet m o a c
+quiet_on m n o a b c before polled more same = record {
+  polled = polled_on m n o a b c before.polled polled more;
   quiet = same ∙ before.quiet;
 }
 

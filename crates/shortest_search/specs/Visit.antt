@@ -1,5 +1,5 @@
 -- What a visit answers: whether a mate from a position is known to take so many moves or fewer.
-use Rattle.std.specs.Prelude.{◌≡◌, ◌<◌, ◌≤◌, ◌+◌, ◌-◌, ◌^◌, ℕ, Bool, true, false, Option, Some, None, Result, Ok, Err}
+use Rattle.std.specs.Prelude.{◌≡◌, ◌<◌, ◌≤◌, ℕ, Bool, true, false, Option, Some, None, Result, Ok, Err}
 use Rattle.board_core.specs.Board.{Board}
 use Rattle.search_gate.specs.Stop.{Signal, one_more}
 use Rattle.shortest_facts.specs.Facts.{Known, AreBorneOut, IsBetter}
@@ -82,12 +82,3 @@ IsStopped (Err Stopped) before after_it = (after_it.raised ≡ one_more before.r
 IsStopped (Err Spent) before after_it = after_it.raised ≡ before.raised
 IsStopped (Err NoMemory) before after_it = after_it.raised ≡ before.raised
 IsStopped (Ok answer) before after_it = after_it.raised ≡ before.raised
-
--- A stop is as it was but for its polls; and, as far as polls are counted, it was polled at least
--- once for each expansion that was made, of so many before and so many after.
-pub record IsPolled (made made_after : ℕ) (before after_it : Signal) : Type 0 where
-  pub armed : after_it.armed ≡ before.armed
-  pub arms : after_it.arms ≡ before.arms
-  pub early : after_it.early ≡ before.early
-  pub more : after_it.polls < 2 ^ 64 - 1 → before.polls ≤ after_it.polls
-  pub each : after_it.polls < 2 ^ 64 - 1 → before.polls + made_after ≤ after_it.polls + made

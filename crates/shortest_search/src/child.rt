@@ -1,9 +1,8 @@
 // The moves of a position that is visited.
-ghost use Rattle.std.specs.Prelude.{◌≡◌, ◌<◌, ◌≤◌, ◌+◌, ◌⊎◌, IfOk, IfSome, List, map, ℕ, Contains, true};
+ghost use Rattle.std.specs.Prelude.{◌≡◌, ◌<◌, ◌≤◌, ◌+◌, ◌⊎◌, IfOk, IfSome, Contains, true};
 ghost use Rattle.std.specs.List.Sorted.{IsPermutation};
-ghost use Rattle.bit_boards.specs.Kind.{other};
 ghost use Rattle.board_core.specs.declared.moves.Move.{Move};
-ghost use Rattle.shogi_rules.specs.Rules.{IsQuiet, after};
+ghost use Rattle.shogi_rules.specs.Rules.{IsQuiet};
 ghost use Rattle.shogi_rules.specs.Tsume.{IsCheck, IsEvasion};
 ghost use Rattle.shortest_facts.specs.Facts.{AreBorneOut, HasNoCheck};
 ghost use Rattle.shortest_facts.specs.Keys.{known_of};

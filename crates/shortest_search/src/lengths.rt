@@ -1,9 +1,10 @@
 // One length after the other.
 ghost use Rattle.std.specs.Prelude.{◌≡◌, ◌<◌, ◌≤◌};
+ghost use Rattle.search_gate.specs.Polls.{IsPolledForEach};
 ghost use Rattle.shortest_facts.specs.declared.fact.TheConstants.{NEVER};
 ghost use Rattle.shortest_facts.specs.Facts.{AreBorneOut};
 ghost use Rattle.shortest_facts.specs.Keys.{known_of};
-ghost use Rattle.shortest_search.specs.Visit.{GoesOn, IsLengthOutcome, IsPolled, IsStopped};
+ghost use Rattle.shortest_search.specs.Visit.{GoesOn, IsLengthOutcome, IsStopped};
 
 use crate::onlooker::LengthOnlooker;
 use crate::run::{Run, VisitEnd};
@@ -32,7 +33,8 @@ pub fn find_length<T: Stop, O: LengthOnlooker>(
     // more than the limit; else that it takes more than the limit.
     ensures outcome { IsLengthOutcome run.new problem.now.position limit result }
     ensures stopped { IsStopped result (T.signal stop.old) (T.signal stop.new) }
-    ensures polled { IsPolled run.old.made run.new.made (T.signal stop.old) (T.signal stop.new) }
+    ensures polled { IsPolledForEach run.old.made run.new.made (T.signal stop.old)
+        (T.signal stop.new) }
 {
     problem.position.laws();
     loop {

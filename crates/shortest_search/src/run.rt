@@ -1,9 +1,10 @@
 // The state of a search, and why it ends without an answer.
 ghost use Rattle.std.specs.Prelude.{◌≡◌, ◌≤◌};
+ghost use Rattle.search_gate.specs.Polls.{IsPolledForEach};
 ghost use Rattle.shortest_facts.specs.Keys.{known_of};
 ghost use Rattle.shortest_facts.specs.Facts.{AreBorneOut};
 ghost use Rattle.shortest_search.specs.declared.run.VisitEnd.TheVariants.{NoMemory, Spent, Stopped};
-ghost use Rattle.shortest_search.specs.Visit.{GoesOn, IsPolled, IsStopped};
+ghost use Rattle.shortest_search.specs.Visit.{GoesOn, IsStopped};
 
 use search_gate::Stop;
 use shortest_facts::Facts;
@@ -58,7 +59,7 @@ impl Run {
         ensures goes_on { GoesOn self.old self.new }
         ensures spent { result ≡ Err Spent → self.new.made ≡ self.new.most }
         ensures stopped { IsStopped result (T.signal stop.old) (T.signal stop.new) }
-        ensures polled { IsPolled self.old.made self.new.made (T.signal stop.old)
+        ensures polled { IsPolledForEach self.old.made self.new.made (T.signal stop.old)
             (T.signal stop.new) }
     {
         if self.made >= self.most {

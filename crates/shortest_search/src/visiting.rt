@@ -1,12 +1,13 @@
 // Visits: whether a mate from a position takes so many moves or fewer.
-ghost use Rattle.std.specs.Prelude.{◌≡◌, ◌<◌, ◌≤◌, ◌+◌, Result, Ok, Err, IfOk, Some, None, Option};
+ghost use Rattle.std.specs.Prelude.{◌≡◌, ◌<◌, ◌≤◌, ◌+◌, Result, Ok, Some, None, Option};
+ghost use Rattle.search_gate.specs.Polls.{IsPolledForEach};
 ghost use Rattle.bit_boards.specs.Kind.{other};
 ghost use Rattle.shogi_rules.specs.Rules.{IsQuiet, after};
 ghost use Rattle.shortest_facts.specs.declared.fact.TheConstants.{NEVER};
-ghost use Rattle.shortest_facts.specs.Facts.{AreBorneOut, IsBetter};
+ghost use Rattle.shortest_facts.specs.Facts.{AreBorneOut};
 ghost use Rattle.shortest_facts.specs.Keys.{known_of};
 ghost use Rattle.shortest_search.specs.Children.{IsKnownCheck, IsKnownEvasion};
-ghost use Rattle.shortest_search.specs.Visit.{GoesOn, IsOutcome, IsPolled, IsRight, IsStopped, IsTried, TakesMore, TakesNoMore, HasMate, IsMemory};
+ghost use Rattle.shortest_search.specs.Visit.{GoesOn, IsOutcome, IsStopped, IsTried, TakesMore, TakesNoMore, HasMate, IsMemory};
 
 use crate::child::{
     Child, first_escape, first_mate, in_turn, known_checks, known_evasions, next_length,
@@ -18,8 +19,7 @@ use evasions::answers_into;
 use move_lists::Moves;
 use search_gate::Stop;
 use shogi_rules::{Problem, apply};
-use shortest_facts::{Facts, NEVER};
-use std::alloc::{AllocError, Global};
+use shortest_facts::NEVER;
 
 // Whether the attacker, who is to move, mates at once.
 fn attack_once(problem: &Problem, run: &mut Run, position: &Position) -> Result<bool, VisitEnd>
@@ -72,7 +72,8 @@ fn try_check<T: Stop>(
     ensures outcome { IsTried (HasMate (known_of run.new.facts) position.now (fewer + 1))
         (TakesMore (known_of run.new.facts) (after position.now child.by) fewer) run.new result }
     ensures stopped { IsStopped result (T.signal stop.old) (T.signal stop.new) }
-    ensures polled { IsPolled run.old.made run.new.made (T.signal stop.old) (T.signal stop.new) }
+    ensures polled { IsPolledForEach run.old.made run.new.made (T.signal stop.old)
+        (T.signal stop.new) }
 {
     if child.least > fewer {
         return Ok(Some(child.least));
@@ -106,7 +107,8 @@ fn attack<T: Stop>(
     ensures goes_on { GoesOn run.old run.new }
     ensures outcome { IsOutcome run.new position.now within result }
     ensures stopped { IsStopped result (T.signal stop.old) (T.signal stop.new) }
-    ensures polled { IsPolled run.old.made run.new.made (T.signal stop.old) (T.signal stop.new) }
+    ensures polled { IsPolledForEach run.old.made run.new.made (T.signal stop.old)
+        (T.signal stop.new) }
 {
     position.laws();
     let fewer = within - 1;
@@ -148,7 +150,8 @@ fn try_evasion<T: Stop>(
     ensures outcome { IsTried (within < ((known_of run.new.facts).at position.now).least)
         (TakesNoMore (known_of run.new.facts) (after position.now child.by) within) run.new result }
     ensures stopped { IsStopped result (T.signal stop.old) (T.signal stop.new) }
-    ensures polled { IsPolled run.old.made run.new.made (T.signal stop.old) (T.signal stop.new) }
+    ensures polled { IsPolledForEach run.old.made run.new.made (T.signal stop.old)
+        (T.signal stop.new) }
 {
     if child.most <= within {
         return Ok(Some(child.most));
@@ -181,7 +184,8 @@ fn defend<T: Stop>(
     ensures goes_on { GoesOn run.old run.new }
     ensures outcome { IsOutcome run.new position.now within result }
     ensures stopped { IsStopped result (T.signal stop.old) (T.signal stop.new) }
-    ensures polled { IsPolled run.old.made run.new.made (T.signal stop.old) (T.signal stop.new) }
+    ensures polled { IsPolledForEach run.old.made run.new.made (T.signal stop.old)
+        (T.signal stop.new) }
 {
     position.laws();
     let children = known_evasions(run.alloc, problem, &run.facts, position)?;
@@ -225,7 +229,8 @@ pub fn visit<T: Stop>(
     // The answer is right by what is known then.
     ensures outcome { IsOutcome run.new position.now within result }
     ensures stopped { IsStopped result (T.signal stop.old) (T.signal stop.new) }
-    ensures polled { IsPolled run.old.made run.new.made (T.signal stop.old) (T.signal stop.new) }
+    ensures polled { IsPolledForEach run.old.made run.new.made (T.signal stop.old)
+        (T.signal stop.new) }
 {
     position.laws();
     let fact = run.facts.fact(position);

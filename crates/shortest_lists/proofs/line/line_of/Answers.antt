@@ -33,7 +33,7 @@ first_lasting-requires-clause-some c =
     subst (CanEvadeTo p.side (Lasts certificate bounds (c.loop-moves.left - 1))) (sym c.apply-checked.ensures.position)
     (some_lasts c.entry_laws.ensures.apart c.rank_grows.ensures certificate bounds p c.loop-moves.position (c.args.rank - 1) c.loop-moves.left
     c.move_at-check.result c.requires.valid c.requires.version c.laws.ensures.apart
-    (c.valid_is_accepted.ensures.readable (certificates.Mate certificate) p c.requires.readable c.requires.valid) c.requires.bound
+    (c.valid_is_accepted.ensures.shows (certificates.Mate certificate) p c.in_ok-places_of.ensures.places.kept c.laws-2.ensures c.requires.valid) c.requires.bound
     (c.valid_bound_is_accepted.ensures.shows bounds p (c.args.rank - 1) c.requires.bound) (omega (arith, least)) on.lasts
     c.move_at-check.ensures.is_move)
 

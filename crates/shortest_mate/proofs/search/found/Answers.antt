@@ -1,6 +1,6 @@
-use Rattle.std.proofs.Common.{◌-◌, arith, sym, ap, subst}
+use Rattle.std.proofs.Common.{◌-◌, ℕ, arith, sym, ap, subst}
 use Rattle.shortest_facts.specs.declared.fact.Fact.{Fact}
-use Rattle.shortest_lists.specs.Line.{IsRankAt}
+use Rattle.mate_facts.specs.Entries.{IsListedWith}
 use Rattle.cert_text.specs.declared.certificate.Certificate.TheVariants.{Mate}
 use Rattle.shortest_mate.proofs.Shown.{rank_shown}
 use Rattle.shortest_mate.proofs.search.found.Goals as goal
@@ -9,8 +9,8 @@ pub returns-clause-finding : goal.returns-clause-finding
 returns-clause-finding c = λ expansions made.
     let p = c.args.problem.now.position in
     let number = ap (λ (f : Fact). f.most) c.fact-number.ensures in
-    let own : IsRankAt c.in_ok-certificate.certificate p c.fact-number.result.most =
-    subst (IsRankAt c.in_ok-certificate.certificate p) (sym number) c.in_ok-certificate.ensures.rank in
+    let own : IsListedWith c.in_ok-certificate.certificate.entries c.fact-number.result.most p =
+    subst (λ (n : ℕ). IsListedWith c.in_ok-certificate.certificate.entries n p) (sym number) c.in_ok-certificate.ensures.rank in
     let shown = c.valid_is_accepted.ensures.readable (Mate c.in_ok-certificate.certificate) p (c.in_ok-certificate.ensures.readable (omega arith)) c.in_ok-certificate.ensures.valid in
     let bounded = c.valid_bound_is_accepted.ensures.shows c.in_ok-bound.bound.entries p (c.fact-number.result.most - 1) c.in_ok-bound.ensures.valid in (
       record {

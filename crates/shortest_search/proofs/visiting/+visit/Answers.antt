@@ -2,12 +2,13 @@ use Rattle.std.proofs.Common.{◌<◌, ◌+◌, ◌-◌, ℕ, Option, List, Cont
 use Rattle.std.specs.Prelude.{Ok}
 use Rattle.std.proofs.lemmas.Option.{slice_get_within, get_or_from_slice_get}
 use Rattle.bit_boards.specs.declared.piece.Side.{Side}
+use Rattle.search_gate.specs.Polls.{IsPolledForEach}
 use Rattle.shogi_rules.specs.Rules.{after}
 use Rattle.shogi_rules.specs.Tsume.{IsCheck, IsEvasion}
 use Rattle.shortest_facts.specs.Keys.{known_of}
 use Rattle.shortest_search.specs.declared.child.Child.{Child}
 use Rattle.shortest_search.specs.Children.{IsKnownCheck, IsKnownEvasion}
-use Rattle.shortest_search.specs.Visit.{IsPolled, IsTried, HasMate, TakesMore, TakesNoMore}
+use Rattle.shortest_search.specs.Visit.{IsTried, HasMate, TakesMore, TakesNoMore}
 use Rattle.shortest_search.proofs.Attacking.{child_at, move_at, lift_check, lift_evasion, lasts_on, mated_on, run_on, quiet_on, all_evaded, all_longer, all_mated}
 use Rattle.shortest_search.proofs.visiting.+visit.Goals as goal
 
@@ -40,7 +41,7 @@ attack-loop-child-preserved g t c = record {
       c.min-low.ensures;
   quiet = quiet_on c.args.run.now.made c.loop-child.run.made c.try_check.new.run.made (g.T.Stop.signal c.args.stop.now) (g.T.Stop.signal c.loop-child.stop)
       (g.T.Stop.signal c.try_check.new.stop) c.loop-child.invariant.quiet
-      c.in_ok-try_check.ensures.polled c.in_ok-try_check.ensures.stopped;
+      c.in_ok-try_check.ensures.polled c.in_ok-try_check.ensures.goes_on.made c.in_ok-try_check.ensures.stopped;
 }
 
 pub attack-takes-requires-clause-evaded : goal.attack-takes-requires-clause-evaded
@@ -94,7 +95,7 @@ defend-loop-child-preserved g t c = record {
       c.max-high.ensures;
   quiet = quiet_on c.args.run.now.made c.loop-child.run.made c.try_evasion.new.run.made (g.T.Stop.signal c.args.stop.now) (g.T.Stop.signal c.loop-child.stop)
       (g.T.Stop.signal c.try_evasion.new.stop) c.loop-child.invariant.quiet
-      c.in_ok-try_evasion.ensures.polled c.in_ok-try_evasion.ensures.stopped;
+      c.in_ok-try_evasion.ensures.polled c.in_ok-try_evasion.ensures.goes_on.made c.in_ok-try_evasion.ensures.stopped;
 }
 
 pub defend-is_mated-requires-clause-mated : goal.defend-is_mated-requires-clause-mated
@@ -107,5 +108,5 @@ defend-is_mated-requires-clause-mated g t c =
 
 pub visit-returns-then-within-lt2-clause-polled : goal.visit-returns-then-within-lt2-clause-polled
 visit-returns-then-within-lt2-clause-polled g t c =
-    subst (λ (made : ℕ). IsPolled c.args.run.now.made made (g.T.Stop.signal c.args.stop.now) (g.T.Stop.signal c.begin.new.stop))
+    subst (λ (made : ℕ). IsPolledForEach c.args.run.now.made made (g.T.Stop.signal c.args.stop.now) (g.T.Stop.signal c.begin.new.stop))
     (sym c.attack_once.ensures.made) c.in_ok-begin.ensures.polled
