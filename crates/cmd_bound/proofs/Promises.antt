@@ -17,7 +17,7 @@ use Rattle.one_run.specs.declared.ended.Ended.{Ended}
 use Rattle.one_run.specs.declared.ended.Ended.TheVariants.{Answered, CutShort, Failed}
 use Rattle.one_run.specs.declared.ended.Fault.TheVariants.{Text, TooLong, Read, NoMemory}
 use Rattle.one_run.specs.Outside.{Shown}
-use Rattle.one_run.specs.Run.{IsEnded, IsWellPosed}
+use Rattle.one_run.specs.Run.{IsBrokenOff, IsEnded, IsWellPosed}
 use Rattle.one_run.specs.Stops.{Signals}
 use Rattle.one_run.proofs.Offered.{took_it}
 use Rattle.cmd_check.specs.Asked.{given_form}
@@ -25,7 +25,7 @@ use Rattle.cmd_bound.specs.declared.judgement.BoundJudgement.{BoundJudgement}
 use Rattle.cmd_bound.specs.declared.judgement.BoundJudgement.TheVariants.{Shortest, NoneWithin, MateRefused, Refused}
 use Rattle.cmd_bound.specs.declared.judgement.BoundWhy.TheVariants.{Root, Rank, Check}
 use Rattle.cmd_bound.specs.Answer.{IsAccepted, IsJudged, IsJudgedFor, IsJudgementOn, IsNoneAccepted, IsTrueOfBound, IsTrueOfMate, IsTrueOfText, problem_of}
-use Rattle.cmd_bound.specs.Headline.{HasTextLeft, IsBrokenOff, IsNoneText, IsShortestText}
+use Rattle.cmd_bound.specs.Headline.{HasTextLeft, IsNoneText, IsShortestText}
 use Rattle.cmd_bound.specs.Meaning.{bound_meaning}
 
 -- a valid bound is accepted

@@ -1,8 +1,8 @@
 -- When a judgement on a text about the shortest mate is true.
-use Rattle.std.specs.Prelude.{◌≡◌, ◌⊎◌, ◌-◌, ℕ, List, Option, Some, None, Ok, Contains}
+use Rattle.std.specs.Prelude.{◌≡◌, ◌⊎◌, ◌-◌, ℕ, List, Option, Some, None, Ok}
 use Rattle.board_core.specs.Board.{Board}
 use Rattle.mate_def.specs.Mate.{RankAtMost}
-use Rattle.mate_facts.specs.declared.entry.MateEntry.{MateEntry}
+use Rattle.mate_facts.specs.Entries.{IsListedWith}
 use Rattle.cert_text.specs.Certificate.{CertificateView, Mating}
 use Rattle.cert_text.specs.declared.certificate.Certificate.TheVariants.{Mate}
 use Rattle.cert_check.specs.Valid.{ValidMate}
@@ -24,13 +24,6 @@ use Rattle.cmd_bound.specs.declared.judgement.BoundWhy.TheVariants.{Root, Rank, 
 pub record IsShortest (p : Board) (moves : ℕ) : Type 0 where
   pub mate : RankAtMost p.side moves p
   pub no_shorter : ¬ RankAtMost p.side (moves - 1) p
-
--- An entry lists the position with this rank.
-pub record IsListedWith (entries : List MateEntry) (rank : ℕ) (position : Board) : Type 0 where
-  pub entry : MateEntry
-  pub listed : Contains entries entry
-  pub same : entry.at ≡ position
-  pub is_rank : entry.rank.number ≡ rank
 
 -- A mate's certificate is valid for a position, and lists it with this rank.
 pub record IsMateIn (c : Mating) (p : Board) (moves : ℕ) : Type 0 where

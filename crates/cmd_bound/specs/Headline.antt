@@ -1,5 +1,5 @@
 -- What `check --bound` promises in plain words.
-use Rattle.std.specs.Prelude.{◌≡◌, ◌≤◌, ◌↔◌, ◌⊎◌, ℕ, List, Option, Some, ⊤, length}
+use Rattle.std.specs.Prelude.{◌≡◌, ◌≤◌, ◌↔◌, ◌⊎◌, ℕ, List, Option, Some, length}
 use Rattle.board_core.specs.Board.{Board}
 use Rattle.mate_facts.specs.declared.rank.Rank.{Rank}
 use Rattle.cert_text.specs.Certificate.{CertificateView, Mating}
@@ -10,10 +10,9 @@ use Rattle.shortest_text.specs.declared.fault.ShortestFault.{ShortestFault}
 use Rattle.shortest_text.specs.Reading.{IsReadable, IsTextOf}
 use Rattle.tsume_io.specs.Faults.{Rose}
 use Rattle.one_run.specs.declared.ended.Ended.{Ended}
-use Rattle.one_run.specs.declared.ended.Ended.TheVariants.{Answered, CutShort, Failed}
-use Rattle.one_run.specs.declared.ended.Fault.TheVariants.{Text, TooLong, Read, NoMemory}
+use Rattle.one_run.specs.declared.ended.Ended.TheVariants.{Answered}
 use Rattle.one_run.specs.Outside.{Shown}
-use Rattle.one_run.specs.Run.{IsAnswered, IsRun, WantsMemory}
+use Rattle.one_run.specs.Run.{IsAnswered, IsBrokenOff, IsRun, WantsMemory}
 use Rattle.one_run.specs.Stops.{Signals, AreUnused}
 use Rattle.cmd_check.specs.declared.asked.TheConstants.{MOST_CERTIFICATE_BYTES}
 use Rattle.cmd_bound.specs.declared.judgement.BoundJudgement.{BoundJudgement}
@@ -45,16 +44,6 @@ pub record IsNoneText (problem : Option (List ℕ)) (input : List ℕ) (moves : 
   pub board : Board
   pub judged_for : IsJudgedFor problem bound.problem board
   pub accepted : IsNoneAccepted board bound limit.number
-
--- The run was broken off: the source or the sink failed, more bytes came than are read, or memory
--- was wanted.
-abbrev pub IsBrokenOff : Ended BoundJudgement ShortestFault → Type 0
-IsBrokenOff (Answered judgement) = ⊥
-IsBrokenOff (CutShort judgement) = ⊤
-IsBrokenOff (Failed (Text fault) input) = ⊥
-IsBrokenOff (Failed TooLong input) = ⊤
-IsBrokenOff (Failed Read input) = ⊤
-IsBrokenOff (Failed NoMemory input) = ⊤
 
 -- The bytes that the source has left are a text about the shortest mate, and short enough.
 pub record HasTextLeft (left : Option (List ℕ)) : Type 0 where

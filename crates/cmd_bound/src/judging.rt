@@ -1,9 +1,10 @@
 // What is found of a text about the shortest mate.
 ghost use Rattle.std.specs.Prelude.{◌≡◌, ◌↔◌, ℕ, List, Option, IsTrue, IfOk};
+ghost use Rattle.mate_facts.specs.Entries.{IsListedWith};
 ghost use Rattle.one_run.specs.Command.{IsAnswer};
 ghost use Rattle.one_run.specs.Stops.{Signals, AreUnused};
 ghost use Rattle.cmd_check.specs.Asked.{IsProblemInWords};
-ghost use Rattle.cmd_bound.specs.Answer.{IsJudgedFor, IsJudgementOn, IsListedWith, IsTrueOfBound};
+ghost use Rattle.cmd_bound.specs.Answer.{IsJudgedFor, IsJudgementOn, IsTrueOfBound};
 ghost use Rattle.cmd_bound.specs.Meaning.{bound_meaning};
 ghost use Rattle.cmd_bound.specs.Told.{SaysOfMate, TellsVerdict, why_of};
 

@@ -2,10 +2,10 @@
 ghost use Rattle.std.specs.Prelude.{◌≡◌, ◌↔◌, ◌⊎◌, ℕ, List, Some};
 ghost use Rattle.tsume_io.specs.Faults.{Rose};
 ghost use Rattle.one_run.specs.Outside.{shown};
-ghost use Rattle.one_run.specs.Run.{IsAnswered, IsRun, WantsMemory};
+ghost use Rattle.one_run.specs.Run.{IsAnswered, IsBrokenOff, IsRun, WantsMemory};
 ghost use Rattle.one_run.specs.Stops.{Signals, AreUnused};
 ghost use Rattle.cmd_check.specs.Asked.{IsProblemInWords, check_in};
-ghost use Rattle.cmd_bound.specs.Headline.{HasTextLeft, IsBrokenOff, IsNoneText, IsShortestText};
+ghost use Rattle.cmd_bound.specs.Headline.{HasTextLeft, IsNoneText, IsShortestText};
 ghost use Rattle.cmd_bound.specs.Meaning.{bound_meaning};
 
 use crate::BoundJudgement;

@@ -20,12 +20,12 @@ use Rattle.one_run.specs.declared.ended.Ended.{Ended}
 use Rattle.one_run.specs.declared.ended.Ended.TheVariants.{Answered, CutShort, Failed}
 use Rattle.one_run.specs.declared.ended.Fault.TheVariants.{Text, TooLong, Read, NoMemory}
 use Rattle.one_run.specs.Outside.{Shown, IsUntouched}
-use Rattle.one_run.specs.Run.{IsEnded, IsWellPosed}
+use Rattle.one_run.specs.Run.{IsBrokenOff, IsEnded, IsWellPosed}
 use Rattle.one_run.specs.Stops.{Signals}
 use Rattle.one_run.proofs.Offered.{took_it, unbegun_run}
 use Rattle.cmd_check.specs.Answer.{IsJudged, IsTrueOfCertificate}
 use Rattle.cmd_check.specs.Asked.{IsFaultInWords, IsProblemInWords, IsJudgedFor, AnyProblemIsSound, given_form}
-use Rattle.cmd_check.specs.Headline.{IsBrokenOff, HasCertificateLeft, IsCheckRun, IsValidText}
+use Rattle.cmd_check.specs.Headline.{HasCertificateLeft, IsCheckRun, IsValidText}
 use Rattle.cmd_check.specs.Meaning.{check_meaning}
 
 -- a certificate has one verdict for a problem
@@ -51,8 +51,8 @@ accepted_is_valid problem stops source sink input claim entries ended told =
     let d = ended.decided in
     record {
       certificate = d.true_of.certificate;
-      readable = d.true_of.read.0;
-      text = subst (λ (i : List ℕ). IsTextOf d.true_of.certificate i) (took_it source.told source.told_after d.input input told d.read.took) d.true_of.read.1;
+      readable = d.true_of.text.read.0;
+      text = subst (λ (i : List ℕ). IsTextOf d.true_of.certificate i) (took_it source.told source.told_after d.input input told d.read.took) d.true_of.text.read.1;
       is_claim = d.true_of.true_of.is_claim;
       count = d.true_of.true_of.count;
       board = d.true_of.board;
@@ -67,14 +67,14 @@ valid_is_accepted : OneReading → (problem : Option (List ℕ)) (stops : Signal
 valid_is_accepted one problem stops source sink input claim entries (Answered (Accepted found count)) ended told whole valid =
     let d = ended.decided in
     let text = subst (λ (i : List ℕ). IsTextOf valid.certificate i) (sym (took_it source.told source.told_after d.input input told d.read.took)) valid.text in
-    let same = d.true_of.only valid.certificate valid.readable text in
+    let same = d.true_of.text.only valid.certificate valid.readable text in
     let one_claim : found ≡ claim = d.true_of.true_of.is_claim ∙ sym (ap claim_of same) ∙ sym valid.is_claim in
     let one_count : count ≡ entries = d.true_of.true_of.count ∙ sym (ap (λ (c : Certificate). length (positions_in c)) same) ∙ sym valid.count in
     cc
 valid_is_accepted one problem stops source sink input claim entries (Answered (Refused entry why)) ended told whole valid =
     let d = ended.decided in
     let text = subst (λ (i : List ℕ). IsTextOf valid.certificate i) (sym (took_it source.told source.told_after d.input input told d.read.took)) valid.text in
-    let same = d.true_of.only valid.certificate valid.readable text in
+    let same = d.true_of.text.only valid.certificate valid.readable text in
     let one_board = one_judged_for one problem valid.certificate d.true_of.certificate valid.board d.true_of.board same valid.judged_for d.true_of.judged_for in
     absurd (d.true_of.true_of.invalid (subst (λ (c : Certificate). IsValid c d.true_of.board) same (subst (λ (p : Board). IsValid valid.certificate p) one_board valid.valid)))
 valid_is_accepted one problem stops source sink input claim entries (CutShort a) ended told whole valid = absurd (whole tt)
@@ -110,7 +110,7 @@ same_judgement once p c (Refused entry why) (Refused number reason) s t =
 one_judgement : OneReading → VerdictOnce → (problem : Option (List ℕ)) (input : List ℕ) (one other : Judgement) → IsJudged problem input one
     → IsJudged problem input other → one ≡ other
 one_judgement reading once problem input one other s t =
-    let same = s.only t.certificate t.read.0 t.read.1 in
+    let same = s.text.only t.certificate t.text.read.0 t.text.read.1 in
     let board = one_judged_for reading problem t.certificate s.certificate t.board s.board same t.judged_for s.judged_for in
     same_judgement once s.board s.certificate one other s.true_of
     (subst (λ (c : Certificate). IsTrueOfCertificate s.board c other) same
@@ -126,8 +126,8 @@ told_of reading once problem stops source sink input judgement (Answered found) 
     (subst (λ (i : List ℕ). IsJudged problem i found) (took_it source.told source.told_after d.input input told d.read.took) d.true_of) is)
 told_of reading once problem stops source sink input judgement (CutShort a) ended told whole is = absurd (whole tt)
 told_of reading once problem stops source sink input judgement (Failed (Text f) i) ended told whole is =
-    let text = subst (λ (x : List ℕ). IsTextOf is.certificate x) (sym (took_it source.told source.told_after i input told ended.0.0.took)) is.read.1 in
-    absurd (ended.0.1.none is.certificate is.read.0 text)
+    let text = subst (λ (x : List ℕ). IsTextOf is.certificate x) (sym (took_it source.told source.told_after i input told ended.0.0.took)) is.text.read.1 in
+    absurd (ended.0.1.none is.certificate is.text.read.0 text)
 told_of reading once problem stops source sink input judgement (Failed TooLong i) ended told whole is = absurd (whole tt)
 told_of reading once problem stops source sink input judgement (Failed Read i) ended told whole is = absurd (whole tt)
 told_of reading once problem stops source sink input judgement (Failed NoMemory i) ended told whole is = absurd (whole tt)

@@ -1,6 +1,6 @@
 -- What clap gives for `check` where it takes the words behind the command's name.
 use Rattle.std.proofs.Common.{refl, List, []}
-use Rattle.clap.specs.Walk.{Text, nothing_held, rows_after}
+use Rattle.clap.specs.Walk.{Text, rows_after}
 use Rattle.search_limits.specs.declared.settings.TheConstants.{MOST_WORKERS}
 use Rattle.tsume_words.proofs.Offered.{Each, GivesValue, IsFirst, flag_given, level_gives, no_test_laws, number_if_any}
 use Rattle.tsume_words.specs.Meaning.{HasTestLaws, IsGivenWhereTaken, shape_of}

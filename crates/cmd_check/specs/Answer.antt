@@ -21,7 +21,7 @@ pub record IsAcceptance (p : Board) (c : Certificate) (claim : Claim) (entries :
   pub count : entries ≡ length (positions_in c)
 
 -- A certificate was refused for a problem: it isn't valid for it, and this is the first reason.
--- (Where it is about another, that is that the problem isn't listed.)
+-- (Where it is about another, that is the reason against it as a whole.)
 pub record IsRefusal (p : Board) (c : Certificate) (entry : ℕ) (why : Why) : Type 0 where
   pub invalid : ¬ IsValid c p
   pub first : IsFirstAgainst c p entry why
@@ -31,20 +31,19 @@ abbrev pub IsTrueOfCertificate : Board → Certificate → Judgement → Type 0
 IsTrueOfCertificate p c (Accepted claim entries) = IsAcceptance p c claim entries
 IsTrueOfCertificate p c (Refused entry why) = IsRefusal p c entry why
 
--- The bytes of an input are the text of one certificate, of which the judgement is true, for the
--- problem whose text the words give, or for its own.
-pub record IsJudged (problem : Option (List ℕ)) (input : List ℕ) (judgement : Judgement) : Type 0 where
-  pub certificate : Certificate
-  pub read : IsCertificateOutcome input (Ok certificate)
-  pub only : (c : Certificate) → IsReadable c → IsTextOf c input → c ≡ certificate
-  pub board : Board
-  pub judged_for : IsJudgedFor problem certificate board
-  pub true_of : IsTrueOfCertificate board certificate judgement
-
 -- The bytes of an input are the text of this certificate, and of no other.
 pub record IsTextOfOne (input : List ℕ) (certificate : Certificate) : Type 0 where
   pub read : IsCertificateOutcome input (Ok certificate)
   pub only : (c : Certificate) → IsReadable c → IsTextOf c input → c ≡ certificate
+
+-- The bytes of an input are the text of one certificate, of which the judgement is true, for the
+-- problem whose text the words give, or for its own.
+pub record IsJudged (problem : Option (List ℕ)) (input : List ℕ) (judgement : Judgement) : Type 0 where
+  pub certificate : Certificate
+  pub text : IsTextOfOne input certificate
+  pub board : Board
+  pub judged_for : IsJudgedFor problem certificate board
+  pub true_of : IsTrueOfCertificate board certificate judgement
 
 -- The bytes of an input are no certificate's text, and have this first fault as one, and no other.
 pub record IsNoCertificate (input : List ℕ) (fault : CertFault) : Type 0 where

@@ -1,5 +1,5 @@
 -- What `check` promises in plain words.
-use Rattle.std.specs.Prelude.{◌≡◌, ◌≤◌, ◌↔◌, ◌⊎◌, ℕ, List, Option, Some, ⊤, length}
+use Rattle.std.specs.Prelude.{◌≡◌, ◌≤◌, ◌↔◌, ◌⊎◌, ℕ, List, Option, Some, length}
 use Rattle.board_core.specs.Board.{Board}
 use Rattle.cert_text.specs.declared.certificate.Certificate.{Certificate}
 use Rattle.cert_text.specs.declared.fault.CertFault.{CertFault}
@@ -11,11 +11,10 @@ use Rattle.tsume_io.specs.Faults.{Rose}
 use Rattle.app_texts.specs.declared.answer.Judgement.{Judgement}
 use Rattle.app_texts.specs.declared.answer.Judgement.TheVariants.{Accepted}
 use Rattle.one_run.specs.declared.ended.Ended.{Ended}
-use Rattle.one_run.specs.declared.ended.Ended.TheVariants.{Answered, CutShort, Failed}
-use Rattle.one_run.specs.declared.ended.Fault.TheVariants.{Text, TooLong, Read, NoMemory}
+use Rattle.one_run.specs.declared.ended.Ended.TheVariants.{Answered}
 use Rattle.cmd_check.specs.declared.asked.TheConstants.{MOST_CERTIFICATE_BYTES}
 use Rattle.one_run.specs.Outside.{Shown}
-use Rattle.one_run.specs.Run.{IsAnswered, IsRun, WantsMemory}
+use Rattle.one_run.specs.Run.{IsAnswered, IsBrokenOff, IsRun, WantsMemory}
 use Rattle.one_run.specs.Stops.{Signals, AreUnused}
 use Rattle.cmd_check.specs.Answer.{IsJudged}
 use Rattle.cmd_check.specs.Asked.{IsJudgedFor}
@@ -33,16 +32,6 @@ pub record IsValidText (problem : Option (List ℕ)) (input : List ℕ) (claim :
   pub judged_for : IsJudgedFor problem certificate board
   pub valid : IsValid certificate board
   pub shows : Shows certificate board
-
--- The run was broken off: the source or the sink failed, more bytes came than are read, or memory
--- was wanted.
-abbrev pub IsBrokenOff : Ended Judgement CertFault → Type 0
-IsBrokenOff (Answered judgement) = ⊥
-IsBrokenOff (CutShort judgement) = ⊤
-IsBrokenOff (Failed (Text fault) input) = ⊥
-IsBrokenOff (Failed TooLong input) = ⊤
-IsBrokenOff (Failed Read input) = ⊤
-IsBrokenOff (Failed NoMemory input) = ⊤
 
 -- The bytes that the source has left are the text of a certificate, and short enough.
 pub record HasCertificateLeft (left : Option (List ℕ)) : Type 0 where

@@ -3,11 +3,11 @@ ghost use Rattle.std.specs.Prelude.{◌≡◌, ◌↔◌, ◌⊎◌, ℕ, List, 
 ghost use Rattle.cert_text.specs.declared.head.Claim.{Claim};
 ghost use Rattle.tsume_io.specs.Faults.{Rose};
 ghost use Rattle.one_run.specs.Outside.{shown};
-ghost use Rattle.one_run.specs.Run.{IsAnswered, IsRun, WantsMemory};
+ghost use Rattle.one_run.specs.Run.{IsAnswered, IsBrokenOff, IsRun, WantsMemory};
 ghost use Rattle.one_run.specs.Stops.{Signals, AreUnused};
 ghost use Rattle.cmd_check.specs.Answer.{IsJudged};
 ghost use Rattle.cmd_check.specs.Asked.{IsProblemInWords, check_in};
-ghost use Rattle.cmd_check.specs.Headline.{IsBrokenOff, HasCertificateLeft, IsValidText};
+ghost use Rattle.cmd_check.specs.Headline.{HasCertificateLeft, IsValidText};
 ghost use Rattle.cmd_check.specs.Meaning.{check_meaning};
 
 use crate::Check;

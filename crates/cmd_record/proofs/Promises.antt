@@ -3,7 +3,7 @@ use Rattle.std.proofs.Common.{◌≡◌, ℕ, List, Option, Some, refl, subst, s
 use Rattle.board_core.specs.declared.moves.Move.{Move}
 use Rattle.shogi_rules.specs.declared.problem.Problem.{Problem as GivenProblem}
 use Rattle.cert_text.specs.declared.certificate.Certificate.{Certificate}
-use Rattle.cert_text.specs.declared.certificate.Certificate.TheVariants.{Mate, Escape}
+use Rattle.cert_text.specs.declared.certificate.Certificate.TheVariants.{Mate}
 use Rattle.cert_text.specs.Reading.{IsTextOf}
 use Rattle.cert_text.specs.Certificate.{Mating}
 use Rattle.cert_check.specs.Valid.{ValidMate}
@@ -11,7 +11,7 @@ use Rattle.one_run.specs.declared.ended.Ended.{Ended}
 use Rattle.one_run.specs.declared.ended.Ended.TheVariants.{Answered, CutShort, Failed}
 use Rattle.one_run.specs.declared.ended.Fault.TheVariants.{Text, TooLong, Read, NoMemory}
 use Rattle.one_run.specs.Outside.{Shown}
-use Rattle.one_run.specs.Run.{IsEnded, IsWellPosed}
+use Rattle.one_run.specs.Run.{IsBrokenOff, IsEnded, IsWellPosed}
 use Rattle.one_run.specs.Stops.{Signals}
 use Rattle.one_run.proofs.Offered.{took_it}
 use Rattle.cmd_record.specs.declared.answer.RecordAnswer.{RecordAnswer}
@@ -20,7 +20,7 @@ use Rattle.cmd_record.specs.declared.fault.RecordFault.{RecordFault}
 use Rattle.cmd_record.specs.declared.fault.RecordFault.TheVariants as faults
 use Rattle.cmd_check.specs.Answer.{IsTextOfOne}
 use Rattle.cmd_record.specs.Answer.{HasFault}
-use Rattle.cmd_record.specs.Headline.{EndsWithRecord, HasMateLeft, IsBrokenOff, IsMateText, IsTextWith}
+use Rattle.cmd_record.specs.Headline.{EndsWithRecord, HasMateLeft, IsMateText, IsTextWith}
 use Rattle.cmd_record.specs.Meaning.{record_meaning}
 
 -- what was recorded is a mate's, with its main line

@@ -1,5 +1,5 @@
 -- What `record` promises in plain words.
-use Rattle.std.specs.Prelude.{◌≡◌, ◌≤◌, ◌⊎◌, ℕ, List, Option, Some, ⊤, length}
+use Rattle.std.specs.Prelude.{◌≡◌, ◌≤◌, ◌⊎◌, ℕ, List, Option, Some, length}
 use Rattle.board_core.specs.declared.moves.Move.{Move}
 use Rattle.board_core.specs.Board.{Board}
 use Rattle.shogi_rules.specs.declared.problem.Problem.{Problem as GivenProblem}
@@ -9,10 +9,9 @@ use Rattle.cert_text.specs.Reading.{IsReadable, IsTextOf}
 use Rattle.cert_check.specs.Valid.{ValidMate}
 use Rattle.tsume_io.specs.Faults.{Rose}
 use Rattle.one_run.specs.declared.ended.Ended.{Ended}
-use Rattle.one_run.specs.declared.ended.Ended.TheVariants.{Answered, CutShort, Failed}
-use Rattle.one_run.specs.declared.ended.Fault.TheVariants.{Text, TooLong, Read, NoMemory}
+use Rattle.one_run.specs.declared.ended.Ended.TheVariants.{Answered}
 use Rattle.one_run.specs.Outside.{Shown}
-use Rattle.one_run.specs.Run.{IsAnswered, IsRun, WantsMemory}
+use Rattle.one_run.specs.Run.{IsAnswered, IsBrokenOff, IsRun, WantsMemory}
 use Rattle.one_run.specs.Stops.{Signals, AreUnused}
 use Rattle.cmd_check.specs.declared.asked.TheConstants.{MOST_CERTIFICATE_BYTES}
 use Rattle.cmd_record.specs.declared.answer.RecordAnswer.{RecordAnswer}
@@ -39,16 +38,6 @@ pub record IsTextWith (input : List ℕ) (problem : Board) (moves : List Move) :
 -- The run ended with a record.
 abbrev pub EndsWithRecord : Ended RecordAnswer RecordFault → Type 0
 EndsWithRecord ended = (problem : GivenProblem) × (moves : List Move) × (ended ≡ Answered (Recorded problem moves))
-
--- The run was broken off: the source or the sink failed, more bytes came than are read, or memory
--- was wanted.
-abbrev pub IsBrokenOff : Ended RecordAnswer RecordFault → Type 0
-IsBrokenOff (Answered answer) = ⊥
-IsBrokenOff (CutShort answer) = ⊤
-IsBrokenOff (Failed (Text fault) input) = ⊥
-IsBrokenOff (Failed TooLong input) = ⊤
-IsBrokenOff (Failed Read input) = ⊤
-IsBrokenOff (Failed NoMemory input) = ⊤
 
 -- The bytes that the source has left are the text of a mate's certificate, and short enough.
 pub record HasMateLeft (left : Option (List ℕ)) : Type 0 where

@@ -4,9 +4,9 @@ ghost use Rattle.board_core.specs.declared.moves.Move.{Move};
 ghost use Rattle.shogi_rules.specs.declared.problem.Problem.{Problem};
 ghost use Rattle.tsume_io.specs.Faults.{Rose};
 ghost use Rattle.one_run.specs.Outside.{shown};
-ghost use Rattle.one_run.specs.Run.{IsAnswered, IsRun, WantsMemory};
+ghost use Rattle.one_run.specs.Run.{IsAnswered, IsBrokenOff, IsRun, WantsMemory};
 ghost use Rattle.one_run.specs.Stops.{Signals, AreUnused};
-ghost use Rattle.cmd_record.specs.Headline.{EndsWithRecord, HasMateLeft, IsBrokenOff, IsMateText, IsTextWith};
+ghost use Rattle.cmd_record.specs.Headline.{EndsWithRecord, HasMateLeft, IsMateText, IsTextWith};
 ghost use Rattle.cmd_record.specs.Meaning.{record_meaning};
 
 use crate::judging::answer;

@@ -9,14 +9,14 @@ use Rattle.one_run.specs.declared.ended.Ended.{Ended}
 use Rattle.one_run.specs.declared.ended.Ended.TheVariants.{Answered, CutShort, Failed}
 use Rattle.one_run.specs.declared.ended.Fault.TheVariants.{Text, TooLong, Read, NoMemory}
 use Rattle.one_run.specs.Outside.{Shown}
-use Rattle.one_run.specs.Run.{IsEnded, IsWellPosed}
+use Rattle.one_run.specs.Run.{IsBrokenOff, IsEnded, IsWellPosed}
 use Rattle.one_run.specs.Stops.{Signals}
 use Rattle.one_run.proofs.Offered.{took_it}
 use Rattle.cmd_check.specs.Answer.{IsTextOfOne}
 use Rattle.cmd_check.specs.Headline.{HasCertificateLeft}
 use Rattle.cmd_upgrade.specs.declared.answer.UpgradeAnswer.{UpgradeAnswer}
 use Rattle.cmd_upgrade.specs.declared.answer.UpgradeAnswer.TheVariants.{Upgraded, Refused}
-use Rattle.cmd_upgrade.specs.Headline.{EndsUpgraded, IsBrokenOff, IsUpgradedFrom, IsValidForItsOwn}
+use Rattle.cmd_upgrade.specs.Headline.{EndsUpgraded, IsUpgradedFrom, IsValidForItsOwn}
 use Rattle.cmd_upgrade.specs.Meaning.{upgrade_meaning}
 
 -- what was written is a valid certificate's in version 2

@@ -1,5 +1,5 @@
 -- What `upgrade` promises in plain words.
-use Rattle.std.specs.Prelude.{◌≡◌, ◌⊎◌, ℕ, List, Some, ⊤}
+use Rattle.std.specs.Prelude.{◌≡◌, ◌⊎◌, ℕ, List, Some}
 use Rattle.cert_text.specs.declared.certificate.Certificate.{Certificate}
 use Rattle.cert_text.specs.declared.fault.CertFault.{CertFault}
 use Rattle.cert_text.specs.Kinds.{problem_of}
@@ -7,10 +7,9 @@ use Rattle.cert_text.specs.Reading.{IsReadable, IsTextOf}
 use Rattle.cert_check.specs.Valid.{IsValid}
 use Rattle.tsume_io.specs.Faults.{Rose}
 use Rattle.one_run.specs.declared.ended.Ended.{Ended}
-use Rattle.one_run.specs.declared.ended.Ended.TheVariants.{Answered, CutShort, Failed}
-use Rattle.one_run.specs.declared.ended.Fault.TheVariants.{Text, TooLong, Read, NoMemory}
+use Rattle.one_run.specs.declared.ended.Ended.TheVariants.{Answered}
 use Rattle.one_run.specs.Outside.{Shown}
-use Rattle.one_run.specs.Run.{IsAnswered, IsRun, WantsMemory}
+use Rattle.one_run.specs.Run.{IsAnswered, IsBrokenOff, IsRun, WantsMemory}
 use Rattle.one_run.specs.Stops.{Signals, AreUnused}
 use Rattle.cmd_check.specs.Headline.{HasCertificateLeft}
 use Rattle.cmd_upgrade.specs.declared.answer.UpgradeAnswer.{UpgradeAnswer}
@@ -36,16 +35,6 @@ pub record IsUpgradedFrom (input : List ℕ) (found : Certificate) : Type 0 wher
 -- The run ended with a certificate.
 abbrev pub EndsUpgraded : Ended UpgradeAnswer CertFault → Type 0
 EndsUpgraded ended = (found : Certificate) × (ended ≡ Answered (Upgraded found))
-
--- The run was broken off: the source or the sink failed, more bytes came than are read, or memory
--- was wanted.
-abbrev pub IsBrokenOff : Ended UpgradeAnswer CertFault → Type 0
-IsBrokenOff (Answered answer) = ⊥
-IsBrokenOff (CutShort answer) = ⊤
-IsBrokenOff (Failed (Text fault) input) = ⊥
-IsBrokenOff (Failed TooLong input) = ⊤
-IsBrokenOff (Failed Read input) = ⊤
-IsBrokenOff (Failed NoMemory input) = ⊤
 
 -- A run of `upgrade` kept all that it promises, for whoever hands it on, whatever stops there are,
 -- which it leaves alone.

@@ -1,5 +1,5 @@
 // What is found of a certificate.
-ghost use Rattle.std.specs.Prelude.{◌≡◌, ℕ, List, IfOk};
+ghost use Rattle.std.specs.Prelude.{IfOk};
 ghost use Rattle.cert_text.specs.Reading.{IsReadable};
 ghost use Rattle.one_run.specs.Command.{IsAnswer};
 ghost use Rattle.one_run.specs.Stops.{Signals, AreUnused};

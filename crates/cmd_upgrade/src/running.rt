@@ -3,10 +3,10 @@ ghost use Rattle.std.specs.Prelude.{◌≡◌, ◌⊎◌, ℕ, List, Some};
 ghost use Rattle.cert_text.specs.declared.certificate.Certificate.{Certificate};
 ghost use Rattle.tsume_io.specs.Faults.{Rose};
 ghost use Rattle.one_run.specs.Outside.{shown};
-ghost use Rattle.one_run.specs.Run.{IsAnswered, IsRun, WantsMemory};
+ghost use Rattle.one_run.specs.Run.{IsAnswered, IsBrokenOff, IsRun, WantsMemory};
 ghost use Rattle.one_run.specs.Stops.{Signals, AreUnused};
 ghost use Rattle.cmd_check.specs.Headline.{HasCertificateLeft};
-ghost use Rattle.cmd_upgrade.specs.Headline.{EndsUpgraded, IsBrokenOff, IsUpgradedFrom, IsValidForItsOwn};
+ghost use Rattle.cmd_upgrade.specs.Headline.{EndsUpgraded, IsUpgradedFrom, IsValidForItsOwn};
 ghost use Rattle.cmd_upgrade.specs.Meaning.{upgrade_meaning};
 
 use crate::judging::answer;

@@ -1,5 +1,5 @@
 -- What a run of a command that reads one text did.
-use Rattle.std.specs.Prelude.{◌≡◌, ◌≤◌, ◌⊎◌, ℕ, List, [], Option, Some, length}
+use Rattle.std.specs.Prelude.{◌≡◌, ◌≤◌, ◌⊎◌, ℕ, List, [], Option, Some, ⊤, length}
 use Rattle.tsume_io.specs.Faults.{Rose}
 use Rattle.tsume_io.specs.Source.{TookAll, TookAtMost, TookOneMoreThan, HasMoreThan}
 use Rattle.tsume_io.specs.Sink.{GrewBy, GrewByPrefix}
@@ -104,6 +104,16 @@ IsAnswered {A} ended = (answer : A) × (ended ≡ Answered answer)
 -- The run ended for want of memory.
 abbrev pub WantsMemory : {A F : Type 0} → Ended A F → Type 0
 WantsMemory ended = (input : List ℕ) × (ended ≡ Failed NoMemory input)
+
+-- The run was broken off: the source or the sink failed, more bytes came than are read, or memory
+-- was wanted.
+abbrev pub IsBrokenOff : {A F : Type 0} → Ended A F → Type 0
+IsBrokenOff (Answered answer) = ⊥
+IsBrokenOff (CutShort answer) = ⊤
+IsBrokenOff (Failed (Text fault) input) = ⊥
+IsBrokenOff (Failed TooLong input) = ⊤
+IsBrokenOff (Failed Read input) = ⊤
+IsBrokenOff (Failed NoMemory input) = ⊤
 
 -- The run ended with a fault.
 abbrev pub IsFailed : {A F : Type 0} → Ended A F → Type 0

@@ -12,7 +12,7 @@ returns-then-is_with c =
         entry = c.entry-item.result;
         listed = contained c.args.entries.now c.loop-entry.entry-index c.entry-item.result stands;
         same = is.0;
-        is_rank = is.1;
+        has_rank = is.1;
       }),
       (λ _. refl),
     )
@@ -27,5 +27,5 @@ pub returns : goal.returns
 returns c = (
   (λ e. absurd (cc)),
   (λ listed. absurd (c.loop-entry.invariant listed.listed.0 listed.entry (let within = listed.listed.1 in omega (arith, within))
-      (at_place c.args.entries.now listed.entry listed.listed) (listed.same, listed.is_rank))),
+      (at_place c.args.entries.now listed.entry listed.listed) (listed.same, listed.has_rank))),
 )
