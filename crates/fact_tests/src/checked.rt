@@ -2,17 +2,21 @@
 ghost use Rattle.std.specs.Prelude.{◌≡◌, IsTrue, IfOk};
 ghost use Rattle.bit_boards.specs.Kind.{other};
 ghost use Rattle.shogi_rules.specs.Rules.{IsInCheck, IsQuiet, after};
-ghost use Rattle.notes.specs.Valid.{IsInPlay, EndsInMate, EndsInEscape, MatesAfterAll, EscapesAfterAll, Says, SayEach};
+ghost use Rattle.hand_dominance.specs.Dominance.{Dominates};
+ghost use Rattle.notes.specs.Valid.{IsInPlay, EndsInMate, EndsInEscape, MatesAfterAll, EscapesAfterAll, MayBeCarried, Says, SayEach};
 
-use board_core::{Move, Position, key};
+use board_core::{Move, Position, Side, key};
 use check_moves::checks;
+use dominance_places::is_dominated;
 use evasions::answers;
 use notes::{
-    Conclusion, Note, NoteEnd, escape_all, escape_by, escape_end, escape_repeat, mate_all, mate_by,
-    mate_end,
+    Conclusion, Note, NoteEnd, carry, escape_all, escape_by, escape_end, escape_repeat, mate_all,
+    mate_by, mate_end,
 };
+use position_places::BoardPlaces;
 use shogi_rules::{Problem, apply, in_check, is_check, is_evasion, legal};
 use std::alloc::{AllocError, AllocFailed, Global};
+use std::slice;
 
 /// Why a rule made no note.
 #[derive(Clone, Copy, PartialEq, Eq, Debug)]
@@ -284,4 +288,54 @@ pub fn mated_all(
         return Err(Unmade::Unmet);
     }
     Ok(mate_all(alloc, problem, position, notes)?)
+}
+
+// Whether the one position dominates the other, for this attacker.
+fn dominates(
+    alloc: Global,
+    attacker: Side,
+    over: &Position,
+    under: &Position,
+) -> Result<bool, AllocError>
+    ensures { IfOk result (λ found. IsTrue found → Dominates attacker over.now under.now) }
+{
+    let mut boards = BoardPlaces::new(alloc);
+    boards.add(over)?;
+    let mut places = Vec::new(alloc);
+    is_dominated(slice::from_ref(over), &boards, attacker, under, &mut places)
+}
+
+// Whether the note may be carried to the position.
+fn may_be_carried(
+    alloc: Global,
+    problem: &Problem,
+    position: &Position,
+    note: &Note,
+) -> Result<bool, AllocError>
+    ensures { IfOk result (λ may. IsTrue may
+        → MayBeCarried problem.now.position.side position.now note.now) }
+{
+    if note.attacker() != problem.attacker() {
+        return Ok(false);
+    }
+    if !note.is_closed() {
+        return Ok(false);
+    }
+    match note.conclusion() {
+        Conclusion::Mate => dominates(alloc, problem.attacker(), position, note.position()),
+        Conclusion::Escape => dominates(alloc, problem.attacker(), note.position(), position),
+    }
+}
+
+/// What a note concludes, of another position of its board.
+pub fn carried(
+    alloc: Global,
+    problem: &Problem,
+    position: &Position,
+    note: &Note,
+) -> Result<Note, Unmade> {
+    if !may_be_carried(alloc, problem, position, note)? {
+        return Err(Unmade::Unmet);
+    }
+    Ok(carry(alloc, problem, position, note)?)
 }

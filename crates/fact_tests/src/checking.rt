@@ -6,7 +6,10 @@ use board_core::{Kind, Move, Square};
 use cert_check::{Verdict, Why, check, upgrade};
 use cert_text::read_cert;
 use hand_dominance::Version;
+use std::alloc::Global;
+use std::process::Abort;
 use std::test::Fail;
+use std::thread::Threads;
 use wide_check::check_wide;
 
 // The attacker's gold isn't guarded where it is dropped: the king leaves the list.
@@ -79,6 +82,26 @@ const FEWER: &str =
 const TOO_FEW: &str =
     "certificate 2 escape 1\nproblem 4k4/9/4P4/9/9/9/9/9/9 b -\n4k4/9/4P4/9/9/9/9/9/9 b P\nend\n";
 
+const ACCEPTED: [&str; 8] = [
+    MATE_IN_ONE,
+    TWO_ROOKS,
+    PAWN_DROPS,
+    CHASE,
+    RICHER_2,
+    RANKS_2,
+    POORER_2,
+    FEWER,
+];
+
+const ROOTLESS: [&str; 6] = [
+    NO_ROOT,
+    RICHER_1,
+    EMPTY_HANDED,
+    HELD_BY_BOTH,
+    POORER_1,
+    TOO_RICH,
+];
+
 fn plain(from: Square, to: Square) -> Move {
     Move::Board {
         from,
@@ -89,6 +112,24 @@ fn plain(from: Square, to: Square) -> Move {
 
 fn refused(entry: u64, why: Why) -> Verdict {
     Verdict::Refused { entry, why }
+}
+
+// The certificate of the text is judged so for its own problem, on one thread and on several.
+fn judges<R: Threads + Abort + Sync>(
+    rt: &R,
+    alloc: Global,
+    text: &str,
+    expected: Verdict,
+) -> Result<(), Fail> {
+    let certificate = read_cert(alloc, text.as_bytes())?;
+    let problem = certificate.problem();
+    let verdict = check(alloc, problem, &certificate)?;
+    same(rt, text, verdict, expected);
+    for pieces in [1, 2, 7, 64] {
+        let verdict = check_wide(rt, alloc, problem, &certificate, pieces)?;
+        same(rt, (pieces, text), verdict, expected);
+    }
+    Ok(())
 }
 
 #[test]
@@ -105,39 +146,23 @@ fn certificates_are_accepted_or_refused_with_the_first_reason(rt: HostRuntime) -
     let up = plain(Square::on(5, 2), Square::on(4, 1));
     let along = plain(Square::on(5, 9), Square::on(4, 9));
     let push = plain(Square::on(5, 3), Square::on(5, 2));
-    let cases = [
-        (MATE_IN_ONE, Verdict::Accepted),
-        (TWO_ROOKS, Verdict::Accepted),
-        (PAWN_DROPS, Verdict::Accepted),
-        (CHASE, Verdict::Accepted),
-        (UNGUARDED, refused(1, Why::EvasionOutside(out))),
-        (NO_CHECK, refused(1, Why::NotACheck(gold))),
-        (EQUAL_RANKS, refused(4, Why::RankNotLower(up))),
-        (NO_ROOT, refused(0, Why::RootMissing)),
-        (OPEN_ESCAPE, refused(2, Why::CheckUnanswered(pawn))),
-        (BROKEN_CHASE, refused(2, Why::CheckUnanswered(along))),
-        (RICHER_1, refused(0, Why::RootMissing)),
-        (RICHER_2, Verdict::Accepted),
-        (EMPTY_HANDED, refused(0, Why::RootMissing)),
-        (HELD_BY_BOTH, refused(0, Why::RootMissing)),
-        (RANKS_1, refused(5, Why::RankNotLower(up))),
-        (RANKS_2, Verdict::Accepted),
-        (EQUAL_RANKS_2, refused(4, Why::RankNotLower(up))),
-        (POORER_1, refused(0, Why::RootMissing)),
-        (POORER_2, Verdict::Accepted),
-        (TOO_RICH, refused(0, Why::RootMissing)),
-        (FEWER, Verdict::Accepted),
-        (TOO_FEW, refused(1, Why::CheckUnanswered(push))),
-    ];
-    for (text, expected) in &cases {
-        let certificate = read_cert(rt.alloc(), text.as_bytes())?;
-        let problem = certificate.problem();
-        let verdict = check(rt.alloc(), problem, &certificate)?;
-        same(&rt, text, verdict, *expected);
-        for pieces in [1, 2, 7, 64] {
-            let verdict = check_wide(&rt, rt.alloc(), problem, &certificate, pieces)?;
-            same(&rt, (pieces, text), verdict, *expected);
-        }
+    for text in ACCEPTED {
+        judges(&rt, rt.alloc(), text, Verdict::Accepted)?;
+    }
+    for text in ROOTLESS {
+        judges(&rt, rt.alloc(), text, refused(0, Why::RootMissing))?;
+    }
+    for (text, entry, why) in [
+        (UNGUARDED, 1, Why::EvasionOutside(out)),
+        (NO_CHECK, 1, Why::NotACheck(gold)),
+        (EQUAL_RANKS, 4, Why::RankNotLower(up)),
+        (OPEN_ESCAPE, 2, Why::CheckUnanswered(pawn)),
+        (BROKEN_CHASE, 2, Why::CheckUnanswered(along)),
+        (RANKS_1, 5, Why::RankNotLower(up)),
+        (EQUAL_RANKS_2, 4, Why::RankNotLower(up)),
+        (TOO_FEW, 1, Why::CheckUnanswered(push)),
+    ] {
+        judges(&rt, rt.alloc(), text, refused(entry, why))?;
     }
     Ok(())
 }

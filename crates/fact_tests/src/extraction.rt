@@ -1,7 +1,7 @@
 // Notes of mates and escapes that are known by the rules of shogi, and the texts of their
 // certificates.
 use crate::chase::Chase;
-use crate::checked::{ended_mate, mated_all, mated_by};
+use crate::checked::{Unmade, carried, ended_escape, ended_mate, mated_all, mated_by};
 use crate::letters::{by, moved, problem};
 use crate::same::{same, shown};
 use crate::texts::{CHASE, MATE_IN_ONE};
@@ -9,7 +9,8 @@ use board_core::Position;
 use cert_extract::{ExtractEnd, extract};
 use cert_text::write_cert;
 use evasions::answers;
-use notes::Note;
+use hand_dominance::Version;
+use notes::{Conclusion, Note, Rule};
 use shogi_rules::Problem;
 use std::alloc::Global;
 use std::process::Abort;
@@ -101,5 +102,91 @@ fn a_mate_is_listed_with_the_least_height_that_is_met(rt: HostRuntime) -> Result
         let found = (note.height(), shown(&text));
         same(&rt, ("rooks", most), found, (6, wanted));
     }
+    Ok(())
+}
+
+// Notes that are carried to another hand, and the texts of their certificates.
+const CARRIED_MATE: &str =
+    "certificate 2 mate 1\nproblem 4k4/9/4P4/9/9/9/9/9/9 b GP\n1 G*5b 4k4/9/4P4/9/9/9/9/9/9 b G\nend\n";
+
+const CARRIED_TWICE: &str =
+    "certificate 2 mate 1\nproblem 4k4/9/4P4/9/9/9/9/9/9 b G2P\n1 G*5b 4k4/9/4P4/9/9/9/9/9/9 b G\nend\n";
+
+const OVER_CARRIED: &str =
+    "certificate 2 mate 1\nproblem 4k4/9/4P4/9/9/9/9/9/9 b GP\n1 G*5b 4k4/9/4P4/9/9/9/9/9/9 b GP\nend\n";
+
+const CARRIED_ESCAPE: &str =
+    "certificate 2 escape 1\nproblem 4k4/9/9/9/4P4/9/9/9/9 b -\n4k4/9/9/9/4P4/9/9/9/9 b P\nend\n";
+
+// The note of the problem, carried to others one after the other.
+fn carried_on(
+    rt: &impl Abort,
+    alloc: Global,
+    note: Note,
+    problems: &[&str],
+) -> Result<Note, Unmade> {
+    let mut last = note;
+    for text in problems {
+        let to = problem(rt, *text);
+        last = carried(alloc, &to, &to.position, &last)?;
+    }
+    Ok(last)
+}
+
+#[test]
+fn a_carried_note_lists_the_position_that_it_was_carried_from(rt: HostRuntime) -> Result<(), Fail> {
+    let alloc = rt.alloc();
+    let gold = problem(&rt, "4k4/9/4P4/9/9/9/9/9/9 b G");
+    let mate = mated(&rt, alloc, &gold, &gold.position, &["G*5b"])?;
+    let pawn = problem(&rt, "4k4/9/9/9/4P4/9/9/9/9 b P");
+    let escape = ended_escape(alloc, &pawn, &pawn.position)?;
+    let once = ["4k4/9/4P4/9/9/9/9/9/9 b GP"];
+    let twice = [once[0], "4k4/9/4P4/9/9/9/9/9/9 b G2P"];
+    let fewer = ["4k4/9/9/9/4P4/9/9/9/9 b -"];
+    let cases = [
+        (&mate, once.as_slice(), CARRIED_MATE),
+        (&mate, twice.as_slice(), CARRIED_TWICE),
+        (&escape, fewer.as_slice(), CARRIED_ESCAPE),
+    ];
+    for (note, way, wanted) in &cases {
+        let made = carried_on(&rt, alloc, note.share()?, way)?;
+        let last = way.last().unwrap_or(&"");
+        let text = text_of(alloc, &problem(&rt, *last), &made, 1)?;
+        same(&rt, ("text", last), shown(&text), *wanted);
+        same(&rt, ("version", last), made.version(), Version::Two);
+        let found = (made.height(), made.source().version());
+        same(&rt, ("source", last), found, (note.height(), Version::One));
+    }
+    let refused = [
+        (&mate, "4k4/9/4P4/9/9/9/9/9/9 b P"),
+        (&mate, "4k4/9/4P4/9/9/9/9/9/9 b Gp"),
+        (&escape, "4k4/9/9/9/4P4/9/9/9/9 b 2P"),
+        (&escape, "4k4/9/4P4/9/9/9/9/9/9 b -"),
+    ];
+    for (note, to) in &refused {
+        let end = carried_on(&rt, alloc, note.share()?, &[*to]).err();
+        same(&rt, to, end, Some(Unmade::Unmet));
+    }
+    Ok(())
+}
+
+// The defender's position is carried: what is listed stands for itself, and the tree for version 2.
+#[test]
+fn a_mate_over_a_carried_note_is_of_version_2(rt: HostRuntime) -> Result<(), Fail> {
+    let alloc = rt.alloc();
+    let drop = by(&rt, "G*5b");
+    let gold = problem(&rt, "4k4/9/4P4/9/9/9/9/9/9 b G");
+    let end = ended_mate(alloc, &gold, &moved(&rt, &gold.position, drop))?;
+    let more = problem(&rt, "4k4/9/4P4/9/9/9/9/9/9 b GP");
+    let below = carried(alloc, &more, &moved(&rt, &more.position, drop), &end)?;
+    let note = mated_by(alloc, &more, &more.position, drop, &below)?;
+    let text = text_of(alloc, &more, &note, 1)?;
+    same(
+        &rt,
+        "over",
+        (note.height(), shown(&text)),
+        (2, OVER_CARRIED),
+    );
+    same(&rt, "rule", below.rule(), Rule::Carry(Conclusion::Mate));
     Ok(())
 }

@@ -12,6 +12,10 @@ use usi_text::mate_line;
 const LONGEST_AT_LAST: &str =
     "certificate 1 mate 4\nproblem 9/4k4/8R/9/9/9/9/9/9 b R\n2 1c1a 3k5/R8/8R/9/9/9/9/9/9 b -\n1 1c1a 4k4/R8/8R/9/9/9/9/9/9 b -\n1 1c1a 5k3/R8/8R/9/9/9/9/9/9 b -\n3 R*9b 9/4k4/8R/9/9/9/9/9/9 b R\nend\n";
 
+// The mate by two rooks for an attacker who has a pawn too, which no listed position has.
+const TWO_ROOKS_AND_A_PAWN: &str =
+    "certificate 2 mate 4\nproblem 9/4k4/8R/9/9/9/9/9/9 b RP\n1 1c1a 3k5/R8/8R/9/9/9/9/9/9 b -\n1 1c1a 4k4/R8/8R/9/9/9/9/9/9 b -\n1 1c1a 5k3/R8/8R/9/9/9/9/9/9 b -\n2 R*9b 9/4k4/8R/9/9/9/9/9/9 b R\nend\n";
+
 // What is said of the main line of a mate's certificate; nothing, where it isn't valid for its own
 // problem.
 fn line_of(alloc: Global, text: &str) -> Result<Vec<u8>, Fail> {
@@ -33,6 +37,7 @@ fn main_lines_follow_the_longest_defence(rt: HostRuntime) -> Result<(), Fail> {
     let cases = [
         (MATE_IN_ONE, "checkmate G*5b"),
         (TWO_ROOKS, "checkmate R*9b 5b4a 1c1a"),
+        (TWO_ROOKS_AND_A_PAWN, "checkmate R*9b 5b4a 1c1a"),
         (LONGEST_AT_LAST, "checkmate R*9b 5b6a 1c1a"),
     ];
     for (text, expected) in &cases {

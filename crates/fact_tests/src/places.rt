@@ -2,6 +2,8 @@
 use crate::letters::problem;
 use crate::same::same;
 use board_core::key;
+use dominance_places::CoverPlaces;
+use hand_dominance::Version;
 use position_places::{BoardPlaces, Places};
 use std::test::Fail;
 
@@ -75,6 +77,26 @@ fn positions_are_found_by_their_boards(rt: HostRuntime) -> Result<(), Fail> {
     for (text, wanted) in wanted {
         places.on_board(&problem(&rt, text).position, &mut found)?;
         same(&rt, text, found.as_slice(), wanted);
+    }
+    Ok(())
+}
+
+#[test]
+fn positions_are_found_by_their_keys_in_both_versions(rt: HostRuntime) -> Result<(), Fail> {
+    for version in [Version::One, Version::Two] {
+        let mut places = CoverPlaces::with_room(rt.alloc(), version, 1)?;
+        for (place, text) in LISTED.iter().enumerate() {
+            let position = problem(&rt, text).position;
+            same(&rt, *text, places.find_key(&key(&position)), None);
+            same(&rt, *text, places.add(&position)?, place);
+            same(&rt, *text, places.find_key(&key(&position)), Some(place));
+        }
+        same(
+            &rt,
+            OTHER,
+            places.find_key(&key(&problem(&rt, OTHER).position)),
+            None,
+        );
     }
     Ok(())
 }
