@@ -69,7 +69,8 @@ def nested(doc, name, groups):
 
 def steps(squares):
     lines = [
-        "// The squares to which each side's gaits step from each square: Black's, then White's, and the gaits in their order.",
+        "// The squares to which each side's gaits step from each square: Black's, then White's, and the",
+        "// gaits in their order.",
         "#[rattlefmt::skip]",
         "pub(crate) static STEPS: [[[u128; 81]; %d]; 2] = [" % len(GAITS),
     ]
@@ -85,7 +86,8 @@ def steps(squares):
 
 def toward():
     lines = [
-        "// The direction from a square to another, by how far the files differ, and then the rows: 8 is not at all, 0 is 8 less.",
+        "// The direction from a square to another, by how far the files differ, and then the rows: 8 is not",
+        "// at all, 0 is 8 less.",
         "#[rattlefmt::skip]",
         "pub(crate) static TOWARD: [[Option<Direction>; 17]; 17] = [",
     ]
@@ -114,8 +116,9 @@ def goes(side, promoted, kind, file, row):
 
 def going():
     lines = [
-        "// Which pieces go from a square to another on an empty board, by how far the files differ, and then the rows, as above: bit",
-        "// 16 * side + 8 * promoted + kind, White being 1, promoted 1, and the kinds in their order.",
+        "// Which pieces go from a square to another on an empty board, by how far the files differ, and then",
+        "// the rows, as above: bit 16 * side + 8 * promoted + kind, White being 1, promoted 1, and the kinds",
+        "// in their order.",
         "#[rattlefmt::skip]",
         "pub(crate) static GOING: [[u32; 17]; 17] = [",
     ]
