@@ -146,8 +146,8 @@ fn ends(rt: &impl Abort, alloc: Global, world: &mut World, number: u32) -> bool 
         if world.worker(number).and_then(Worker::end).is_some() {
             return true;
         }
-        let refused = world.play(alloc, &[Event::Step(number)]);
-        same(rt, "refused", refused, 0);
+        let lost = world.play(alloc, &[Event::Step(number)]);
+        same(rt, "lost", lost, 0);
         if visits_of(world, number) > before {
             return false;
         }

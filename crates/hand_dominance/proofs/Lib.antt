@@ -3,3 +3,4 @@ pub mod Moves
 pub mod Carried
 pub mod Listed
 pub mod Above
+pub mod Keys

@@ -6,14 +6,17 @@
 //! serves other hands (`specs/Dominance.antt`). [`listing_laws`] says what lists of positions bear
 //! out, in both versions: where each has to be listed itself ([`Version::One`]), and where it may
 //! dominate a listed position, or be dominated by one, instead ([`Version::Two`]), so that fewer
-//! entries say as much (`specs/BorneOut.antt`). Takes no memory.
+//! entries say as much (`specs/BorneOut.antt`). [`key_dominates`] tells by keys alone which
+//! position dominates which (`specs/ByKey.antt`). Takes no memory.
 #![tactic(auto)]
 
+mod by_key;
 mod version;
 
 ghost use Rattle.hand_dominance.specs.BorneOut.{BorneOutAbove, BorneOutStays, CoversStays, EscapesWhereListed, HeldStays, NoMateWhereCovered, RanksWhereCovered};
 ghost use Rattle.hand_dominance.specs.Dominance.{DominanceGoesOn, EachDominatesItself, EscapesCarryDown, EvasionsCarryDown, EvasionsServeBelow, MatedCarryUp, MatesCarryUp};
 
+pub use by_key::{board_of, key_dominates, key_laws};
 pub use version::Version;
 
 /// Laws of dominating positions: which dominate which, and to which a mate, and to which an escape

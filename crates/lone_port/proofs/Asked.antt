@@ -1,15 +1,16 @@
 -- What the table does at each request, as a whole.
 use Rattle.std.proofs.Common.{sum, ◌≡◌, ◌<◌, ◌≤◌, ◌+◌, ◌-◌, ℕ, List, [], length, get_or, set, refl, sym, subst, ap, ap₂, ◌∙◌, arith, replicate, inl, inr}
-use Rattle.std.specs.Prelude.{Some, Result, Ok, Err, IfOk, MatchResult, All}
+use Rattle.std.specs.Prelude.{Bool, true, false, Option, Some, IfSome, Result, Ok, Err, IfOk, MatchResult, All}
 use Rattle.std.proofs.lemmas.List.{length-set, set-get_or, get_or_default}
 use Rattle.std.proofs.lemmas.List.Elements.{All-get_or, All-set}
+use Rattle.bit_boards.specs.declared.piece.Side.{Side}
 use Rattle.board_core.specs.declared.keys.Key.{Key}
 use Rattle.pn_numbers.specs.declared.numbers.Numbers.{Numbers}
 use Rattle.notes.specs.declared.words.Kept.TheVariants.{Slot, Unkept}
 use Rattle.notes.specs.declared.words.Seen.{Seen}
 use Rattle.notes.specs.declared.words.Update.{Update}
 use Rattle.table_shard.specs.Entry.{EntryView, AreFor}
-use Rattle.table_shard.specs.Row.{IsRow, Looks, LooksBy, Enters, left}
+use Rattle.table_shard.specs.Row.{IsRow, lent_to, Looks, LooksBy, Enters, left}
 use Rattle.table_shard.specs.Shard.{row_of, with_row, EntersIn}
 use Rattle.table_shard.specs.Pins.{TellsCount}
 use Rattle.table_shard.specs.declared.pins.RowPins.{RowPins}
@@ -23,7 +24,7 @@ use Rattle.visit_log.specs.Sound.{IsSoundUpdate}
 use Rattle.worker_core.specs.Port.{IsBooked, Suits, shown}
 use Rattle.board_core.specs.Board.{Board}
 use Rattle.std.proofs.lemmas.List.Folds.{sum_by-replicate}
-use Rattle.lone_port.specs.Lone.{LonePortView, IsLone, IsLeftIn, Turns, book_of, pins_of, with_pins, pinned, unpinned, alone_at_first, worker_at_first}
+use Rattle.lone_port.specs.Lone.{LonePortView, IsLone, IsLeftIn, Turns, book_of, pins_of, with_pins, pinned, to_whom, unpinned, alone_at_first, worker_at_first}
 use Rattle.lone_port.proofs.Words.{held_entered, held_left, IsOwn}
 use Rattle.lone_port.proofs.Rows.{IsEntered, entered, left_for, looks_may}
 use Rattle.lone_port.proofs.Places.{size_moves, there_moves, there_at}
@@ -54,27 +55,32 @@ tells_standing before after slot count told = told
 -- 2. LOOKING.
 
 -- A look, or that there is no memory for it, is a step.
-pub look_turns : {E : Type 0} (port : LonePortView) (key : Key) (path : List Key) (r : Result Seen E) → IfOk r (Looks (row_of port.rows key) (pins_of port.pins key) key path)
+pub look_turns : {E : Type 0} (port : LonePortView) (key : Key) (path : List Key) (r : Result Seen E) → IfOk r (Looks (to_whom port) (row_of port.rows key) (pins_of port.pins key) key path)
     → Turns port path (Look key) (shown r) port
 look_turns port key path (Ok seen) h = (h, refl)
 look_turns port key path (Err e) h = refl
 
+-- It lends to this attacker alone.
+his : (lends : Bool) (attacker : Side) → IfSome (lent_to lends attacker) (λ side. side ≡ attacker)
+his true attacker = refl
+his false attacker = tt
+
 -- What a look shows may be shown.
 pub look_may : {E : Type 0} (port : LonePortView) (key : Key) (path : List Key) (r : Result Seen E) → IsLone port → All IsRow port.rows
-    → IfOk r (Looks (row_of port.rows key) (pins_of port.pins key) key path) → IfOk r (MayShow port.desk.position.side key path)
+    → IfOk r (Looks (to_whom port) (row_of port.rows key) (pins_of port.pins key) key path) → IfOk r (MayShow port.desk.position.side key path)
 look_may port key path (Ok seen) is rows h =
-    looks_may port.desk.position.side (row_of port.rows key) (pins_of port.pins key) key path seen
+    looks_may port.desk.position.side (to_whom port) (row_of port.rows key) (pins_of port.pins key) key path seen (his port.lends port.desk.position.side)
     (All-get_or IsRow port.rows (place_of key (length port.rows)) [] (place_within key (length port.rows) is.some) rows)
     (All-get_or (All (AreFor port.desk.position.side)) port.rows (place_of key (length port.rows)) [] (place_within key (length port.rows) is.some) is.notes)
     h
 look_may port key path (Err e) is rows h = tt
 
 -- A look by counts that stand is one by them, unless there is no memory for it.
-pub looks_in : {P E : Type 0} (counts_of : P → List ℕ) (told : P → ℕ → ℕ → P → Type 0) → TellsStanding counts_of told → (row : List EntryView) (key : Key) (path : List Key)
-    (before after : P) (r : Result Seen E) → IsRow row → MatchResult r (λ seen. LooksBy told row key path before seen after) (λ error. before ≡ after)
-    → IfOk r (Looks row (counts_of before) key path)
-looks_in counts_of told how row key path before after (Ok seen) is by = looks_standing counts_of told how row key path before after seen is by
-looks_in counts_of told how row key path before after (Err error) is by = tt
+pub looks_in : {P E : Type 0} (counts_of : P → List ℕ) (told : P → ℕ → ℕ → P → Type 0) → TellsStanding counts_of told → (to : Option Side) (row : List EntryView) (key : Key)
+    (path : List Key) (before after : P) (r : Result Seen E) → IsRow row → MatchResult r (λ seen. LooksBy told to row key path before seen after) (λ error. before ≡ after)
+    → IfOk r (Looks to row (counts_of before) key path)
+looks_in counts_of told how to row key path before after (Ok seen) is by = looks_standing counts_of told how to row key path before after seen is by
+looks_in counts_of told how to row key path before after (Err error) is by = tt
 
 -- The row of a key is kept as rows are.
 pub row_kept : (port : LonePortView) (key : Key) → IsLone port → All IsRow port.rows → IsRow (row_of port.rows key)
@@ -307,9 +313,9 @@ leave_books port after key update p n slot counts is long at within its mine lea
 -- 6. AT FIRST.
 
 -- A worker in the search of a problem may begin to work over the table and the desk of it.
-pub alone_suits : (port : LonePortView) (problem : Board) (expansions room rows number : ℕ) → port ≡ alone_at_first problem expansions room rows
+pub alone_suits : (port : LonePortView) (problem : Board) (expansions room rows number : ℕ) (lends : Bool) → port ≡ alone_at_first problem expansions room rows lends
     → Suits (worker_at_first problem number) (book_of port)
-alone_suits port problem expansions room rows number is = subst (λ (q : LonePortView). Suits (worker_at_first problem number) (book_of q)) (sym is) (record {
+alone_suits port problem expansions room rows number lends is = subst (λ (q : LonePortView). Suits (worker_at_first problem number) (book_of q)) (sym is) (record {
   problem = refl;
   going = inl refl;
   held = λ word. omega arith;

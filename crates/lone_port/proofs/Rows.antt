@@ -1,6 +1,6 @@
 -- What entering a key and leaving a slot does to a row, its counts and its notes.
 use Rattle.std.proofs.Common.{◌≡◌, ◌<◌, ◌≤◌, ◌-◌, ◌++◌, ℕ, zero, suc, Bool, true, false, List, [], ◌∷◌, length, get_or, drop, inl, inr, sym, subst, ap, ◌∙◌, arith}
-use Rattle.std.specs.Prelude.{Some, All, IsSomeAnd, slice_get, if◌then◌else◌, ◌||◌, nat_lt}
+use Rattle.std.specs.Prelude.{Option, Some, None, IfSome, All, IsSomeAnd, slice_get, if◌then◌else◌, ◌||◌, nat_lt}
 use Rattle.std.proofs.lemmas.List.{length-set, length_push}
 use Rattle.std.proofs.lemmas.List.Elements.{All-nil, All-cons, All-head, All-tail, All-push, All-set, All-drop}
 use Rattle.bit_boards.specs.declared.piece.Side.{Side}
@@ -9,15 +9,16 @@ use Rattle.pn_numbers.specs.declared.numbers.Numbers.{Numbers}
 use Rattle.pn_numbers.specs.Numbers.{IsOpen}
 use Rattle.path_tags.specs.Tag.{IsWithin}
 use Rattle.notes.specs.Derivation.{Derivation, attacker_of, tag_of}
+use Rattle.notes.specs.Lending.{IsLentTo}
 use Rattle.notes.specs.declared.words.Kept.{Kept}
 use Rattle.notes.specs.declared.words.Kept.TheVariants.{Slot, Unkept}
 use Rattle.notes.specs.declared.words.Seen.{Seen}
-use Rattle.notes.specs.declared.words.Seen.TheVariants.{New, Open, Solved}
+use Rattle.notes.specs.declared.words.Seen.TheVariants.{New, Open, Solved, Lent}
 use Rattle.notes.specs.declared.words.Update.{Update}
 use Rattle.notes.specs.declared.words.Update.TheVariants.{Numbers as SetNumbers, Note as AddNote, Nothing as ChangeNothing}
 use Rattle.table_shard.specs.Entry.{EntryView, AreFor, IsEntry, IsFirstWithin, IsFactAbout, Shows, is_closed, has_closed, noted, updated}
-use Rattle.table_shard.specs.Row.{HoldsAt, IsRow, Looks, Enters, IsGivenUp, fresh, left}
-use Rattle.table_shard.proofs.Offered.{holds_end, holds_within, holds_put}
+use Rattle.table_shard.specs.Row.{HoldsAt, IsLent, IsRow, Looks, Enters, IsGivenUp, fresh, left}
+use Rattle.table_shard.proofs.Offered.{holds_end, holds_within, holds_put, lent_fact}
 use Rattle.visit_log.specs.Round.{MayShow}
 use Rattle.visit_log.specs.Sound.{IsSoundUpdate}
 
@@ -115,13 +116,16 @@ at_slot (x ∷ xs) zero P Q all h = (x, All-head P x xs all, h)
 at_slot (x ∷ xs) (suc slot) P Q all h = at_slot xs slot P Q (All-tail P x xs all) h
 
 -- What a row shows may be shown.
-pub looks_may : (attacker : Side) (row : List EntryView) (counts : List ℕ) (key : Key) (path : List Key) (seen : Seen) → IsRow row → All (AreFor attacker) row
-    → Looks row counts key path seen → MayShow attacker key path seen
-looks_may attacker row counts key path New is all h = tt
-looks_may attacker row counts key path (Open numbers below) is all (slot, h) =
+pub looks_may : (attacker : Side) (to : Option Side) (row : List EntryView) (counts : List ℕ) (key : Key) (path : List Key) (seen : Seen) → IfSome to (λ side. side ≡ attacker)
+    → IsRow row → All (AreFor attacker) row → Looks to row counts key path seen → MayShow attacker key path seen
+looks_may attacker to row counts key path New his is all h = tt
+looks_may attacker (Some side) row counts key path (Lent note) his is all (unsolved, lent) =
+    subst (λ (s : Side). IsLentTo s key note) his (lent_fact side key row note is.entries lent)
+looks_may attacker None row counts key path (Lent note) his is all (unsolved, lent) = absurd (let no : Some note ≡ None = lent in cc)
+looks_may attacker to row counts key path (Open numbers below) his is all ((slot, h), lent) =
     let found = at_slot row slot IsEntry (λ (e : EntryView). (e.key ≡ key) × Shows e path (get_or counts slot 0) (Open numbers below)) is.entries h in
     subst IsOpen (sym found.2.1.1) found.1.numbers
-looks_may attacker row counts key path (Solved note) is all (slot, h) =
+looks_may attacker to row counts key path (Solved note) his is all (slot, h) =
     let found = at_slot row slot IsEntry (λ (e : EntryView). (e.key ≡ key) × Shows e path (get_or counts slot 0) (Solved note)) is.entries h in
     let too = at_slot row slot (AreFor attacker) (λ (e : EntryView). (e.key ≡ key) × Shows e path (get_or counts slot 0) (Solved note)) all h in
     let fact = first_one (IsFactAbout found.0.key) path found.0.notes note found.1.facts found.2.1 in

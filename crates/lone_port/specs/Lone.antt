@@ -1,13 +1,14 @@
 -- A table, the counts of workers below its slots, and a desk: how a worker alone sees them, and
 -- what each request does with them.
 use Rattle.std.specs.Prelude.{◌≡◌, ◌<◌, ◌+◌, ◌-◌, ◌/◌, ◌%◌, ◌⊎◌, ℕ, Bool, true, false, List, [], Option, Some, None, All, length, replicate, slice_set, slice_index, slice_index_or, sum, sum_by, if◌then◌else◌}
+use Rattle.bit_boards.specs.declared.piece.Side.{Side}
 use Rattle.board_core.specs.Board.{Board}
 use Rattle.board_core.specs.declared.keys.Key.{Key}
 use Rattle.notes.specs.declared.words.Kept.{Kept}
 use Rattle.notes.specs.declared.words.Kept.TheVariants.{Slot, Unkept}
 use Rattle.notes.specs.declared.words.Update.{Update}
 use Rattle.table_shard.specs.Entry.{EntryView, AreFor}
-use Rattle.table_shard.specs.Row.{HoldsAt, Lacks, Looks}
+use Rattle.table_shard.specs.Row.{HoldsAt, Lacks, Looks, lent_to}
 use Rattle.table_shard.specs.Shard.{row_of, EntersIn, IsLeftAt}
 use Rattle.table_shard.specs.Spot.{place_of, word_of}
 use Rattle.unit_desk.specs.Desk.{DeskView, Draws, Claims, first_posted, fresh}
@@ -23,18 +24,27 @@ use Rattle.worker_core.specs.Port.{Book, ends_by}
 -- 1. WHAT IT IS.
 
 -- The rows of the table, how many visits are below each slot of each row, the desk, whether it goes
--- on (it said neither that all is done or spent nor that there is no room), and whether it says
--- that the worker is to stop.
+-- on (it said neither that all is done or spent nor that there is no room), whether it says that
+-- the worker is to stop, and whether the table lends what it knows of other hands.
 pub record LonePortView : Type 0 where
   pub rows : List (List EntryView)
   pub pins : List (List ℕ)
   pub desk : DeskView
   pub going : Bool
   pub stops : Bool
+  pub lends : Bool
 
--- With so many rows, the desk of a problem and its limits, before anything is asked.
-abbrev pub alone_at_first : Board → ℕ → ℕ → ℕ → LonePortView
-alone_at_first problem expansions room its_rows = record { rows = replicate its_rows []; pins = replicate its_rows (replicate 8 0); desk = fresh problem expansions room; going = true; stops = false }
+-- With so many rows, the desk of a problem and its limits, before anything is asked; its table
+-- lends or not.
+abbrev pub alone_at_first : Board → ℕ → ℕ → ℕ → Bool → LonePortView
+alone_at_first problem expansions room its_rows it_lends = record {
+  rows = replicate its_rows [];
+  pins = replicate its_rows (replicate 8 0);
+  desk = fresh problem expansions room;
+  going = true;
+  stops = false;
+  lends = it_lends;
+}
 
 -- Opened for a worker's turn: it goes on, and says so whether the worker is to stop.
 abbrev pub opened : LonePortView → Bool → LonePortView
@@ -68,6 +78,10 @@ abbrev pub IsBelow : List (List EntryView) → List (List ℕ) → Key → ℕ �
 IsBelow rows pins key count =
     ((slot : ℕ) × HoldsAt (row_of rows key) slot key × (count ≡ slice_index (pins_of pins key) slot))
     ⊎ (Lacks (row_of rows key) key × (count ≡ 0))
+
+-- To whom its table lends: to the problem's attacker, where it lends at all.
+abbrev pub to_whom : LonePortView → Option Side
+to_whom port = lent_to port.lends port.desk.position.side
 
 -- What it tells of itself.
 abbrev pub book_of : LonePortView → Book
@@ -111,7 +125,7 @@ Turns before path Draw (Some (Drew draw)) after =
 Turns before path Claim (Some (Claimed claim)) after =
     Claims before.desk claim after.desk × (after ≡ record before { desk = after.desk; going = goes_on (Claimed claim) before.going })
 Turns before path (Look key) (Some (Looked seen)) after =
-    Looks (row_of before.rows key) (pins_of before.pins key) key path seen × (after ≡ before)
+    Looks (to_whom before) (row_of before.rows key) (pins_of before.pins key) key path seen × (after ≡ before)
 Turns before path (Look key) None after = after ≡ before
 Turns before path (Enter key numbers) (Some (Entered kept)) after =
     EntersIn before.rows (pins_of before.pins key) key numbers kept after.rows

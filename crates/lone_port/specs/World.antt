@@ -40,7 +40,7 @@ workers_from problem first (suc more) = worker_at_first problem first ∷ worker
 -- The world of a problem and settings before anything happens.
 abbrev pub world_at_first : Board → SettingsView → World
 world_at_first problem s = record {
-  port = alone_at_first problem s.expansions s.room s.rows;
+  port = alone_at_first problem s.expansions s.room s.rows s.lends;
   workers = workers_from problem 1 s.workers;
   raised = replicate s.workers false;
 }

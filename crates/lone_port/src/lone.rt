@@ -1,11 +1,11 @@
 // The table and the desk of a search with one worker.
 ghost use Rattle.std.specs.Prelude.{◌≡◌, ℕ, IfOk, All, option_copied, length};
-ghost use Rattle.table_shard.specs.Row.{IsRow};
+ghost use Rattle.table_shard.specs.Row.{IsRow, lent_to};
 ghost use Rattle.worker_core.specs.Port.{Suits};
 ghost use Rattle.lone_port.specs.Lone.{IsLone, IsBelow, alone_at_first, opened, worker_at_first, book_of};
 ghost use Rattle.unit_desk.specs.Desk.{IsDesk};
 
-use board_core::Key;
+use board_core::{Key, Side};
 use notes::{Draw, Kept, Note, RoomAnswer, Seen, Update};
 use path_tags::Path;
 use pn_numbers::Numbers;
@@ -31,6 +31,8 @@ pub struct LonePort {
     is_going: bool,
     // Whether it says that the worker is to stop.
     stops: bool,
+    // Whether the table lends what it knows of other hands.
+    lends: bool,
 }
 
 impl Model for LonePort {
@@ -42,15 +44,22 @@ impl Model for LonePort {
 
     ghost coded = { Prim.hlevel (codes, facts.the_row.coded) };
 
-    ghost view = { λ p. record { rows = p.shard; pins = p.pins.items; desk = p.desk; going = p.is_going; stops = p.stops } };
+    ghost view = { λ p. record { rows = p.shard; pins = p.pins.items; desk = p.desk; going = p.is_going; stops = p.stops; lends = p.lends } };
 
-    ghost invariant = { λ p. IsLone (record { rows = p.shard; pins = p.pins.items; desk = p.desk; going = p.is_going; stops = p.stops }) };
+    ghost invariant = { λ p. IsLone (record { rows = p.shard; pins = p.pins.items; desk = p.desk; going = p.is_going; stops = p.stops; lends = p.lends }) };
+}
+
+// To whom a table lends: to the attacker of the desk's problem, where it lends at all.
+fn to_whom(lends: bool, desk: &Desk) -> Option<Side>
+    ensures { result ≡ lent_to lends desk.now.position.side }
+{
+    if lends { Some(desk.attacker()) } else { None }
 }
 
 impl LonePort {
-    /// The table and the desk of a problem, with the rows, the visits and the room of the settings;
-    /// nothing is known, drawn, claimed or posted. Takes all the table's memory but for that of the
-    /// notes. Errors: want of memory alone.
+    /// The table and the desk of a problem, with the rows, the visits and the room of the settings,
+    /// which say too whether the table lends; nothing is known, drawn, claimed or posted. Takes all
+    /// the table's memory but for that of the notes. Errors: want of memory alone.
     #[tactic(auto, using(crate::proofs::Asked::alone_suits))]
     pub fn make(
         alloc: Global,
@@ -59,7 +68,7 @@ impl LonePort {
     ) -> Result<LonePort, AllocError>
         ensures made { IfOk result (λ port. port
             ≡ alone_at_first problem.now.position settings.now.expansions settings.now.room
-            settings.now.rows) }
+            settings.now.rows settings.now.lends) }
         // A worker in the search of the problem may begin to work over it.
         ensures suits { IfOk result (λ port. (number : ℕ)
             → Suits (worker_at_first problem.now.position number) (book_of port)) }
@@ -76,18 +85,19 @@ impl LonePort {
             desk: Desk::make(problem, settings),
             is_going: true,
             stops: false,
+            lends: settings.lends,
         })
     }
 
-    /// Begins anew with another problem, with the visits and the room of these settings and as many
-    /// rows as before: nothing is known, drawn, claimed or posted, as where it was just made. In
-    /// the time of the rows that had entries. Takes no memory.
+    /// Begins anew with another problem, with the visits and the room of these settings, lending as
+    /// they say, and with as many rows as before: nothing is known, drawn, claimed or posted, as
+    /// where it was just made. In the time of the rows that had entries. Takes no memory.
     #[tactic(auto, using(crate::proofs::Asked::alone_suits))]
     pub fn renew(&mut self, problem: &Problem, settings: &Settings)
         requires { length self.old.rows ≡ settings.now.rows }
         ensures made { self.new
             ≡ alone_at_first problem.now.position settings.now.expansions settings.now.room
-            settings.now.rows }
+            settings.now.rows settings.now.lends }
         // A worker in the search of the problem may begin to work over it.
         ensures suits { (number : ℕ)
             → Suits (worker_at_first problem.now.position number) (book_of self.new) }
@@ -96,6 +106,7 @@ impl LonePort {
         self.desk = Desk::make(problem, settings);
         self.is_going = true;
         self.stops = false;
+        self.lends = settings.lends;
     }
 
     /// Opens it for a turn of a worker that doesn't wind up: it goes on, and says so whether the
@@ -204,7 +215,8 @@ impl Port for LonePort {
         let mut pins = RowPins {
             counts: &self.pins[spot.place],
         };
-        self.shard.look(spot, key, path, &mut pins)
+        let to = to_whom(self.lends, &self.desk);
+        self.shard.look(to, spot, key, path, &mut pins)
     }
 
     fn enter(&mut self, key: &Key, numbers: Numbers) -> Kept {

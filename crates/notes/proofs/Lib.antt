@@ -1,5 +1,6 @@
 mod Carrying
 mod Gathered
+mod Lent
 mod Meeting
 mod Truth
 pub mod Offered

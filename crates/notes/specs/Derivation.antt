@@ -127,6 +127,11 @@ abbrev mutual
   version_under none_under = One
   version_under (one_under note notes) = later (version_in note) (version_under notes)
 
+-- A note, carried to another position: it concludes the same there, for this attacker, is as high,
+-- and depends on no repetition.
+abbrev pub carried : Side → Board → Derivation → Derivation
+carried attacker b note = note_over (Carry (conclusion_of note)) attacker b [] (height_of note) (note ∷ [])
+
 -- The note itself; where the rule carries a note, that one's source.
 abbrev pub source_by : Rule → Derivation → Derivation → Derivation
 source_by (Carry conclusion) note source = source

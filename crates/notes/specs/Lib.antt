@@ -1,6 +1,7 @@
 -- Notes: what they are made of, when they are valid, and what they say.
 pub mod Code
 pub mod Derivation
+pub mod Lending
 pub mod Steps
 pub mod Truth
 pub mod Valid

@@ -1,8 +1,7 @@
 // The rule that carries a note to another position of the same board.
-ghost use Rattle.std.specs.Prelude.{◌≡◌, [], ◌∷◌, IfOk};
-ghost use Rattle.notes.specs.Derivation.{note_over, conclusion_of, height_of};
+ghost use Rattle.std.specs.Prelude.{◌≡◌, IfOk};
+ghost use Rattle.notes.specs.Derivation.{carried};
 ghost use Rattle.notes.specs.Valid.{MayBeCarried};
-ghost use Rattle.notes.specs.declared.rule.Rule.TheVariants.{Carry};
 
 use crate::lists::shared;
 use crate::{Note, Rule};
@@ -24,8 +23,7 @@ pub fn carry(
 ) -> Result<Note, AllocError>
     requires { MayBeCarried problem.now.position.side position.now note.now }
     ensures { IfOk result (λ made. made
-        ≡ note_over (Carry (conclusion_of note.now)) problem.now.position.side position.now []
-        (height_of note.now) (note.now ∷ [])) }
+        ≡ carried problem.now.position.side position.now note.now) }
 {
     note.laws();
     let under = shared(alloc, slice::from_ref(note))?;

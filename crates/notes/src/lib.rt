@@ -7,11 +7,14 @@
 //! depends (a form of this project's own); with it, what it says is an absolute statement: from its
 //! position the defender escapes, or gets to one of the tag's positions. Contracts see a note as a
 //! tree (`specs/Derivation.antt`); its type keeps that every step of it meets its rule
-//! (`specs/Valid.antt`); [`Note::laws`] says what is then true (`specs/Truth.antt`).
+//! (`specs/Valid.antt`); [`Note::laws`] says what is then true (`specs/Truth.antt`). A note that
+//! depends on no repetition may be carried to other hands ([`carry`]), and lent by keys alone
+//! ([`may_be_lent`], `specs/Lending.antt`).
 #![tactic(auto)]
 
 mod carried;
 mod escapes;
+mod lending;
 mod lists;
 mod mates;
 mod note;
@@ -20,6 +23,7 @@ mod words;
 
 pub use carried::carry;
 pub use escapes::{escape_all, escape_by, escape_end, escape_repeat};
+pub use lending::{lending_laws, may_be_lent};
 pub use mates::{mate_all, mate_by, mate_end};
 pub use note::{HEIGHT_LIMIT, Note, NoteEnd, note_laws};
 pub use rule::{Conclusion, Rule};

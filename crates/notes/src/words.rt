@@ -36,6 +36,9 @@ pub enum Seen {
     },
     /// It is solved on the worker's path, as this note says.
     Solved(Note),
+    /// It has no note of the position that holds on the worker's path, but this one of another
+    /// position, which may be carried to it: its conclusion holds on every path.
+    Lent(Note),
 }
 
 /// What a worker tells the table when it leaves a position.

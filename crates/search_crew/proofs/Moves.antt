@@ -111,10 +111,10 @@ by_dark before key after h =
     sym (ap (λ (s : RowSeatView). s.seat.counts) some.2.1)
 
 by_look : (before : TablePortView) (key : Key) (path : List Key) (seen : Seen) (after : TablePortView)
-    → Ran before key after (λ seat old new last. (new ≡ old) × LooksBy Loads (row_of old key) key path seat seen last) → after.seat.seat.counts ≡ before.seat.seat.counts
+    → Ran before key after (λ seat old new last. (new ≡ old) × LooksBy Loads before.cut.to (row_of old key) key path seat seen last) → after.seat.seat.counts ≡ before.seat.seat.counts
 by_look before key path seen after h =
-    let some = ran_at before key after (λ seat old new last. (new ≡ old) × LooksBy Loads (row_of old key) key path seat seen last) h in
-    (same_looked {E = Bool} (row_of some.0 key) key path (at_row before.seat (first_word before.cut key)) after.seat (Rattle.std.specs.Prelude.Ok seen) some.2.1).counts
+    let some = ran_at before key after (λ seat old new last. (new ≡ old) × LooksBy Loads before.cut.to (row_of old key) key path seat seen last) h in
+    (same_looked {E = Bool} before.cut.to (row_of some.0 key) key path (at_row before.seat (first_word before.cut key)) after.seat (Rattle.std.specs.Prelude.Ok seen) some.2.1).counts
 
 added : (between last : RowSeatView) (kept : Kept) → AddsKept between kept last → last.seat.counts ≡ between.seat.counts
 added between last Unkept h = ap (λ (s : RowSeatView). s.seat.counts) h

@@ -6,6 +6,7 @@ ghost use Rattle.search_gate.specs.Polls.{ArePolled};
 ghost use Rattle.search_gate.specs.Stop.{Signal};
 ghost use Rattle.search_limits.specs.Settings.{settings_in};
 ghost use Rattle.search_pool.specs.End.{IsSolution};
+ghost use Rattle.table_shard.specs.Row.{lent_to};
 ghost use Rattle.visit_log.specs.declared.words.WorkEnd.TheVariants.{Posted, Spent, NoRoom};
 ghost use Rattle.word_desk.specs.WordDesk.{unused};
 ghost use Rattle.worker_counts.specs.declared.view.TheConstants.{MOST_SEATS};
@@ -32,12 +33,14 @@ use worker_core::Worker;
 use worker_counts::CountSeat;
 
 // What all workers of a search stand on: its problem, whose attacker is the job's, how many they
-// are, the table, the desk, the gate, and the handle by which they wait at a lock.
+// are, the table and whether it lends, the desk, the gate, and the handle by which they wait at a
+// lock.
 #[derive(Drop)]
 struct Ground<'a, J: Job, K: Job, R: Wait, G: Gate> {
     problem: &'a Problem,
     count: u32,
     table: &'a SharedTable<J, K>,
+    lends: bool,
     desk: &'a WordDesk,
     gate: &'a G,
     wait: &'a R,
@@ -48,6 +51,18 @@ struct Ground<'a, J: Job, K: Job, R: Wait, G: Gate> {
 
 // A lane of a search by threads.
 type LockedLane<'a, J, R, G, T> = Lane<'a, J, LockedRows<'a, J, R>, G, T>;
+
+// To whom a table lends: to the problem's attacker, where it lends at all.
+fn to_whom(lends: bool, problem: &Problem) -> Option<Side>
+    ensures to { result ≡ lent_to lends problem.now.position.side }
+    ensures his { IfSome result (λ side. side ≡ problem.now.position.side) }
+{
+    if lends {
+        Some(problem.attacker())
+    } else {
+        None
+    }
+}
 
 // The worker of this number before it asks anything, with this stop, and seats that are made of
 // these.
@@ -73,6 +88,7 @@ fn make_lane<'a, J: Job, K: Job, R: Wait, G: Gate, T: Stop + Drop>(
     let cut = Cut {
         shards: ground.table.shards(),
         own: ground.table.own(),
+        to: to_whom(ground.lends, ground.problem),
     };
     let words = ground.table.words();
     let seats = Seats {
@@ -255,6 +271,7 @@ fn search_as<
         problem,
         count: settings.workers,
         table: &table,
+        lends: settings.lends,
         desk: &desk,
         gate,
         wait: rt,

@@ -12,9 +12,9 @@ use Rattle.search_limits.specs.declared.faults.SettingsFault.TheVariants.{OutOfR
 use Rattle.search_limits.specs.declared.faults.Size.{Size}
 use Rattle.search_limits.specs.declared.faults.Size.TheVariants.{Rows as TheRows, Shards as TheShards}
 
--- The numbers of settings.
+-- The numbers of settings, and whether the table lends.
 abbrev pub settings_in : Settings → SettingsView
-settings_in s = record { workers = s.workers; expansions = s.expansions; room = s.room; rows = s.rows; shards = s.shards }
+settings_in s = record { workers = s.workers; expansions = s.expansions; room = s.room; rows = s.rows; shards = s.shards; lends = s.lends }
 
 -- This number is the first that is outside its range.
 abbrev pub IsFirstOutside : Setting → SettingsView → Type 0

@@ -1,5 +1,5 @@
 -- Which numbers make settings, without the type that keeps them.
-use Rattle.std.specs.Prelude.{ℕ, ◌≤◌}
+use Rattle.std.specs.Prelude.{ℕ, Bool, true, ◌≤◌}
 use Rattle.std.specs.Int.{IsPowerOfTwo}
 use Rattle.search_limits.specs.declared.expansions.TheConstants.{MOST_EXPANSIONS}
 use Rattle.search_limits.specs.declared.settings.TheConstants.{MOST_WORKERS, MOST_ROOM, LEAST_ROWS, MOST_ROWS, MOST_SHARDS}
@@ -8,18 +8,19 @@ use Rattle.search_limits.specs.declared.settings.TheConstants.{MOST_WORKERS, MOS
 abbrev pub IsFromTo : ℕ → ℕ → ℕ → Type 0
 IsFromTo low high n = (low ≤ n) × (n ≤ high)
 
--- The five numbers of a search.
+-- The five numbers of a search, and whether its table lends what it knows of other hands.
 pub record SettingsView : Type 0 where
   pub workers : ℕ
   pub expansions : ℕ
   pub room : ℕ
   pub rows : ℕ
   pub shards : ℕ
+  pub lends : Bool
 
--- Five numbers, as those of a search.
+-- Five numbers, as those of a search whose table lends.
 abbrev pub numbers_of : ℕ → ℕ → ℕ → ℕ → ℕ → SettingsView
 numbers_of its_workers its_expansions its_room its_rows its_shards =
-    record { workers = its_workers; expansions = its_expansions; room = its_room; rows = its_rows; shards = its_shards }
+    record { workers = its_workers; expansions = its_expansions; room = its_room; rows = its_rows; shards = its_shards; lends = true }
 
 -- Each number lies in its range.
 pub record AreInRange (n : SettingsView) : Type 0 where

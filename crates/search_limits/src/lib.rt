@@ -1,9 +1,10 @@
 //! How much a search may use, and why it ends without an answer.
 //!
-//! The [`Settings`] of a search are five numbers, each in its range; numbers that make none are
-//! refused with a [`SettingsFault`]. A search that ends without an answer names its [`Cause`].
-//! Words, desks, tables, searches and surveys all speak of these, so they stand below all of them,
-//! and each of their limits stands here once.
+//! The [`Settings`] of a search are five numbers, each in its range, and whether its table lends
+//! what it knows of other hands; numbers that make none are refused with a [`SettingsFault`]. A
+//! search that ends without an answer names its [`Cause`]. Words, desks, tables, searches and
+//! surveys all speak of these, so they stand below all of them, and each of their limits stands
+//! here once.
 #![tactic(auto)]
 
 mod cause;

@@ -1,5 +1,5 @@
 // Settings are made of numbers that pass each test.
-ghost use Rattle.std.specs.Prelude.{◌≡◌, ◌↔◌, IsTrue, IsOk, IfOk, IfErr, IfSome, IfNone};
+ghost use Rattle.std.specs.Prelude.{◌≡◌, ◌↔◌, false, IsTrue, IsOk, IfOk, IfErr, IfSome, IfNone};
 ghost use Rattle.std.specs.Int.{IsPowerOfTwo};
 ghost use Rattle.search_limits.specs.Sizes.{IsFromTo, AreInRange, AreSound, numbers_of};
 ghost use Rattle.search_limits.specs.Settings.{FailFirst, IsFirstOutside, PowersHaveOneBit, settings_in};
@@ -10,10 +10,10 @@ use crate::{
 };
 
 impl Settings {
-    /// Settings of these numbers; refused exactly where one of the tests fails, with the first that
-    /// does: the workers, the expansions, the room, the rows and the shards lie in their ranges,
-    /// the rows are a power of two, the shards are one, and there are no more shards than rows.
-    /// Takes no memory.
+    /// Settings of these numbers, for a table that lends; refused exactly where one of the tests
+    /// fails, with the first that does: the workers, the expansions, the room, the rows and the
+    /// shards lie in their ranges, the rows are a power of two, the shards are one, and there are
+    /// no more shards than rows. Takes no memory.
     pub fn new(
         workers: u32,
         expansions: u64,
@@ -45,7 +45,23 @@ impl Settings {
             room,
             rows,
             shards,
+            lends: true,
         })
+    }
+
+    /// The same numbers, for a table that lends nothing: a search with these carries no note from
+    /// one hand to another. Takes no memory.
+    pub fn lending_nothing(self) -> Settings
+        ensures { settings_in result ≡ record (settings_in self) { lends = false } }
+    {
+        Settings {
+            workers: self.workers,
+            expansions: self.expansions,
+            room: self.room,
+            rows: self.rows,
+            shards: self.shards,
+            lends: false,
+        }
     }
 }
 

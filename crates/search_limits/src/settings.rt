@@ -24,8 +24,9 @@ pub const MOST_SHARDS: u64 = 256;
 /// The parts of a table where nothing is said of them, if it has as many rows.
 pub const DEFAULT_SHARDS: u64 = 64;
 
-/// The numbers that a search is run with. Each lies in its range, the rows and the shards are
-/// powers of two, and there are no more shards than rows.
+/// The numbers that a search is run with, and whether its table lends what it knows of other hands.
+/// Each number lies in its range, the rows and the shards are powers of two, and there are no more
+/// shards than rows.
 #[derive(Clone, Copy, PartialEq, Eq, Debug)]
 pub struct Settings {
     /// Workers that search, 1 to [`MOST_WORKERS`].
@@ -39,6 +40,8 @@ pub struct Settings {
     pub rows: u64,
     /// Parts of the table that are locked each by itself, a power of two from 1 to [`MOST_SHARDS`].
     pub shards: u64,
+    /// Whether the table lends what it knows of other hands on the same board.
+    pub lends: bool,
     pub ghost workers_in_range: { IsFromTo 1 MOST_WORKERS workers },
     pub ghost expansions_in_range: { IsFromTo 1 MOST_EXPANSIONS expansions },
     pub ghost room_in_range: { IsFromTo 1 MOST_ROOM room },

@@ -20,7 +20,7 @@ use Rattle.visit_log.specs.declared.words.Request.{Request}
 use Rattle.visit_log.specs.declared.words.Request.TheVariants.{Poll, Draw, Claim, Look, Enter, Leave, Post, End}
 use Rattle.visit_log.specs.declared.words.Reply.{Reply}
 use Rattle.visit_log.specs.declared.words.Reply.TheVariants.{Poll as Polled, Draw as Drew, Claim as Claimed, Look as Looked, Enter as Entered, Leave as LeftIt, Post as PostedIt}
-use Rattle.lone_port.specs.Lone.{LonePortView, Turns, pins_of, pinned, unpinned, goes_on, IsLeftIn}
+use Rattle.lone_port.specs.Lone.{LonePortView, Turns, pins_of, pinned, to_whom, unpinned, goes_on, IsLeftIn}
 use Rattle.search_pool.proofs.Entering.{AreApartIn, enters_apart, left_apart, rows_apart, looks_once, enters_once}
 
 -- 1. THE DESK.
@@ -97,7 +97,7 @@ turns_once before path Claim (Claimed d) (Claimed e) one two apart h k =
 turns_once before path Claim (Claimed d) b one two apart h k = absurd k
 turns_once before path Claim a b one two apart h k = absurd h
 turns_once before path (Look key) (Looked s) (Looked t) one two apart h k =
-    (ap Looked (looks_once (row_of before.rows key) (pins_of before.pins key) key path s t (apart (place_of key (length before.rows))) h.0 k.0), h.1 ∙ sym k.1)
+    (ap Looked (looks_once (to_whom before) (row_of before.rows key) (pins_of before.pins key) key path s t (apart (place_of key (length before.rows))) h.0 k.0), h.1 ∙ sym k.1)
 turns_once before path (Look key) (Looked s) b one two apart h k = absurd k
 turns_once before path (Look key) a b one two apart h k = absurd h
 turns_once before path (Enter key numbers) (Entered kept) (Entered other) one two apart h k =

@@ -33,7 +33,7 @@ nothing_said : (says : Exchange → Bool) → WasSaid says [] → ⊥
 nothing_said says w = let low = w.1.1 in omega (arith, low)
 
 at_first : (problem : Board) (s : SettingsView) (signal : Signal)
-    → IsUnderWay problem s signal signal (alone_at_first problem s.expansions s.room s.rows) (worker_at_first problem 1)
+    → IsUnderWay problem s signal signal (alone_at_first problem s.expansions s.room s.rows s.lends) (worker_at_first problem 1)
 at_first problem s signal = record {
   schedule = [];
   log = [];
@@ -58,17 +58,17 @@ at_first problem s signal = record {
 }
 
 -- A search with one worker is under way before anything happens.
-pub begun : (problem : Board) (s : SettingsView) (signal : Signal) (port : LonePortView) (worker : WorkerView) → port ≡ alone_at_first problem s.expansions s.room s.rows
+pub begun : (problem : Board) (s : SettingsView) (signal : Signal) (port : LonePortView) (worker : WorkerView) → port ≡ alone_at_first problem s.expansions s.room s.rows s.lends
     → worker ≡ worker_at_first problem 1 → IsWatched problem s signal signal port worker
 begun problem s signal port worker ep ew =
     subst (λ (p : LonePortView). IsWatched problem s signal signal p worker) (sym ep)
-    (subst (IsWatched problem s signal signal (alone_at_first problem s.expansions s.room s.rows)) (sym ew) (true, false, at_first problem s signal))
+    (subst (IsWatched problem s signal signal (alone_at_first problem s.expansions s.room s.rows s.lends)) (sym ew) (true, false, at_first problem s signal))
 
 -- And had all that was given: nothing.
-pub had_nothing : (problem : Board) (s : SettingsView) (port : LonePortView) (worker : WorkerView) → port ≡ alone_at_first problem s.expansions s.room s.rows
+pub had_nothing : (problem : Board) (s : SettingsView) (port : LonePortView) (worker : WorkerView) → port ≡ alone_at_first problem s.expansions s.room s.rows s.lends
     → worker ≡ worker_at_first problem 1 → HadAll port worker
 had_nothing problem s port worker ep ew =
-    subst (λ (p : LonePortView). HadAll p worker) (sym ep) (subst (HadAll (alone_at_first problem s.expansions s.room s.rows)) (sym ew) (refl, refl))
+    subst (λ (p : LonePortView). HadAll p worker) (sym ep) (subst (HadAll (alone_at_first problem s.expansions s.room s.rows s.lends)) (sym ew) (refl, refl))
 
 -- 2. THE END.
 

@@ -4,17 +4,18 @@ use Rattle.std.proofs.Common.{◌≡◌, ◌⊎◌, ◌++◌, ℕ, zero, suc, Li
 use Rattle.std.specs.Prelude.{Option, Some, None, IsSomeAnd, slice_get}
 use Rattle.std.proofs.lemmas.Bool.{cases_lt}
 use Rattle.std.proofs.lemmas.Option.{same_Some}
+use Rattle.bit_boards.specs.declared.piece.Side.{Side}
 use Rattle.board_core.specs.declared.keys.Key.{Key}
 use Rattle.pn_numbers.specs.declared.numbers.Numbers.{Numbers}
 use Rattle.notes.specs.Derivation.{Derivation}
 use Rattle.notes.specs.declared.words.Kept.{Kept}
 use Rattle.notes.specs.declared.words.Kept.TheVariants.{Slot, Unkept}
 use Rattle.notes.specs.declared.words.Seen.{Seen}
-use Rattle.notes.specs.declared.words.Seen.TheVariants.{New, Open, Solved}
+use Rattle.notes.specs.declared.words.Seen.TheVariants.{New, Open, Solved, Lent}
 use Rattle.notes.specs.declared.words.Update.{Update}
 use Rattle.table_shard.proofs.Offered.{updated-key, holds_push, holds_set, lacks_at, given_up_idle}
-use Rattle.table_shard.specs.Entry.{EntryView, IsFirstWithin, Shows}
-use Rattle.table_shard.specs.Row.{HoldsAt, Lacks, Looks, IsFirst, IsGivenUp, fresh, Takes, Enters, left}
+use Rattle.table_shard.specs.Entry.{EntryView, IsFirstWithin, Lends, Shows}
+use Rattle.table_shard.specs.Row.{HoldsAt, IsLent, IsUnsolved, Lacks, LendsAt, Looks, IsFirst, IsGivenUp, fresh, Takes, Enters, left}
 
 -- 1. NO TWO ENTRIES OF A ROW ARE OF ONE KEY.
 
@@ -119,41 +120,82 @@ first_once path (x ∷ xs) f g (inr h) (inr k) = first_once path xs f g h.1 k.1
 some_none : {A B : Type 0} (a : A) → ◌≡◌ {A = Option A} None (Some a) → B
 some_none a e = absurd (cc)
 
-new_looks : (row : List EntryView) (pins : List ℕ) (key : Key) (path : List Key) (seen : Seen) → Lacks row key → Looks row pins key path seen → New ≡ seen
-new_looks row pins key path New lacks h = refl
-new_looks row pins key path (Open numbers below) lacks (slot, h) =
-    let e = entry_in row slot (λ (e : EntryView). (e.key ≡ key) × ShowsAt pins path slot (Open numbers below) e) h in
-    absurd (lacks_at row key slot lacks (holds_key row slot key e.0 e.1 e.2.0))
-new_looks row pins key path (Solved note) lacks (slot, h) =
-    let e = entry_in row slot (λ (e : EntryView). (e.key ≡ key) × ShowsAt pins path slot (Solved note) e) h in
-    absurd (lacks_at row key slot lacks (holds_key row slot key e.0 e.1 e.2.0))
-
--- What a row shows of a key on a path is one thing.
-pub looks_once : (row : List EntryView) (pins : List ℕ) (key : Key) (path : List Key) (seen shown : Seen) → AreApart row → Looks row pins key path seen
-    → Looks row pins key path shown → seen ≡ shown
-looks_once row pins key path New shown apart h k = new_looks row pins key path shown h k
-looks_once row pins key path (Open numbers below) New apart h k = sym (new_looks row pins key path (Open numbers below) k h)
-looks_once row pins key path (Solved note) New apart h k = sym (new_looks row pins key path (Solved note) k h)
-looks_once row pins key path (Open numbers below) (Open n b) apart (s, h) (t, k) =
-    let one = one_entry row key s t (ShowsAt pins path s (Open numbers below)) (ShowsAt pins path t (Open n b)) apart h k in
-    ap₂ (λ (x : Numbers) (y : ℕ). Open x y) (one.1.1.1 ∙ sym one.1.2.1) (one.1.1.2 ∙ (ap (λ (z : ℕ). get_or pins z 0) one.0 ∙ sym one.1.2.2))
-looks_once row pins key path (Open numbers below) (Solved note) apart (s, h) (t, k) =
-    let one = one_entry row key s t (ShowsAt pins path s (Open numbers below)) (ShowsAt pins path t (Solved note)) apart h k in
-    some_none note (first_once path one.1.0.notes None (Some note) one.1.1.0 one.1.2)
-looks_once row pins key path (Solved note) (Open n b) apart (s, h) (t, k) =
-    let one = one_entry row key s t (ShowsAt pins path s (Solved note)) (ShowsAt pins path t (Open n b)) apart h k in
-    some_none note (first_once path one.1.0.notes None (Some note) one.1.2.0 one.1.1)
-looks_once row pins key path (Solved note) (Solved other) apart (s, h) (t, k) =
-    let one = one_entry row key s t (ShowsAt pins path s (Solved note)) (ShowsAt pins path t (Solved other)) apart h k in
-    ap Solved (same_Some note other (first_once path one.1.0.notes (Some note) (Some other) one.1.1 one.1.2))
-
--- 3. WHERE A ROW ENTERS A KEY.
-
+-- The first with a property is one.
 found_once : (P : ℕ → Type 0) (s t : ℕ) → IsFirst P s → IsFirst P t → s ≡ t
 found_once P s t h k = elim (cases_lt s t) [
   | inl less ↦ absurd (k.none_before s less h.has)
   | inr more ↦ elim (cases_lt t s) [ inl less ↦ absurd (h.none_before t less k.has) | inr same ↦ omega (arith, more, same) ]
 ]
+
+-- What is lent is one thing.
+at_one : (row : List EntryView) (attacker : Side) (key : Key) (slot other : ℕ) (note its : Derivation) → slot ≡ other
+    → IsSomeAnd (slice_get row slot) (λ e. Lends attacker key e note) → IsSomeAnd (slice_get row other) (λ e. Lends attacker key e its) → note ≡ its
+at_one row attacker key slot other note its same h k =
+    let a = entry_in row slot (λ (e : EntryView). Lends attacker key e note) h in
+    let b = entry_in row slot (λ (e : EntryView). Lends attacker key e its) (subst (λ (n : ℕ). IsSomeAnd (slice_get row n) (λ e. Lends attacker key e its)) (sym same) k) in
+    let one : b.0 ≡ a.0 = same_Some b.0 a.0 (sym b.1 ∙ a.1) in
+    let notes : note ∷ [] ≡ its ∷ [] = sym a.2.alone ∙ (ap (λ (e : EntryView). e.notes) (sym one) ∙ b.2.alone) in
+    cc
+
+some_lends : (row : List EntryView) (attacker : Side) (key : Key) (slot : ℕ) → IsFirst (LendsAt attacker key row) slot
+    → ((other : ℕ) → ¬ LendsAt attacker key row other) → ⊥
+some_lends row attacker key slot first none = none slot first.has
+
+lent_once : (to : Option Side) (key : Key) (row : List EntryView) (f g : Option Derivation) → IsLent to key row f → IsLent to key row g → f ≡ g
+lent_once None key row f g h k = h ∙ sym k
+lent_once (Some attacker) key row None None h k = refl
+lent_once (Some attacker) key row None (Some note) h (slot, first, lends) = absurd (some_lends row attacker key slot first h)
+lent_once (Some attacker) key row (Some note) None (slot, first, lends) k = absurd (some_lends row attacker key slot first k)
+lent_once (Some attacker) key row (Some note) (Some its) (slot, first, lends) (other, too, also) =
+    ap (λ (n : Derivation). Some n) (at_one row attacker key slot other note its (found_once (LendsAt attacker key row) slot other first too) lends also)
+
+-- Where no note of the key's own entry holds on the path, none is shown as such.
+unsolved_not : {A : Type 0} (row : List EntryView) (pins : List ℕ) (key : Key) (path : List Key) (slot : ℕ) (note : Derivation) → AreApart row → IsUnsolved row key path
+    → IsSomeAnd (slice_get row slot) (λ e. (e.key ≡ key) × ShowsAt pins path slot (Solved note) e) → A
+unsolved_not row pins key path slot note apart (inl lacks) h =
+    let e = entry_in row slot (λ (e : EntryView). (e.key ≡ key) × ShowsAt pins path slot (Solved note) e) h in
+    absurd (lacks_at row key slot lacks (holds_key row slot key e.0 e.1 e.2.0))
+unsolved_not row pins key path slot note apart (inr (t, none)) h =
+    let one = one_entry row key slot t (ShowsAt pins path slot (Solved note)) (λ (e : EntryView). IsFirstWithin path e.notes None) apart h none in
+    some_none note (first_once path one.1.0.notes None (Some note) one.1.2 one.1.1)
+
+new_looks : (to : Option Side) (row : List EntryView) (pins : List ℕ) (key : Key) (path : List Key) (seen : Seen) → Lacks row key → IsLent to key row None
+    → Looks to row pins key path seen → New ≡ seen
+new_looks to row pins key path New lacks lent h = refl
+new_looks to row pins key path (Open numbers below) lacks lent ((slot, h), none) =
+    let e = entry_in row slot (λ (e : EntryView). (e.key ≡ key) × ShowsAt pins path slot (Open numbers below) e) h in
+    absurd (lacks_at row key slot lacks (holds_key row slot key e.0 e.1 e.2.0))
+new_looks to row pins key path (Solved note) lacks lent (slot, h) =
+    let e = entry_in row slot (λ (e : EntryView). (e.key ≡ key) × ShowsAt pins path slot (Solved note) e) h in
+    absurd (lacks_at row key slot lacks (holds_key row slot key e.0 e.1 e.2.0))
+new_looks to row pins key path (Lent note) lacks lent (unsolved, some) = some_none note (lent_once to key row None (Some note) lent some)
+
+-- What a row shows of a key on a path is one thing.
+pub looks_once : (to : Option Side) (row : List EntryView) (pins : List ℕ) (key : Key) (path : List Key) (seen shown : Seen) → AreApart row
+    → Looks to row pins key path seen → Looks to row pins key path shown → seen ≡ shown
+looks_once to row pins key path New shown apart h k = new_looks to row pins key path shown h.0 h.1 k
+looks_once to row pins key path (Open numbers below) New apart h k = sym (new_looks to row pins key path (Open numbers below) k.0 k.1 h)
+looks_once to row pins key path (Solved note) New apart h k = sym (new_looks to row pins key path (Solved note) k.0 k.1 h)
+looks_once to row pins key path (Lent note) New apart h k = sym (new_looks to row pins key path (Lent note) k.0 k.1 h)
+looks_once to row pins key path (Open numbers below) (Open n b) apart ((s, h), none) ((t, k), nor) =
+    let one = one_entry row key s t (ShowsAt pins path s (Open numbers below)) (ShowsAt pins path t (Open n b)) apart h k in
+    ap₂ (λ (x : Numbers) (y : ℕ). Open x y) (one.1.1.1 ∙ sym one.1.2.1) (one.1.1.2 ∙ (ap (λ (z : ℕ). get_or pins z 0) one.0 ∙ sym one.1.2.2))
+looks_once to row pins key path (Open numbers below) (Solved note) apart ((s, h), none) (t, k) =
+    let one = one_entry row key s t (ShowsAt pins path s (Open numbers below)) (ShowsAt pins path t (Solved note)) apart h k in
+    some_none note (first_once path one.1.0.notes None (Some note) one.1.1.0 one.1.2)
+looks_once to row pins key path (Solved note) (Open n b) apart (s, h) ((t, k), none) =
+    let one = one_entry row key s t (ShowsAt pins path s (Solved note)) (ShowsAt pins path t (Open n b)) apart h k in
+    some_none note (first_once path one.1.0.notes None (Some note) one.1.2.0 one.1.1)
+looks_once to row pins key path (Solved note) (Solved other) apart (s, h) (t, k) =
+    let one = one_entry row key s t (ShowsAt pins path s (Solved note)) (ShowsAt pins path t (Solved other)) apart h k in
+    ap Solved (same_Some note other (first_once path one.1.0.notes (Some note) (Some other) one.1.1 one.1.2))
+looks_once to row pins key path (Lent note) (Open n b) apart h k = some_none note (lent_once to key row None (Some note) k.1 h.1)
+looks_once to row pins key path (Open n b) (Lent note) apart h k = some_none note (lent_once to key row None (Some note) h.1 k.1)
+looks_once to row pins key path (Lent note) (Solved other) apart h (t, k) = unsolved_not row pins key path t other apart h.0 k
+looks_once to row pins key path (Solved other) (Lent note) apart (s, h) k = unsolved_not row pins key path s other apart k.0 h
+looks_once to row pins key path (Lent note) (Lent other) apart h k = ap Lent (same_Some note other (lent_once to key row (Some note) (Some other) h.1 k.1))
+
+-- 3. WHERE A ROW ENTERS A KEY.
 
 given_once : (row : List EntryView) (pins : List ℕ) (s t : ℕ) → IsGivenUp row pins s → IsGivenUp row pins t → s ≡ t
 given_once row pins s t (inl h) (inl k) = found_once _ s t h k

@@ -10,7 +10,7 @@ use Rattle.pn_numbers.specs.declared.numbers.Numbers.{Numbers}
 use Rattle.notes.specs.Derivation.{Derivation, highest}
 use Rattle.notes.specs.declared.words.Kept.{Kept}
 use Rattle.notes.specs.declared.words.Seen.{Seen}
-use Rattle.notes.specs.declared.words.Seen.TheVariants.{New, Open as Known, Solved as Shown}
+use Rattle.notes.specs.declared.words.Seen.TheVariants.{New, Open as Known, Solved as Shown, Lent}
 use Rattle.notes.specs.declared.words.Draw.TheVariants.{Go, Done, Spent as AllDrawn}
 use Rattle.notes.specs.declared.words.RoomAnswer.TheVariants.{Room, NoRoom as Full}
 use Rattle.visit_log.specs.declared.parts.Child.{Child}
@@ -62,28 +62,33 @@ opens_once laws task s (f ∷ fs) kept t u (inr h) k not nor = absurd (not (ap (
 opens_once laws task s (f ∷ fs) kept t u (inl h) (inr k) not nor = absurd (nor (ap (λ (z : State). z.stage) k))
 
 told_once : AreLaws → (attacker : Side) (b : Board) (child : Child) (seen : Seen) (m n : Numbers) → Tells attacker b child.by seen m → Tells attacker b child.by seen n
-    → told child seen m ≡ told child seen n
-told_once laws attacker b child New m n h k = ap (told child New) (start_once laws.orders laws.within attacker b child.by m n h k)
+    → told attacker b child seen m ≡ told attacker b child seen n
+told_once laws attacker b child New m n h k = ap (told attacker b child New) (start_once laws.orders laws.within attacker b child.by m n h k)
 told_once laws attacker b child (Known numbers below) m n h k = refl
 told_once laws attacker b child (Shown note) m n h k = refl
+told_once laws attacker b child (Lent note) m n h k = refl
 
 looked_once : AreLaws → (task : Task) (f : FrameView) (place : ℕ) (seen : Seen) (a b : Sight) → a.place ≡ place → b.place ≡ place → a.seen ≡ seen → b.seen ≡ seen
     → slice_get f.children place ≡ Some a.child → slice_get f.children place ≡ Some b.child
-    → Tells (attacker_in task) f.place.position a.child.by seen a.start → Tells (attacker_in task) f.place.position b.child.by seen b.start → looked f a ≡ looked f b
+    → Tells (attacker_in task) f.place.position a.child.by seen a.start → Tells (attacker_in task) f.place.position b.child.by seen b.start → looked task f a ≡ looked task f b
 looked_once laws task f place seen a b p q sa sb ca cb ta tb =
+    let after_it : Child → Seen → Numbers → Child = told (attacker_in task) f.place.position in
     let child : b.child ≡ a.child = same_Some b.child a.child (sym cb ∙ ca) in
     let same = told_once laws (attacker_in task) f.place.position a.child seen a.start b.start ta
     (subst (λ (c : Child). Tells (attacker_in task) f.place.position c.by seen b.start) child tb) in
-    let there : told a.child a.seen a.start ≡ told b.child b.seen b.start =
-    ap (λ (x : Seen). told a.child x a.start) sa ∙ (same ∙ (ap (λ (x : Seen). told a.child x b.start) (sym sb) ∙ ap (λ (c : Child). told c b.seen b.start) (sym child))) in
+    let there : after_it a.child a.seen a.start ≡ after_it b.child b.seen b.start =
+    ap (λ (x : Seen). after_it a.child x a.start) sa
+    ∙ (same ∙ (ap (λ (x : Seen). after_it a.child x b.start) (sym sb) ∙ ap (λ (c : Child). after_it c b.seen b.start) (sym child))) in
     ap₂ (λ (n : ℕ) (c : Child). with_children f (slice_set f.children n c)) (p ∙ sym q) there
 
 sees_once : AreLaws → (task : Task) (s : State) (place : ℕ) (frames : List FrameView) (seen : Seen) (t u : State) → Sees task s place frames seen t
-    → Sees task s place frames seen u → t ≡ u
-sees_once laws task s place [] seen t u h k = absurd h
-sees_once laws task s place (f ∷ fs) seen t u h k =
+    → Sees task s place frames seen u → ¬ IsStarved t → ¬ IsStarved u → t ≡ u
+sees_once laws task s place [] seen t u h k not nor = absurd h
+sees_once laws task s place (f ∷ fs) seen t u (inr h) k not nor = absurd (not (ap (λ (z : State). z.stage) h.1))
+sees_once laws task s place (f ∷ fs) seen t u (inl h) (inr k) not nor = absurd (nor (ap (λ (z : State). z.stage) k.1))
+sees_once laws task s place (f ∷ fs) seen t u (inl h) (inl k) not nor =
     let same = looked_once laws task f place seen h.0 k.0 h.1 k.1 h.2 k.2 h.3 k.3 h.4 k.4 in
-    goes_on_once task s (looked f h.0) fs t u h.5 (subst (λ (g : FrameView). GoesOn task s g fs u) (sym same) k.5)
+    goes_on_once task s (looked task f h.0) fs t u h.5 (subst (λ (g : FrameView). GoesOn task s g fs u) (sym same) k.5)
 
 -- Why a note isn't made but for want of memory: it would be too high.
 high_refused : (task : Task) (f : FrameView) (end : WorkEnd) → IsRefusal task f end → (end ≡ NoMemory → ⊥)
@@ -131,7 +136,7 @@ leads_once laws task s (Drawing entry) (Drew (Go number)) t u h k not nor = begi
 leads_once laws task s (Drawing entry) (Drew Done) t u h k not nor = h ∙ sym k
 leads_once laws task s (Drawing entry) (Drew AllDrawn) t u h k not nor = h ∙ sym k
 leads_once laws task s Entering (Entered kept) t u h k not nor = opens_once laws task s s.frames kept t u h k not nor
-leads_once laws task s (Looking place) (Looked seen) t u h k not nor = sees_once laws task s place s.frames seen t u h k
+leads_once laws task s (Looking place) (Looked seen) t u h k not nor = sees_once laws task s place s.frames seen t u h k not nor
 leads_once laws task s Claiming (Claimed Full) t u h k not nor = h ∙ sym k
 leads_once laws task s Claiming (Claimed (Room room)) t u h k not nor = makes_once laws task s s.frames t u h k not nor
 leads_once laws task s (Leaving left) LeftIt t u h k not nor = returns_once task s (rest_of s.frames) left t u h k

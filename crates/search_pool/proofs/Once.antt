@@ -251,12 +251,13 @@ same_at_first problem s r same =
     let x = sym same.expansions in
     let y = sym same.room in
     let z = sym same.rows in
-    λ i. world_of (alone_at_first problem (x i) (y i) (z i)) (worker_at_first problem 1) false
+    let w = sym same.lends in
+    λ i. world_of (alone_at_first problem (x i) (y i) (z i) (w i)) (worker_at_first problem 1) false
 
 -- A search with one worker goes one way.
 pub one_way : AreLaws → AloneGoesOneWay
 one_way laws problem s r end other same h k =
-    let first = alone_at_first problem s.expansions s.room s.rows in
+    let first = alone_at_first problem s.expansions s.room s.rows s.lends in
     let its = from_world k.schedule (told_to_one other.log) (world_at_first problem (for_one r)) (world_at_first problem (for_one s))
     (world_of other.port other.worker k.runs.raised) (same_at_first problem s r same) k.runs.plays in
     let once = plays_once laws h.schedule k.schedule (told_to_one end.log) (told_to_one other.log) first end.port other.port (worker_at_first problem 1)
@@ -311,7 +312,7 @@ outcome_once s r port worker (Unknown c crew) (Unknown d team) same h k =
 abbrev IsTold : LonePortView → WorkerView → Type 0
 IsTold port worker = (log : List Exchange) × IsWindingUp log port worker
 
-told_at_first : (problem : Board) (s : SettingsView) → IsTold (alone_at_first problem s.expansions s.room s.rows) (worker_at_first problem 1)
+told_at_first : (problem : Board) (s : SettingsView) → IsTold (alone_at_first problem s.expansions s.room s.rows s.lends) (worker_at_first problem 1)
 told_at_first problem s = (
   [],
   record {
@@ -347,7 +348,7 @@ alone_state problem s answer alone = record { log = alone.2.log; port = alone.2.
 has_run : (problem : Board) (s : SettingsView) (answer : SearchEnd) (alone : IsAlone problem s answer) → HasRun problem s (alone_state problem s answer alone)
 has_run problem s answer (schedule, own, run) =
     let end = the_end (end_of run.worker.state) run.ended in
-    let told = kept_by IsTold stays_told schedule (told_to_one run.log) (alone_at_first problem s.expansions s.room s.rows) run.port (worker_at_first problem 1) run.worker
+    let told = kept_by IsTold stays_told schedule (told_to_one run.log) (alone_at_first problem s.expansions s.room s.rows s.lends) run.port (worker_at_first problem 1) run.worker
     run.runs.raised own run.runs.plays (told_at_first problem s) in record {
       schedule = schedule;
       own = own;

@@ -70,7 +70,10 @@ opened_so task s t (f ∷ fs) kept h = elim h [
 
 seen_so : (task : Task) (s t : State) (place : ℕ) (fs : List FrameView) (seen : Seen) → Sees task s place fs seen t → to_draw t.stage ≡ 0
 seen_so task s t place [] seen h = absurd h
-seen_so task s t place (f ∷ fs) seen h = went_on task s t _ fs h.5
+seen_so task s t place (f ∷ fs) seen h = elim h [
+  | inl sight ↦ went_on task s t _ fs sight.5
+  | inr lost ↦ is_at _ t 0 refl lost.1
+]
 
 made_so : (task : Task) (s t : State) (fs : List FrameView) → Makes task s fs t → to_draw t.stage ≡ 0
 made_so task s t [] h = absurd h

@@ -13,12 +13,13 @@ use Rattle.lone_port.specs.Alone.{RunsAlone, IsOwnStep}
 use Rattle.search_pool.specs.declared.end.SearchEnd.{SearchEnd}
 use Rattle.search_pool.specs.End.{IsAlone}
 
--- The settings are the same for one worker: as many visits, as much room, as many rows. (It makes
--- no use of the numbers of workers and shards.)
+-- The settings are the same for one worker: as many visits, as much room, as many rows, and the
+-- table lends in both or in neither. (It makes no use of the numbers of workers and shards.)
 pub record AreSameAlone (s other : SettingsView) : Type 0 where
   pub expansions : s.expansions ≡ other.expansions
   pub room : s.room ≡ other.room
   pub rows : s.rows ≡ other.rows
+  pub lends : s.lends ≡ other.lends
 
 -- Where a search with one worker has come to: what it asked and was told, its table with its desk,
 -- and its worker.

@@ -31,7 +31,7 @@ fn work_watched<G: Gate, T: Stop>(
 ) -> WorkEnd
     requires made { watched.old.port.now
         ≡ alone_at_first problem.now.position settings.now.expansions settings.now.room
-        settings.now.rows }
+        settings.now.rows settings.now.lends }
     requires worker { worker.old ≡ worker_at_first problem.now.position 1 }
     requires suits { Suits worker.old (book_of watched.old.port.now) }
     ensures port { watched.new.port.ghost_name ≡ watched.old.port.ghost_name }
@@ -59,7 +59,7 @@ fn work_alone<G: Gate, T: Stop>(
 ) -> WorkEnd
     requires made { port.old
         ≡ alone_at_first problem.now.position settings.now.expansions settings.now.room
-        settings.now.rows }
+        settings.now.rows settings.now.lends }
     requires worker { worker.old ≡ worker_at_first problem.now.position 1 }
     requires suits { Suits worker.old (book_of port.old) }
     ensures way { IsWatched problem.now.position (settings_in settings.now) (T.signal stop.old)
@@ -99,7 +99,7 @@ pub(crate) fn search_over<G: Gate, T: Stop>(
 ) -> Result<SearchEnd, AllocError>
     requires made { port.old
         ≡ alone_at_first problem.now.position settings.now.expansions settings.now.room
-        settings.now.rows }
+        settings.now.rows settings.now.lends }
     requires suits { (number : ℕ)
         → Suits (worker_at_first problem.now.position number) (book_of port.old) }
     ensures alone { IfOk result

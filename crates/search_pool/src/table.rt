@@ -30,7 +30,7 @@ fn ready(
 ) -> Result<LonePort, AllocError>
     ensures made { IfOk result (λ port. port
         ≡ alone_at_first problem.now.position settings.now.expansions settings.now.room
-        settings.now.rows) }
+        settings.now.rows settings.now.lends) }
     ensures suits { IfOk result (λ port. (number : ℕ)
         → Suits (worker_at_first problem.now.position number) (book_of port)) }
 {
@@ -105,7 +105,7 @@ fn search_quietly(
 ) -> Result<SearchEnd, AllocError>
     requires made { port.old
         ≡ alone_at_first problem.now.position settings.now.expansions settings.now.room
-        settings.now.rows }
+        settings.now.rows settings.now.lends }
     requires suits { (number : ℕ)
         → Suits (worker_at_first problem.now.position number) (book_of port.old) }
     ensures alone { IfOk result (IsAlone problem.now.position (settings_in settings.now)) }

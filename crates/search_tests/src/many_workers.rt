@@ -19,10 +19,10 @@ fn posted(world: &World) -> Option<Conclusion> {
     world.posted().map(Note::conclusion)
 }
 
-// Has a schedule happen, in which no look is refused memory.
+// Has a schedule happen, in which no look is lost for want of memory.
 fn play(rt: &impl Abort, alloc: Global, world: &mut World, events: &[Event]) {
-    let refused = world.play(alloc, events);
-    same(rt, "refused", refused, 0);
+    let lost = world.play(alloc, events);
+    same(rt, "lost", lost, 0);
 }
 
 #[test]

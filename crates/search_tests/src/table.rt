@@ -8,12 +8,12 @@ ghost use Rattle.table_shard.specs.Row.{HoldsAt};
 ghost use Rattle.table_shard.specs.Shard.{row_of};
 
 use crate::same::same;
-use board_core::{Key, Move, key as key_of};
+use board_core::{Key, Kind, Move, Side, key as key_of};
 use escapes::{Leaving, checked, evasions, note_of, path_through};
 use notes::{Kept, Note, Rule, Seen, Update};
 use path_tags::Path;
 use pn_numbers::Numbers;
-use std::alloc::{AllocError, Global};
+use std::alloc::AllocError;
 use std::test::Fail;
 use table_shard::{RowPins, Shard};
 
@@ -32,6 +32,7 @@ fn looked(
     let key = key(word);
     Ok(
         match shard.look(
+            None,
             shard.spot_of(&key),
             &key,
             path,
@@ -39,7 +40,7 @@ fn looked(
         )? {
             Seen::New => None,
             Seen::Open { numbers, below } => Some((numbers.pn, numbers.dn, below)),
-            Seen::Solved(_) => Some((0, 0, 0)),
+            Seen::Solved(_) | Seen::Lent(_) => Some((0, 0, 0)),
         },
     )
 }
@@ -59,11 +60,19 @@ fn entered(shard: &mut Shard, word: u64, numbers: Numbers, pins: &[u64; 8]) -> K
 
 #[test]
 fn a_key_has_its_row_among_many_and_among_few(rt: HostRuntime) -> Result<(), Fail> {
-    let board = Key([0, 0, 0, 1046, 0, 0, 0, 16384]);
     let many = Shard::make(rt.alloc(), 16_384)?;
-    same(&rt, "of many", many.spot_of(&board).place, 7515);
     let few = Shard::make(rt.alloc(), 16)?;
-    same(&rt, "of few", few.spot_of(&board).place, 11);
+    // The last word: without hands, with a gold in a hand, and the same with White to move.
+    let table = [
+        (0, 13648, 0),
+        (1 << 14, 13648, 0),
+        (1 << 14 | 1 << 42, 5181, 13),
+    ];
+    for (last, of_many, of_few) in table {
+        let key = Key([0, 0, 0, 1046, 0, 0, 0, last]);
+        same(&rt, (last, "of many"), many.spot_of(&key).place, of_many);
+        same(&rt, (last, "of few"), few.spot_of(&key).place, of_few);
+    }
     Ok(())
 }
 
@@ -130,6 +139,7 @@ fn rules_on(shard: &Shard, key: &Key, paths: &[Path; 3]) -> Result<[Option<Rule>
 fn rule_on(shard: &Shard, key: &Key, path: &Path) -> Result<Option<Rule>, AllocError> {
     Ok(
         match shard.look(
+            None,
             shard.spot_of(key),
             key,
             path,
@@ -188,5 +198,107 @@ fn a_note_counts_where_its_position_is_on_the_path(rt: HostRuntime) -> Result<()
         same(&rt, leaving, left, true);
         same(&rt, leaving, rules_on(&shard, &key, &paths)?, wanted);
     }
+    Ok(())
+}
+
+// What a look shows, without its numbers and notes.
+#[derive(Clone, Copy, Debug, PartialEq)]
+enum Sight {
+    New,
+    Open,
+    Solved,
+    Lent,
+}
+
+// What a look shows on that path, where the table lends to that side.
+fn shown(shard: &Shard, to: Option<Side>, key: &Key, path: &Path) -> Result<Sight, AllocError> {
+    Ok(
+        match shard.look(
+            to,
+            shard.spot_of(key),
+            key,
+            path,
+            &mut RowPins { counts: &[0; 8] },
+        )? {
+            Seen::New => Sight::New,
+            Seen::Open { .. } => Sight::Open,
+            Seen::Solved(_) => Sight::Solved,
+            Seen::Lent(_) => Sight::Lent,
+        },
+    )
+}
+
+// The key of the same board with a gold more in a side's hand.
+fn richer(key: &Key, side: Side) -> Key {
+    let mut other = *key;
+    other.gain(side, Kind::Gold);
+    other
+}
+
+// What looks show at the key, at the richer defender, at the richer attacker, at the defender for
+// the other side, and at him where nothing is lent.
+fn all_shown(shard: &Shard, key: &Key, path: &Path) -> Result<[Sight; 5], AllocError> {
+    let (his, its) = (richer(key, Side::White), richer(key, Side::Black));
+    Ok([
+        shown(shard, Some(Side::Black), key, path)?,
+        shown(shard, Some(Side::Black), &his, path)?,
+        shown(shard, Some(Side::Black), &its, path)?,
+        shown(shard, Some(Side::White), &his, path)?,
+        shown(shard, None, &his, path)?,
+    ])
+}
+
+// Notes that are left in turn, and what looks show then.
+fn lent_in_turn(first: Move, second: Move) -> [(Leaving, [Sight; 5]); 3] {
+    let lent = [
+        Sight::Solved,
+        Sight::Lent,
+        Sight::New,
+        Sight::New,
+        Sight::New,
+    ];
+    [
+        (
+            Leaving::Repeat(first),
+            [Sight::Open, Sight::New, Sight::New, Sight::New, Sight::New],
+        ),
+        (Leaving::Escape(first), lent),
+        (Leaving::Repeat(second), lent),
+    ]
+}
+
+// A checked king escapes, by repeating or for good, and White may have a gold to interpose.
+#[test]
+fn a_note_is_lent_to_other_hands(rt: HostRuntime) -> Result<(), Fail> {
+    let alloc = rt.alloc();
+    let Some((problem, position)) = checked() else {
+        return Err(Fail::from("no position"));
+    };
+    let [first, second, _, _, _] = evasions();
+    let (path, key) = (Path::make(alloc), key_of(&position));
+    let mut shard = Shard::make(alloc, 3)?;
+    let spot = shard.spot_of(&key);
+    let Kept::Slot(slot) = shard.enter(spot, &key, Numbers::ONE, &mut RowPins { counts: &[0; 8] })
+    else {
+        return Err(Fail::from("no slot"));
+    };
+    for (leaving, wanted) in lent_in_turn(first, second) {
+        let note = note_of(alloc, &problem, &position, leaving);
+        let left = leave(&mut shard, slot, &key, note);
+        same(&rt, leaving, left, true);
+        same(&rt, leaving, all_shown(&shard, &key, &path)?, wanted);
+    }
+    // An entry of his own shows only where nothing is lent to him.
+    let his = richer(&key, Side::White);
+    let spot = shard.spot_of(&his);
+    let _slot = shard.enter(spot, &his, Numbers::ONE, &mut RowPins { counts: &[1; 8] });
+    let wanted = [
+        Sight::Solved,
+        Sight::Lent,
+        Sight::New,
+        Sight::Open,
+        Sight::Open,
+    ];
+    same(&rt, "entered", all_shown(&shard, &key, &path)?, wanted);
     Ok(())
 }

@@ -1,6 +1,6 @@
 -- The notes of a shard stay for its attacker.
 use Rattle.std.proofs.Common.{◌≡◌, ◌<◌, ℕ, List, [], length, sym, subst, inl, inr}
-use Rattle.std.specs.Prelude.{All, Result, Ok, Err, IfOk, MatchResult}
+use Rattle.std.specs.Prelude.{All, Option, Result, Ok, Err, IfOk, IfSome, MatchResult}
 use Rattle.std.proofs.lemmas.List.Elements.{All-get_or, All-set}
 use Rattle.bit_boards.specs.declared.piece.Side.{Side}
 use Rattle.board_core.specs.declared.keys.Key.{Key}
@@ -27,13 +27,13 @@ put_for : (attacker : Side) (rows : List (List EntryView)) (key : Key) (row : Li
 put_for attacker rows key row one all = All-set (All (AreFor attacker)) rows (place_of key (length rows)) row one all
 
 -- What a look shows may be shown.
-pub look_may : {P E : Type 0} (attacker : Side) (told : P → ℕ → ℕ → P → Type 0) (rows : List (List EntryView)) (key : Key) (path : List Key) (before after : P) (r : Result Seen E)
-    → 0 < length rows → All IsRow rows → All (All (AreFor attacker)) rows
-    → MatchResult r (λ seen. LooksBy told (row_of rows key) key path before seen after) (λ error. before ≡ after) → IfOk r (MayShow attacker key path)
-look_may attacker told rows key path before after (Ok seen) some kept all by =
-    looks_may attacker (row_of rows key) by.counts key path seen (All-get_or IsRow rows (place_of key (length rows)) [] (place_within key (length rows) some) kept)
+pub look_may : {P E : Type 0} (attacker : Side) (told : P → ℕ → ℕ → P → Type 0) (to : Option Side) (rows : List (List EntryView)) (key : Key) (path : List Key) (before after : P)
+    (r : Result Seen E) → IfSome to (λ side. side ≡ attacker) → 0 < length rows → All IsRow rows → All (All (AreFor attacker)) rows
+    → MatchResult r (λ seen. LooksBy told to (row_of rows key) key path before seen after) (λ error. before ≡ after) → IfOk r (MayShow attacker key path)
+look_may attacker told to rows key path before after (Ok seen) his some kept all by =
+    looks_may attacker to (row_of rows key) by.counts key path seen his (All-get_or IsRow rows (place_of key (length rows)) [] (place_within key (length rows) some) kept)
     (of_row attacker rows key some all) by.looks
-look_may attacker told rows key path before after (Err error) some kept all by = tt
+look_may attacker told to rows key path before after (Err error) his some kept all by = tt
 
 -- After a position was entered.
 pub enter_for : {P : Type 0} (attacker : Side) (told : P → ℕ → ℕ → P → Type 0) (rows : List (List EntryView)) (key : Key) (numbers : Numbers) (before : P) (kept : Kept)

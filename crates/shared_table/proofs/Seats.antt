@@ -1,10 +1,11 @@
 -- What asking a seat leaves as it is.
 use Rattle.std.proofs.Common.{◌≡◌, ◌<◌, ◌+◌, ℕ, List, [], ◌∷◌, length, inl, inr, refl, ap, ◌∙◌, sym, arith}
-use Rattle.std.specs.Prelude.{All, Result, Ok, Err, MatchResult}
+use Rattle.std.specs.Prelude.{All, Option, Result, Ok, Err, MatchResult}
 use Rattle.std.proofs.lemmas.List.Elements.{All-get_or}
+use Rattle.bit_boards.specs.declared.piece.Side.{Side}
 use Rattle.board_core.specs.declared.keys.Key.{Key}
 use Rattle.notes.specs.declared.words.Seen.{Seen}
-use Rattle.notes.specs.declared.words.Seen.TheVariants.{New, Open, Solved}
+use Rattle.notes.specs.declared.words.Seen.TheVariants.{New, Open, Solved, Lent}
 use Rattle.table_shard.specs.Entry.{EntryView}
 use Rattle.table_shard.specs.Row.{HoldsAt, IsRow, LooksBy, AsksToEnter, TellsCounts}
 use Rattle.table_shard.specs.Shard.{row_of}
@@ -45,12 +46,13 @@ same_told slot before (count ∷ counts) after (between, one, rest) =
     same_on before between after (same_loaded before between slot count one) (same_told (slot + 1) between counts after rest)
 
 -- A look leaves what it has added.
-pub same_looked : {E : Type 0} (row : List EntryView) (key : Key) (path : List Key) (before after : RowSeatView) (r : Result Seen E)
-    → MatchResult r (λ seen. LooksBy Loads row key path before seen after) (λ error. before ≡ after) → IsSameSeat before after
-same_looked row key path before after (Ok New) by = same_by before after by.asks
-same_looked row key path before after (Ok (Solved note)) by = same_by before after by.asks
-same_looked row key path before after (Ok (Open numbers below)) by = same_loaded before after by.asks.0 below by.asks.2
-same_looked row key path before after (Err error) by = same_by before after by
+pub same_looked : {E : Type 0} (to : Option Side) (row : List EntryView) (key : Key) (path : List Key) (before after : RowSeatView) (r : Result Seen E)
+    → MatchResult r (λ seen. LooksBy Loads to row key path before seen after) (λ error. before ≡ after) → IsSameSeat before after
+same_looked to row key path before after (Ok New) by = same_by before after by.asks
+same_looked to row key path before after (Ok (Solved note)) by = same_by before after by.asks
+same_looked to row key path before after (Ok (Lent note)) by = same_by before after by.asks
+same_looked to row key path before after (Ok (Open numbers below)) by = same_loaded before after by.asks.0 below by.asks.2
+same_looked to row key path before after (Err error) by = same_by before after by
 
 -- So does what is asked before an entry is given up.
 pub same_entered : (row : List EntryView) (key : Key) (before : RowSeatView) (counts : List ℕ) (after : RowSeatView) → AsksToEnter Loads row key before counts after → IsSameSeat before after

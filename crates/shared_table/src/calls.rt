@@ -1,5 +1,5 @@
 // What a shard does for one request of a worker.
-ghost use Rattle.std.specs.Prelude.{◌≡◌, ◌+◌, ◌<◌, ◌≤◌, IfOk, MatchResult, length};
+ghost use Rattle.std.specs.Prelude.{◌≡◌, ◌+◌, ◌<◌, ◌≤◌, IfOk, IfSome, MatchResult, length};
 ghost use Rattle.pn_numbers.specs.Numbers.{IsOpen};
 ghost use Rattle.table_shard.specs.Row.{LooksBy};
 ghost use Rattle.table_shard.specs.Shard.{row_of};
@@ -12,6 +12,7 @@ ghost use Rattle.shared_table.specs.Calls.{EntersAndAdds, IsSiteOf, LeavesAndSub
 use crate::job::Job;
 use crate::seat::RowSeat;
 use crate::shard::JobShard;
+use bit_boards::Side;
 use board_core::Key;
 use notes::{Kept, Seen, Update};
 use path_tags::Path;
@@ -19,25 +20,27 @@ use pn_numbers::Numbers;
 use std::alloc::AllocError;
 use table_shard::Site;
 
-/// What a shard shows of a position, whose site this is, to a worker on the path: where it shows
-/// numbers, the count of the slot's word is loaded for it, and else none is. Errors: want of memory
-/// alone.
+/// What a shard shows of a position, whose site this is, to a worker on the path; it lends to the
+/// attacker, or to nobody, as `to` says. Where it shows numbers, the count of the slot's word is
+/// loaded for it, and else none is. Errors: want of memory alone.
 pub fn look_in<J: Job>(
     shard: &JobShard<J>,
     seat: &mut RowSeat<'_>,
+    to: Option<Side>,
     site: Site,
     key: &Key,
     path: &Path,
 ) -> Result<Seen, AllocError>
+    requires to { IfSome to (λ side. side ≡ J.ATTACKER) }
     requires site { IsSiteOf site key.now seat.old.seat.counts.words }
     ensures looks { MatchResult result
-        (λ seen. LooksBy Loads (row_of shard.now key.now) key.now path.now
+        (λ seen. LooksBy Loads to (row_of shard.now key.now) key.now path.now
         (at_row seat.old site.word) seen seat.new) (λ _. at_row seat.old site.word ≡ seat.new) }
     ensures may { IfOk result (MayShow J.ATTACKER key.now path.now) }
     ensures same { IsSameSeat (at_row seat.old site.word) seat.new }
 {
     seat.go_to(site.word);
-    shard.look(site.hash, key, path, seat)
+    shard.look(to, site.hash, key, path, seat)
 }
 
 /// Enters a position, whose site this is, as a shard does; where an entry has to be given up for

@@ -1,5 +1,5 @@
 // A shard whose notes are all for one attacker.
-ghost use Rattle.std.specs.Prelude.{◌≡◌, ◌<◌, [], IfOk, MatchResult, length, replicate, All};
+ghost use Rattle.std.specs.Prelude.{IfSome, ◌≡◌, ◌<◌, [], IfOk, MatchResult, length, replicate, All};
 ghost use Rattle.pn_numbers.specs.Numbers.{IsOpen};
 ghost use Rattle.table_shard.specs.Entry.{AreFor};
 ghost use Rattle.table_shard.specs.Row.{IsRow, LooksBy, IsKeptAt};
@@ -9,6 +9,7 @@ ghost use Rattle.visit_log.specs.Round.{MayShow};
 ghost use Rattle.visit_log.specs.Sound.{IsSoundUpdate};
 
 use crate::job::Job;
+use bit_boards::Side;
 use board_core::Key;
 use notes::{Kept, Seen, Update};
 use path_tags::Path;
@@ -76,26 +77,29 @@ impl<J: Job> JobShard<J> {
     }
 
     /// What the key's row shows, by the key's hash, to a worker on the path, as `Shard::look` has
-    /// it; a note is about the key's position, for the attacker, and holds on the path. Errors:
-    /// want of memory alone; then nothing was asked.
+    /// it, lending to the attacker or to nobody; a note is about the key's position, for the
+    /// attacker, and holds on the path, or may be carried to it. Errors: want of memory alone; then
+    /// nothing was asked.
     pub fn look<P: Pins>(
         &self,
+        to: Option<Side>,
         hash: u64,
         key: &Key,
         path: &Path,
         pins: &mut P,
     ) -> Result<Seen, AllocError>
+        requires to { IfSome to (λ side. side ≡ J.ATTACKER) }
         requires hash { hash ≡ hash_of key.now.0 }
         requires ready { P.ready pins.old }
         ensures ready { P.ready pins.new }
         ensures looks { MatchResult result
-            (λ seen. LooksBy P.told (row_of self.now key.now) key.now path.now pins.old seen
+            (λ seen. LooksBy P.told to (row_of self.now key.now) key.now path.now pins.old seen
             pins.new) (λ _. pins.old ≡ pins.new) }
         ensures may { IfOk result (MayShow J.ATTACKER key.now path.now) }
     {
         self.laws();
         let spot = self.shard.spot_at(hash);
-        self.shard.look(spot, key, path, pins)
+        self.shard.look(to, spot, key, path, pins)
     }
 
     /// Enters a position, by its key's hash, as `Shard::enter` has it. Takes no memory.

@@ -44,7 +44,7 @@ fn looked<P: Port>(
     Ok(match port.look(key, &Path::make(alloc))? {
         Seen::New => None,
         Seen::Open { numbers, below } => Some((numbers.pn, numbers.dn, below)),
-        Seen::Solved(_) => Some((0, 0, 0)),
+        Seen::Solved(_) | Seen::Lent(_) => Some((0, 0, 0)),
     })
 }
 
@@ -104,6 +104,7 @@ fn port_of<'a, R: Wait>(
     let cut = Cut {
         shards: table.shards(),
         own: table.own(),
+        to: None,
     };
     let seats = Seats {
         row: RowSeat::new(table.words(), table.words().make_seat(seat)),

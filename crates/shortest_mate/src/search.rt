@@ -1,5 +1,5 @@
 // The search for the shortest mate.
-ghost use Rattle.std.specs.Prelude.{◌≡◌, ◌≤◌, ◌<◌, ◌⊎◌, ℕ, Ok, Err, IfOk, IfSome};
+ghost use Rattle.std.specs.Prelude.{◌≡◌, ◌≤◌, ◌<◌, ◌⊎◌, ℕ, false, Ok, Err, IfOk, IfSome};
 ghost use Rattle.search_gate.specs.Polls.{IsPolledForEach};
 ghost use Rattle.search_gate.specs.Stop.{Signal};
 ghost use Rattle.search_limits.specs.declared.expansions.TheConstants.{MOST_EXPANSIONS};
@@ -204,12 +204,14 @@ fn by_lengths<T: Stop, O: LengthOnlooker>(
     }
 }
 
-// With what the first search is run: half of the expansions; none where that is none.
+// With what the first search is run: half of the expansions, over a table that lends nothing, so
+// that its certificate is of version 1; none where that is none.
 fn first_settings(expansions: u64) -> Option<Settings>
-    ensures { IfSome result (λ settings. settings.expansions ≤ expansions) }
+    ensures few { IfSome result (λ settings. settings.expansions ≤ expansions) }
+    ensures lends { IfSome result (λ settings. settings.lends ≡ false) }
 {
     match Settings::new(1, expansions / 2, ROOM, ROWS, 1) {
-        Ok(settings) => Some(settings),
+        Ok(settings) => Some(settings.lending_nothing()),
         Err(_) => None,
     }
 }

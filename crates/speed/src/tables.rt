@@ -72,6 +72,7 @@ fn look_each(
     for _ in 0..rounds {
         let key = key(keys.next());
         if let Seen::Open { numbers, .. } = shard.look(
+            None,
             shard.spot_of(&key),
             &key,
             path,

@@ -25,6 +25,7 @@ fn settings(expansions: u64) -> Settings
         room: MOST_ROOM,
         rows: 1024,
         shards: 1,
+        lends: true,
     }
 }
 

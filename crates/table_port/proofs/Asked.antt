@@ -68,12 +68,12 @@ ran_some attacker (Some shards) after shard ran (old, new, there, is, h) = (old,
 -- 2. REQUESTS ARE STEPS.
 
 pub look_turns : {E : Type 0} (port : TablePortView) (shards : Option (List ShardRows)) (seat : RowSeatView) (signal : Signal) (path : List Key) (key : Key) (site : Site) (r : Result Seen E)
-    → AsksAt port key site → RanOn port.desk.desk.position.side port.shards shards site.shard (λ old new. (new ≡ old) × ShowsAt site key path port.seat old seat r)
+    → AsksAt port key site → RanOn port.desk.desk.position.side port.shards shards site.shard (λ old new. (new ≡ old) × ShowsAt port.cut.to site key path port.seat old seat r)
     → TableTurns port signal path (Look key) (shown r) (record port { shards = shards; seat = seat }) signal
 look_turns port shards seat signal path key site (Ok seen) is ran = (
   (
-    subst (λ (n : ℕ). RanOn port.desk.desk.position.side port.shards shards n (λ old new. (new ≡ old) × LooksBy Loads (row_of old key) key path (at_row port.seat (first_word port.cut key)) seen seat)) is.shard
-        (subst (λ (w : ℕ). RanOn port.desk.desk.position.side port.shards shards site.shard (λ old new. (new ≡ old) × LooksBy Loads (row_of old key) key path (at_row port.seat w) seen seat)) is.word ran),
+    subst (λ (n : ℕ). RanOn port.desk.desk.position.side port.shards shards n (λ old new. (new ≡ old) × LooksBy Loads port.cut.to (row_of old key) key path (at_row port.seat (first_word port.cut key)) seen seat)) is.shard
+        (subst (λ (w : ℕ). RanOn port.desk.desk.position.side port.shards shards site.shard (λ old new. (new ≡ old) × LooksBy Loads port.cut.to (row_of old key) key path (at_row port.seat w) seen seat)) is.word ran),
     refl,
   ),
   refl,

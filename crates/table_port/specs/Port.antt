@@ -84,7 +84,7 @@ TableTurns before signal path Draw (Some (Drew draw)) after later =
 TableTurns before signal path Claim (Some (Claimed claim)) after later =
     Claims before.desk claim after.desk × (after ≡ record before { desk = after.desk }) × (later ≡ signal)
 TableTurns before signal path (Look key) (Some (Looked seen)) after later =
-    RunsOn before key after (λ seat old new last. (new ≡ old) × LooksBy Loads (row_of old key) key path seat seen last) × (later ≡ signal)
+    RunsOn before key after (λ seat old new last. (new ≡ old) × LooksBy Loads before.cut.to (row_of old key) key path seat seen last) × (later ≡ signal)
 TableTurns before signal path (Look key) None after later =
     RunsOn before key after (λ seat old new last. (new ≡ old) × (seat ≡ last)) × (later ≡ signal)
 TableTurns before signal path (Enter key numbers) (Some (Entered kept)) after later =

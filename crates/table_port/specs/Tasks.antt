@@ -16,14 +16,14 @@ abbrev pub IsAt : Site → Key → RowSeatView → Type 0
 IsAt site key seat = IsSiteOf site key seat.seat.counts.words
 
 -- What a look at the site shows, or that there was no memory for it.
-abbrev pub ShowsAt : {E : Type 0} → Site → Key → List Key → RowSeatView → ShardRows → RowSeatView → Result Seen E → Type 0
-ShowsAt site key path before rows after (Ok seen) = LooksBy Loads (row_of rows key) key path (at_row before site.word) seen after
-ShowsAt site key path before rows after (Err error) = at_row before site.word ≡ after
+abbrev pub ShowsAt : {E : Type 0} → Option Side → Site → Key → List Key → RowSeatView → ShardRows → RowSeatView → Result Seen E → Type 0
+ShowsAt to site key path before rows after (Ok seen) = LooksBy Loads to (row_of rows key) key path (at_row before site.word) seen after
+ShowsAt to site key path before rows after (Err error) = at_row before site.word ≡ after
 
 -- So for an attacker, for whom alone notes are shown, by a seat that loads and does nothing else.
-abbrev pub LooksAt : {E : Type 0} → Side → Site → Key → List Key → RowSeatView → ShardRows → RowSeatView → Result Seen E → Type 0
-LooksAt attacker site key path before rows after result =
-    ShowsAt site key path before rows after result × IsSameSeat (at_row before site.word) after × IfOk result (MayShow attacker key path)
+abbrev pub LooksAt : {E : Type 0} → Side → Option Side → Site → Key → List Key → RowSeatView → ShardRows → RowSeatView → Result Seen E → Type 0
+LooksAt attacker to site key path before rows after result =
+    ShowsAt to site key path before rows after result × IsSameSeat (at_row before site.word) after × IfOk result (MayShow attacker key path)
 
 -- There is nothing.
 abbrev pub IsMissing : {A : Type 0} → Option A → Type 0

@@ -1,15 +1,18 @@
 // What a port is made of.
+use bit_boards::Side;
 use search_gate::{Gate, Stop};
 use shared_table::RowSeat;
 use word_desk::{DeskSeat, WordDesk};
 
-/// How the table is cut.
+/// How the table is cut, and to whom it lends.
 #[derive(Clone, Copy, PartialEq, Eq, Debug)]
 pub struct Cut {
     /// In how many shards.
     pub shards: usize,
     /// How many rows each of them has.
     pub own: usize,
+    /// The attacker, to whom it lends what it knows of other hands; none where it lends nothing.
+    pub to: Option<Side>,
 }
 
 /// A worker's seats.

@@ -1,5 +1,6 @@
 // The port.
-ghost use Rattle.std.specs.Prelude.{◌≡◌, ◌+◌, ◌*◌, ◌<◌, ◌≤◌, ◌^◌, ℕ};
+ghost use Rattle.std.proofs.Props.{props};
+ghost use Rattle.std.specs.Prelude.{IfSome, ◌≡◌, ◌+◌, ◌*◌, ◌<◌, ◌≤◌, ◌^◌, ℕ};
 ghost use Rattle.lone_port.specs.Lone.{worker_at_first};
 ghost use Rattle.worker_core.specs.Port.{Suits};
 ghost use Rattle.table_port.specs.Port.{IsUnused, book_of};
@@ -25,8 +26,8 @@ use worker_counts::{CountSeat, view_laws};
 ///
 /// It keeps that its seats are of the words and of the desk, each with one part; that there are as
 /// many shards as the cut says, and eight words for each row that it says; and that the desk's
-/// problem has the job's attacker. That each shard has so many rows isn't kept: behind a lock
-/// nobody could tell.
+/// problem has the job's attacker, to whom alone the table lends. That each shard has so many rows
+/// isn't kept: behind a lock nobody could tell.
 #[derive(Drop)]
 pub struct TablePort<'a, J: Job, R: Rows<J>, G: Gate, T: Stop> {
     rows: R,
@@ -39,13 +40,14 @@ pub struct TablePort<'a, J: Job, R: Rows<J>, G: Gate, T: Stop> {
     ghost eight: { seats.row.seat.counts.words ≡ 8 * (cut.shards * cut.own) },
     ghost seated: { seats.desk_seat.desk ≡ seats.desk.now },
     ghost attacks: { seats.desk.now.position.side ≡ J.ATTACKER },
+    ghost his: { IfSome cut.to (λ side. side ≡ J.ATTACKER) } by { Prim.hlevel props },
     ghost parted: { (seats.row.seat.view.parts ≡ 1) × (seats.desk_seat.parts ≡ 1) },
 }
 
 impl<'a, J: Job, R: Rows<J>, G: Gate, T: Stop> TablePort<'a, J, R, G, T> {
     /// The port over these rows, cut as `cut` says. Its seats are at the table's words, of which
     /// there are eight for each row, and at the desk, each with one part. The desk's problem has
-    /// the job's attacker. Takes no memory.
+    /// the job's attacker, and the table lends to no other. Takes no memory.
     pub fn new(
         rows: R,
         cut: Cut,
@@ -57,6 +59,7 @@ impl<'a, J: Job, R: Rows<J>, G: Gate, T: Stop> TablePort<'a, J, R, G, T> {
         requires eight { seats.row.seat.counts.words ≡ 8 * (cut.shards * cut.own) }
         requires seated { seats.desk_seat.desk ≡ seats.desk.now }
         requires attacks { seats.desk.now.position.side ≡ J.ATTACKER }
+        requires his { IfSome cut.to (λ side. side ≡ J.ATTACKER) }
         requires parted { (seats.row.seat.view.parts ≡ 1) × (seats.desk_seat.parts ≡ 1) }
         ensures rows { result.rows ≡ rows }
         ensures cut { result.cut ≡ cut }
@@ -150,7 +153,14 @@ impl<'a, J: Job, R: Rows<J>, G: Gate, T: Stop> Port for TablePort<'a, J, R, G, T
 
     fn look(&mut self, key: &Key, path: &Path) -> Result<Seen, AllocError> {
         let site = site_of(key, self.cut.shards, self.cut.own);
-        look_on(&mut self.rows, &mut self.seats.row, site, key, path)
+        look_on(
+            &mut self.rows,
+            &mut self.seats.row,
+            self.cut.to,
+            site,
+            key,
+            path,
+        )
     }
 
     fn enter(&mut self, key: &Key, numbers: Numbers) -> Kept {

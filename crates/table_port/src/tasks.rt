@@ -1,5 +1,5 @@
 // What a port does with the shard of a key, each once.
-ghost use Rattle.std.specs.Prelude.{◌≡◌, ◌<◌, None, IfOk, IsSomeAnd, length};
+ghost use Rattle.std.specs.Prelude.{◌≡◌, ◌<◌, None, IfOk, IfSome, IsSomeAnd, length};
 ghost use Rattle.pn_numbers.specs.Numbers.{IsOpen};
 ghost use Rattle.visit_log.specs.Round.{MayShow};
 ghost use Rattle.visit_log.specs.Sound.{IsSoundUpdate};
@@ -9,6 +9,7 @@ ghost use Rattle.shared_table.specs.Rows.{RanOn};
 ghost use Rattle.shared_table.specs.Seat.{at_row, IsSameSeat};
 ghost use Rattle.table_port.specs.Tasks.{IsAt, LooksAt, ShowsAt};
 
+use bit_boards::Side;
 use board_core::Key;
 use notes::{Kept, Seen, Update};
 use path_tags::Path;
@@ -21,6 +22,7 @@ use table_shard::Site;
 #[derive(Drop)]
 struct LookTask<'t, 'a> {
     seat: &'t mut RowSeat<'a>,
+    to: Option<Side>,
     site: Site,
     key: &'t Key,
     path: &'t Path,
@@ -28,18 +30,18 @@ struct LookTask<'t, 'a> {
 }
 
 impl<'t, 'a, J: Job> Task<J> for LookTask<'t, 'a> {
-    ghost use Rattle.std.specs.Prelude.{◌≡◌, IsSomeAnd};
+    ghost use Rattle.std.specs.Prelude.{◌≡◌, IfSome, IsSomeAnd};
     ghost use Rattle.table_port.specs.Tasks.{IsAt, IsMissing, LooksAt, not_both};
 
-    ghost ready = { λ task. IsAt task.site task.key.now task.seat.now × IsMissing task.answer.now };
+    ghost ready = { λ task. IsAt task.site task.key.now task.seat.now × IsMissing task.answer.now × IfSome task.to (λ side. side ≡ J.ATTACKER) };
 
     ghost ran = { λ before old after new. (after.seat.ghost_name ≡ before.seat.ghost_name) × (after.answer.ghost_name ≡ before.answer.ghost_name) × (new ≡ old)
-        × IsSomeAnd after.answer.now (LooksAt J.ATTACKER before.site before.key.now before.path.now before.seat.now old after.seat.now) };
+        × IsSomeAnd after.answer.now (LooksAt J.ATTACKER before.to before.site before.key.now before.path.now before.seat.now old after.seat.now) };
 
     ghost once = { λ before after old new ran ready. not_both _ after.answer.now ran.3 ready.1 };
 
     fn run(&mut self, shard: &mut JobShard<J>) {
-        *self.answer = Some(look_in(shard, self.seat, self.site, self.key, self.path));
+        *self.answer = Some(look_in(shard, self.seat, self.to, self.site, self.key, self.path));
     }
 }
 
@@ -113,13 +115,14 @@ fn look_under<J: Job, R: Rows<J>>(
 ) -> Result<Seen, AllocError>
     requires below { task.old.site.shard < R.count rows.old }
     requires at { IsAt task.old.site task.old.key.now task.old.seat.now }
+    requires to { IfSome task.old.to (λ side. side ≡ J.ATTACKER) }
     requires fresh { task.old.answer.now ≡ None }
     ensures seat { task.new.seat.ghost_name ≡ task.old.seat.ghost_name }
     ensures answer { task.new.answer.ghost_name ≡ task.old.answer.ghost_name }
     ensures count { R.count rows.new ≡ R.count rows.old }
     ensures looks { RanOn J.ATTACKER (R.shards rows.old) (R.shards rows.new) task.old.site.shard
         (λ old new. (new ≡ old)
-        × ShowsAt task.old.site task.old.key.now task.old.path.now task.old.seat.now old
+        × ShowsAt task.old.to task.old.site task.old.key.now task.old.path.now task.old.seat.now old
         task.new.seat.now result) }
     ensures same { IsSameSeat (at_row task.old.seat.now task.old.site.word) task.new.seat.now }
     ensures may { IfOk result (MayShow J.ATTACKER task.old.key.now task.old.path.now) }
@@ -174,22 +177,25 @@ fn leave_under<J: Job, R: Rows<J>>(rows: &mut R, task: &mut LeaveTask<'_, '_>)
 pub(crate) fn look_on<J: Job, R: Rows<J>>(
     rows: &mut R,
     seat: &mut RowSeat<'_>,
+    to: Option<Side>,
     site: Site,
     key: &Key,
     path: &Path,
 ) -> Result<Seen, AllocError>
     requires below { site.shard < R.count rows.old }
     requires at { IsAt site key.now seat.old }
+    requires to { IfSome to (λ side. side ≡ J.ATTACKER) }
     ensures count { R.count rows.new ≡ R.count rows.old }
     ensures parts { seat.new.seat.view.parts ≡ seat.old.seat.view.parts }
     ensures looks { RanOn J.ATTACKER (R.shards rows.old) (R.shards rows.new) site.shard
-        (λ old new. (new ≡ old) × ShowsAt site key.now path.now seat.old old seat.new result) }
+        (λ old new. (new ≡ old) × ShowsAt to site key.now path.now seat.old old seat.new result) }
     ensures same { IsSameSeat (at_row seat.old site.word) seat.new }
     ensures may { IfOk result (MayShow J.ATTACKER key.now path.now) }
 {
     let mut answer = None;
     let mut task = LookTask {
         seat,
+        to,
         site,
         key,
         path,

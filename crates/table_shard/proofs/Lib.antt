@@ -9,3 +9,4 @@ pub mod Sent
 mod Sites
 mod Standing
 mod Looked
+mod Lent

@@ -3,5 +3,7 @@ pub use Rattle.table_shard.proofs.Rows.{updated-key, holds_push, holds_set, lack
 pub use Rattle.table_shard.proofs.Places.{place_within, entered_at}
 -- counts that nobody else changes
 pub use Rattle.table_shard.proofs.Standing.{TellsStanding, enters_standing, looks_standing}
+-- what is lent may be carried
+pub use Rattle.table_shard.proofs.Lent.{lent_fact}
 -- may cross threads
 pub use Rattle.table_shard.proofs.Sent.{shard_send}

@@ -3,6 +3,7 @@ use Rattle.std.proofs.Common.{◌≡◌, ◌<◌, ◌+◌, ◌*◌, ◌/◌, ◌
 use Rattle.std.specs.Prelude.{fold}
 use Rattle.std.proofs.Math.Nat.{mod-add-div, add-mul-mod_self_right, mod-lt, mod-eq_of_lt}
 use Rattle.board_core.specs.declared.keys.Key.{Key}
+use Rattle.hand_dominance.specs.ByKey.{board_words}
 use Rattle.table_shard.specs.Spot.{hashed, hash_of, mark_of, place_of, spot_of}
 use Rattle.table_shard.specs.declared.hash.Spot.{Spot}
 use Rattle.table_shard.specs.declared.hash.TheConstants.{MULTIPLIER, MODULUS}
@@ -22,7 +23,7 @@ low_from [] hash low = low
 low_from (word ∷ words) hash low = low_from words (hashed hash word) (mod-lt ((hash + word) * MULTIPLIER) (omega arith))
 
 pub hash_low : (words : List ℕ) → hash_of words < MODULUS
-hash_low words = low_from words 0 (omega arith)
+hash_low words = low_from (board_words words) 0 (omega arith)
 
 abbrev pub spot_with : ℕ → ℕ → Spot
 spot_with its_place its_mark = record { place = its_place; mark = its_mark }

@@ -2,12 +2,13 @@
 use Rattle.std.proofs.Common.{◌≡◌, ◌<◌, ◌+◌, ℕ, zero, suc, List, [], ◌∷◌, length, get_or, inl, inr, sym, subst, ap, ap₂, ◌∙◌, arith}
 use Rattle.std.specs.Prelude.{Option, Some, None, IsSomeAnd, slice_get}
 use Rattle.std.proofs.lemmas.List.{ext_get_or}
+use Rattle.bit_boards.specs.declared.piece.Side.{Side}
 use Rattle.board_core.specs.declared.keys.Key.{Key}
 use Rattle.pn_numbers.specs.declared.numbers.Numbers.{Numbers}
 use Rattle.notes.specs.declared.words.Kept.{Kept}
 use Rattle.notes.specs.declared.words.Kept.TheVariants.{Slot, Unkept}
 use Rattle.notes.specs.declared.words.Seen.{Seen}
-use Rattle.notes.specs.declared.words.Seen.TheVariants.{New, Open, Solved}
+use Rattle.notes.specs.declared.words.Seen.TheVariants.{New, Open, Solved, Lent}
 use Rattle.table_shard.specs.Entry.{EntryView, Shows}
 use Rattle.table_shard.specs.Pins.{TellsCount}
 use Rattle.table_shard.specs.Row.{HoldsAt, IsRow, Looks, LooksBy, Enters, AsksToEnter, HasPlace, TellsCounts}
@@ -70,20 +71,20 @@ some_map P Q None f h = absurd h
 some_map P Q (Some x) f h = f x h
 
 -- Looking by counts that stand is looking by them.
-pub looks_standing : {P : Type 0} (counts_of : P → List ℕ) (told : P → ℕ → ℕ → P → Type 0) → TellsStanding counts_of told → (row : List EntryView) (key : Key) (path : List Key)
-    (before after : P) (seen : Seen) → IsRow row → LooksBy told row key path before seen after → Looks row (counts_of before) key path seen
-looks_standing counts_of told how row key path before after New is by = by.looks
-looks_standing counts_of told how row key path before after (Solved note) is by = by.looks
-looks_standing counts_of told how row key path before after (Open numbers below) is by =
-    let looks = by.looks in
+pub looks_standing : {P : Type 0} (counts_of : P → List ℕ) (told : P → ℕ → ℕ → P → Type 0) → TellsStanding counts_of told → (to : Option Side) (row : List EntryView) (key : Key)
+    (path : List Key) (before after : P) (seen : Seen) → IsRow row → LooksBy told to row key path before seen after → Looks to row (counts_of before) key path seen
+looks_standing counts_of told how to row key path before after New is by = by.looks
+looks_standing counts_of told how to row key path before after (Solved note) is by = by.looks
+looks_standing counts_of told how to row key path before after (Lent note) is by = by.looks
+looks_standing counts_of told how to row key path before after (Open numbers below) is by =
+    let looks = by.looks.0 in
     let asks = by.asks in
     let slot = looks.0 in
     let holds : HoldsAt row slot key = some_map (λ (e : EntryView). (e.key ≡ key) × Shows e path (get_or by.counts slot 0) (Open numbers below)) (λ (e : EntryView). e.key ≡ key) (slice_get row slot)
     (λ e h. h.0) looks.1 in
     let same : asks.0 ≡ slot = is.apart asks.0 slot key asks.1 holds in
-    let stands : below ≡ get_or (counts_of before) slot 0 = (how before after asks.0 below asks.2).0 ∙ ap (λ (s : ℕ). get_or (counts_of before) s 0) same in (
-      slot,
-      some_map (λ (e : EntryView). (e.key ≡ key) × Shows e path (get_or by.counts slot 0) (Open numbers below))
-          (λ (e : EntryView). (e.key ≡ key) × Shows e path (get_or (counts_of before) slot 0) (Open numbers below)) (slice_get row slot)
-          (λ e h. (h.0, (h.1.0, h.1.1, stands))) looks.1,
-    )
+    let stands : below ≡ get_or (counts_of before) slot 0 = (how before after asks.0 below asks.2).0 ∙ ap (λ (s : ℕ). get_or (counts_of before) s 0) same in
+    let shows = some_map (λ (e : EntryView). (e.key ≡ key) × Shows e path (get_or by.counts slot 0) (Open numbers below))
+    (λ (e : EntryView). (e.key ≡ key) × Shows e path (get_or (counts_of before) slot 0) (Open numbers below)) (slice_get row slot)
+    (λ e h. (h.0, (h.1.0, h.1.1, stands))) looks.1 in
+    ((slot, shows), by.looks.1)

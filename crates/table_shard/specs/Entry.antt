@@ -9,8 +9,9 @@ use Rattle.path_tags.specs.Tag.{IsWithin}
 use Rattle.bit_boards.specs.declared.piece.Side.{Side}
 use Rattle.notes.specs.Derivation.{Derivation, attacker_of, position_of, tag_of}
 use Rattle.notes.specs.Valid.{IsValid}
+use Rattle.notes.specs.Lending.{MayBeLent}
 use Rattle.notes.specs.declared.words.Seen.{Seen}
-use Rattle.notes.specs.declared.words.Seen.TheVariants.{New, Open, Solved}
+use Rattle.notes.specs.declared.words.Seen.TheVariants.{New, Open, Solved, Lent}
 use Rattle.notes.specs.declared.words.Update.{Update}
 use Rattle.notes.specs.declared.words.Update.TheVariants.{Numbers as SetNumbers, Note as AddNote, Nothing as ChangeNothing}
 
@@ -78,6 +79,17 @@ abbrev pub Shows : EntryView → List Key → ℕ → Seen → Type 0
 Shows entry path below New = ⊥
 Shows entry path below (Open numbers count) = IsFirstWithin path entry.notes None × (numbers ≡ entry.numbers) × (count ≡ below)
 Shows entry path below (Solved note) = IsFirstWithin path entry.notes (Some note)
+Shows entry path below (Lent note) = ⊥
+
+-- The entry lends the note to the position of the key, for the attacker: it has this one note,
+-- which holds on every path, and what that concludes holds there too.
+pub record Lends (attacker : Side) (key : Key) (entry : EntryView) (note : Derivation) : Type 0 where
+  pub alone : entry.notes ≡ note ∷ []
+  pub lent : MayBeLent attacker entry.key key note
+
+-- The entry lends a note.
+abbrev pub LendsSome : Side → Key → EntryView → Type 0
+LendsSome attacker key entry = (note : Derivation) × Lends attacker key entry note
 
 -- The notes after another came. One that holds on every path replaces all. Another isn't kept
 -- beside one that does, or where it depends on more than 32 positions; else it goes last, and the

@@ -1,14 +1,16 @@
 -- A row of eight slots: the entries in the order of their slots, from slot 0; the slots behind them
 -- are free.
-use Rattle.std.specs.Prelude.{◌≡◌, ◌≢◌, ◌<◌, ◌≤◌, ◌⊎◌, ◌++◌, ◌+◌, ℕ, zero, suc, List, [], ◌∷◌, All, IsSomeAnd, length, slice_get, slice_set, slice_index, false}
+use Rattle.std.specs.Prelude.{◌≡◌, ◌≢◌, ◌<◌, ◌≤◌, ◌⊎◌, ◌++◌, ◌+◌, ℕ, zero, suc, List, [], ◌∷◌, Option, Some, None, All, IsSomeAnd, length, slice_get, slice_set, slice_index, Bool, false, if◌then◌else◌}
+use Rattle.bit_boards.specs.declared.piece.Side.{Side}
 use Rattle.board_core.specs.declared.keys.Key.{Key}
 use Rattle.pn_numbers.specs.declared.numbers.Numbers.{Numbers}
 use Rattle.notes.specs.declared.words.Seen.{Seen}
-use Rattle.notes.specs.declared.words.Seen.TheVariants.{New, Open, Solved}
+use Rattle.notes.specs.declared.words.Seen.TheVariants.{New, Open, Solved, Lent}
 use Rattle.notes.specs.declared.words.Kept.{Kept}
 use Rattle.notes.specs.declared.words.Kept.TheVariants.{Slot, Unkept}
 use Rattle.notes.specs.declared.words.Update.{Update}
-use Rattle.table_shard.specs.Entry.{EntryView, IsEntry, Shows, has_closed, updated}
+use Rattle.notes.specs.Derivation.{Derivation}
+use Rattle.table_shard.specs.Entry.{EntryView, IsEntry, IsFirstWithin, Lends, LendsSome, Shows, has_closed, updated}
 
 -- The slot holds an entry of the key.
 abbrev pub HoldsAt : List EntryView → ℕ → Key → Type 0
@@ -24,14 +26,48 @@ pub record IsRow (row : List EntryView) : Type 0 where
   pub entries : All IsEntry row
   pub apart : (one other : ℕ) (key : Key) → HoldsAt row one key → HoldsAt row other key → one ≡ other
 
--- What a look for the key shows: New exactly where no entry is the key's; else what its entry
--- shows, with the count of workers of its slot.
-abbrev pub Looks : List EntryView → List ℕ → Key → List Key → Seen → Type 0
-Looks row pins key path New = Lacks row key
-Looks row pins key path (Open numbers below) =
-    (slot : ℕ) × IsSomeAnd (slice_get row slot) (λ entry. (entry.key ≡ key) × Shows entry path (slice_index pins slot) (Open numbers below))
-Looks row pins key path (Solved note) =
+-- The number is the first with the property.
+pub record IsFirst (P : ℕ → Type 0) (n : ℕ) : Type 0 where
+  pub has : P n
+  pub none_before : (m : ℕ) → m < n → ¬ P m
+
+-- The entry in the slot lends a note to the position of the key, for the attacker.
+abbrev pub LendsAt : Side → Key → List EntryView → ℕ → Type 0
+LendsAt attacker key row slot = IsSomeAnd (slice_get row slot) (LendsSome attacker key)
+
+-- What a row lends to the position of a key, for the attacker: the note of the first entry that
+-- lends one; none where none does.
+abbrev pub IsFirstLent : Side → Key → List EntryView → Option Derivation → Type 0
+IsFirstLent attacker key row None = (slot : ℕ) → ¬ LendsAt attacker key row slot
+IsFirstLent attacker key row (Some note) =
+    (slot : ℕ) × IsFirst (LendsAt attacker key row) slot × IsSomeAnd (slice_get row slot) (λ entry. Lends attacker key entry note)
+
+-- The same, where it lends to an attacker at all; else it lends nothing.
+abbrev pub IsLent : Option Side → Key → List EntryView → Option Derivation → Type 0
+IsLent None key row found = found ≡ None
+IsLent (Some attacker) key row found = IsFirstLent attacker key row found
+
+-- To whom a table lends: to this attacker, where it lends at all.
+abbrev pub lent_to : Bool → Side → Option Side
+lent_to lends attacker = if lends then Some attacker else None
+
+-- No note of the key's own entry holds on the path, or the row has no such entry.
+abbrev pub IsUnsolved : List EntryView → Key → List Key → Type 0
+IsUnsolved row key path =
+    Lacks row key ⊎ ((slot : ℕ) × IsSomeAnd (slice_get row slot) (λ entry. (entry.key ≡ key) × IsFirstWithin path entry.notes None))
+
+-- What a look for the key shows, the first that there is: the note of its own entry that holds on
+-- the path; what the row lends (another entry's note, since the own one, where it held on every
+-- path, would have come first); what its own entry shows, with the count of workers of its slot;
+-- New where no entry is the key's.
+abbrev pub Looks : Option Side → List EntryView → List ℕ → Key → List Key → Seen → Type 0
+Looks to row pins key path New = Lacks row key × IsLent to key row None
+Looks to row pins key path (Open numbers below) =
+    ((slot : ℕ) × IsSomeAnd (slice_get row slot) (λ entry. (entry.key ≡ key) × Shows entry path (slice_index pins slot) (Open numbers below)))
+    × IsLent to key row None
+Looks to row pins key path (Solved note) =
     (slot : ℕ) × IsSomeAnd (slice_get row slot) (λ entry. (entry.key ≡ key) × Shows entry path (slice_index pins slot) (Solved note))
+Looks to row pins key path (Lent note) = IsUnsolved row key path × IsLent to key row (Some note)
 
 -- The slot holds an entry, and no worker is below it.
 pub record IsIdle (row : List EntryView) (pins : List ℕ) (slot : ℕ) : Type 0 where
@@ -42,11 +78,6 @@ pub record IsIdle (row : List EntryView) (pins : List ℕ) (slot : ℕ) : Type 0
 pub record IsIdleUnsolved (row : List EntryView) (pins : List ℕ) (slot : ℕ) : Type 0 where
   pub idle : IsIdle row pins slot
   pub unsolved : IsSomeAnd (slice_get row slot) (λ entry. has_closed entry.notes ≡ false)
-
--- The number is the first with the property.
-pub record IsFirst (P : ℕ → Type 0) (n : ℕ) : Type 0 where
-  pub has : P n
-  pub none_before : (m : ℕ) → m < n → ¬ P m
 
 -- The slot whose entry is given up for another: of the entries that no worker is below the first
 -- without a note that holds on every path; where each of them has such a note, the first of them.
@@ -87,9 +118,9 @@ AsksToLook told row key before (Open numbers below) after = (slot : ℕ) × Hold
 AsksToLook told row key before seen after = before ≡ after
 
 -- What a look for the key shows by counts that are asked for one by one.
-pub record LooksBy {P : Type 0} (told : P → ℕ → ℕ → P → Type 0) (row : List EntryView) (key : Key) (path : List Key) (before : P) (seen : Seen) (after : P) : Type 0 where
+pub record LooksBy {P : Type 0} (told : P → ℕ → ℕ → P → Type 0) (to : Option Side) (row : List EntryView) (key : Key) (path : List Key) (before : P) (seen : Seen) (after : P) : Type 0 where
   pub counts : List ℕ
-  pub looks : Looks row counts key path seen
+  pub looks : Looks to row counts key path seen
   pub asks : AsksToLook told row key before seen after
 
 -- There is no need to give up an entry of the row for the key: it has one, or a slot is free.

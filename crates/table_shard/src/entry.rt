@@ -1,12 +1,12 @@
 // An entry: what the table knows of one position.
-ghost use Rattle.std.specs.Prelude.{◌≡◌, ◌↔◌, IsTrue, option_copied};
+ghost use Rattle.std.specs.Prelude.{◌≡◌, ◌∷◌, [], ◌↔◌, IfSome, IfNone, IsTrue, false, option_copied};
 ghost use Rattle.pn_numbers.specs.Numbers.{IsOpen};
-ghost use Rattle.table_shard.specs.Entry.{EntryView, IsEntry, IsFirstWithin, IsAbout, noted, updated, FitsKey, has_closed};
+ghost use Rattle.table_shard.specs.Entry.{EntryView, IsEntry, IsFirstWithin, IsAbout, LendsSome, noted, updated, FitsKey, has_closed};
 ghost use Rattle.table_shard.specs.Row.{fresh};
 
 use crate::facts::Facts;
-use board_core::Key;
-use notes::{Note, Update};
+use board_core::{Key, Side};
+use notes::{Note, Update, may_be_lent};
 use path_tags::Path;
 use pn_numbers::Numbers;
 use std::marker::Model;
@@ -73,6 +73,24 @@ impl Entry {
         ensures { IsFirstWithin path.now self.now.notes (option_copied result) }
     {
         self.facts.first_within(path)
+    }
+
+    // The note that holds on every path, which stands alone.
+    pub(crate) fn closed(&self) -> Option<&Note>
+        ensures some { IfSome result (λ note. self.now.notes ≡ note.now ∷ []) }
+        ensures none { IfNone result (has_closed self.now.notes ≡ false) }
+    {
+        self.facts.closed()
+    }
+
+    // Whether it lends a note to the position of another key, for the attacker.
+    pub(crate) fn lends(&self, attacker: Side, key: &Key) -> bool
+        ensures { IsTrue result ↔ LendsSome attacker key.now self.now }
+    {
+        match self.closed() {
+            Some(note) => may_be_lent(note, attacker, &self.key, key),
+            None => false,
+        }
     }
 
     // Its numbers.

@@ -1,5 +1,5 @@
 // The notes of an entry.
-ghost use Rattle.std.specs.Prelude.{◌≡◌, ◌∷◌, ◌-◌, ◌++◌, ◌↔◌, List, [], Option, Some, IsTrue, drop, length, if◌then◌else◌};
+ghost use Rattle.std.specs.Prelude.{◌≡◌, ◌∷◌, ◌-◌, ◌++◌, ◌↔◌, List, [], Option, Some, IfSome, IfNone, IsTrue, false, drop, length, if◌then◌else◌};
 ghost use Rattle.std.specs.Option.{option_copied};
 ghost use Rattle.notes.specs.Derivation.{Derivation, tag_of};
 ghost use Rattle.table_shard.specs.Entry.{IsTagged, IsFirstWithin, has_closed};
@@ -28,6 +28,18 @@ impl Facts {
         ensures { result ≡ has_closed (notes_of self.now) }
     {
         matches!(self, Facts::Closed(_))
+    }
+
+    // The note that is kept alone, and holds on every path.
+    pub(crate) fn closed(&self) -> Option<&Note>
+        requires { AreFacts self.now }
+        ensures some { IfSome result (λ note. notes_of self.now ≡ note.now ∷ []) }
+        ensures none { IfNone result (has_closed (notes_of self.now) ≡ false) }
+    {
+        match self {
+            Facts::Closed(note) => Some(note),
+            _ => None,
+        }
     }
 
     // The facts with another note, which depends on 1 to 32 positions, where none is kept that

@@ -4,6 +4,7 @@ ghost use Rattle.board_core.specs.declared.keys.Key.{Key};
 ghost use Rattle.table_shard.specs.Spot.{hashed, hash_of, spot_of, place_of, word_of};
 
 use board_core::Key;
+use hand_dominance::board_of;
 
 // What a hash is multiplied by.
 pub(crate) const MULTIPLIER: u64 = 1_442_695_040_888_963_407;
@@ -26,25 +27,26 @@ fn hashed(hash: u64, word: u64) -> u64
     twice
 }
 
-// The hash of a key.
+// The hash of a key, whatever its hands.
 pub(crate) fn hash_of(key: &Key) -> u64
     ensures { result ≡ hash_of key.now.0 }
 {
     let mut hash = 0;
-    for word in key.0.iter() {
+    let board = board_of(key);
+    for word in board.0.iter() {
         hash = hashed(hash, *word);
     }
     hash
 }
 
-/// Where a table has a position: in which row, and by which mark its entry there is told apart at a
-/// glance. Both are of a hash of the key's words, which is reckoned once for all that is asked of
-/// the table at a time.
+/// Where a table has a position: in which row, and by which mark the entries of its board there are
+/// told apart at a glance. Both are of a hash of the key's words without the hands, so that all
+/// hands of a board share a row; it is reckoned once for all that is asked of the table at a time.
 #[derive(Clone, Copy, Debug)]
 pub struct Spot {
     /// The row, from 0.
     pub place: usize,
-    /// A part of the hash: entries of one position have one mark.
+    /// A part of the hash: entries of one board and side to move have one mark.
     pub mark: u32,
 }
 
@@ -68,15 +70,15 @@ pub(crate) fn spot_at(hash: u64, rows: usize) -> Spot
 pub struct Site {
     /// The shard, from 0.
     pub shard: usize,
-    /// The hash of the key's words.
+    /// The hash of the key's words without the hands.
     pub hash: u64,
     /// The word of the row's first slot, from 0.
     pub word: usize,
 }
 
 /// Where a table of so many shards, each of `own` rows, has the position of a key: in the row that
-/// a hash of the key's words names, modulo all rows. The shards have the rows in their order, so a
-/// shard finds the row's place among its own by that hash. Takes no memory.
+/// a hash of the key's words without the hands names, modulo all rows. The shards have the rows in
+/// their order, so a shard finds the row's place among its own by that hash. Takes no memory.
 pub fn site_of(key: &Key, shards: usize, own: usize) -> Site
     requires shards { 0 < shards }
     requires own { 0 < own }

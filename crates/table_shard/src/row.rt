@@ -1,16 +1,16 @@
 // A row of eight slots.
-ghost use Rattle.std.specs.Prelude.{◌≡◌, ◌≢◌, ◌<◌, ◌≤◌, ◌++◌, ◌==◌, ◌↔◌, [], ◌∷◌, ℕ, IfSome, IfNone, MatchOption, MatchResult, IsSomeAnd, All, IsTrue, false, length, slice_get, slice_set, slice_index};
+ghost use Rattle.std.specs.Prelude.{◌≡◌, ◌≢◌, ◌<◌, ◌≤◌, ◌++◌, ◌==◌, ◌↔◌, [], ◌∷◌, ℕ, IfSome, IfNone, Some, None, MatchOption, MatchResult, IsSomeAnd, All, IsTrue, false, length, slice_get, slice_set, slice_index, option_copied};
 ghost use Rattle.pn_numbers.specs.Numbers.{IsOpen};
-ghost use Rattle.table_shard.specs.Entry.{EntryView, IsEntry, FitsKey};
+ghost use Rattle.table_shard.specs.Entry.{EntryView, IsEntry, IsFirstWithin, FitsKey};
 ghost use Rattle.table_shard.specs.Marks.{marks_of};
 ghost use Rattle.table_shard.specs.Spot.{mark_of};
-ghost use Rattle.table_shard.specs.Row.{HoldsAt, Lacks, IsRow, LooksBy, IsIdle, IsIdleUnsolved, IsFirst, IsGivenUp, EntersBy, left};
+ghost use Rattle.table_shard.specs.Row.{HoldsAt, Lacks, IsLent, IsRow, IsUnsolved, LendsAt, LooksBy, IsIdle, IsIdleUnsolved, IsFirst, IsGivenUp, EntersBy, left};
 
 use crate::entry::Entry;
 use crate::pins::{Pins, counts_of};
 use arrayvec::ArrayVec;
-use board_core::Key;
-use notes::{Kept, Seen, Update};
+use board_core::{Key, Side};
+use notes::{Kept, Note, Seen, Update};
 use path_tags::Path;
 use pn_numbers::Numbers;
 use std::alloc::AllocError;
@@ -20,8 +20,8 @@ use std::marker::Model;
 pub(crate) const SLOTS: usize = 8;
 
 // The entries in the order of their slots; the slots behind them are free. Contracts see the list.
-// Their marks stand side by side, so that a look for a position of which the row knows nothing
-// mostly reads these alone.
+// Their marks stand side by side, so that a look for a position of whose board the row knows
+// nothing mostly reads these alone.
 #[derive(Drop)]
 pub(crate) struct Row {
     marks: ArrayVec<u32, SLOTS>,
@@ -101,9 +101,43 @@ impl Row {
         }
     }
 
+    // The note of the key's own entry, which is in this slot, that holds on the path.
+    fn own_note(&self, own: Option<usize>, key: &Key, path: &Path) -> Option<&Note>
+        requires own { IfSome own (λ slot. HoldsAt self.now slot key.now) }
+        requires there { IfSome own (λ slot. slot < length self.now) }
+        requires lacks { IfNone own (Lacks self.now key.now) }
+        ensures some { IfSome result
+            (λ note. (slot : ℕ) × IsSomeAnd (slice_get self.now slot)
+            (λ entry. (entry.key ≡ key.now) × IsFirstWithin path.now entry.notes (Some note.now))) }
+        ensures none { IfNone result (IsUnsolved self.now key.now path.now) }
+        ensures there { IfNone result (IfSome own (λ slot. IsSomeAnd (slice_get self.now slot)
+            (λ entry. IsFirstWithin path.now entry.notes None))) }
+    {
+        match own {
+            Some(slot) => self.entries.as_slice()[slot].note_on(path),
+            None => None,
+        }
+    }
+
+    // The note that is lent to the position of the key, for the attacker, if it lends to one.
+    fn lent_note(&self, to: Option<Side>, mark: u32, key: &Key) -> Option<&Note>
+        requires mark { mark ≡ mark_of key.now }
+        ensures { IsLent to key.now self.now (option_copied result) }
+    {
+        let Some(attacker) = to else {
+            return None;
+        };
+        let Some(slot) = first_lent(self.marks.as_slice(), &self.entries, attacker, mark, key)
+        else {
+            return None;
+        };
+        self.entries.as_slice()[slot].closed()
+    }
+
     // What a look for the key shows. Errors: want of memory alone; then nothing was asked.
     pub(crate) fn look<P: Pins>(
         &self,
+        to: Option<Side>,
         mark: u32,
         key: &Key,
         path: &Path,
@@ -113,20 +147,23 @@ impl Row {
         requires ready { P.ready pins.old }
         ensures ready { P.ready pins.new }
         ensures looks { MatchResult result
-            (λ seen. LooksBy P.told self.now key.now path.now pins.old seen pins.new)
+            (λ seen. LooksBy P.told to self.now key.now path.now pins.old seen pins.new)
             (λ _. pins.old ≡ pins.new) }
     {
-        let Some(slot) = slot_of(self.marks.as_slice(), &self.entries, mark, key) else {
+        let own = slot_of(self.marks.as_slice(), &self.entries, mark, key);
+        if let Some(note) = self.own_note(own, key, path) {
+            return Ok(Seen::Solved(note.share()?));
+        }
+        if let Some(note) = self.lent_note(to, mark, key) {
+            return Ok(Seen::Lent(note.share()?));
+        }
+        let Some(slot) = own else {
             return Ok(Seen::New);
         };
-        let entry = &self.entries.as_slice()[slot];
-        match entry.note_on(path) {
-            Some(note) => Ok(Seen::Solved(note.share()?)),
-            None => Ok(Seen::Open {
-                numbers: entry.numbers(),
-                below: pins.count(slot),
-            }),
-        }
+        Ok(Seen::Open {
+            numbers: self.entries.as_slice()[slot].numbers(),
+            below: pins.count(slot),
+        })
     }
 
     // Enters the key, with these numbers where it is new.
@@ -216,6 +253,50 @@ fn slot_of(marks: &[u32], entries: &ArrayVec<Entry, SLOTS>, mark: u32, key: &Key
 {
     for (slot, known) in marks.iter().enumerate() {
         if is_there(*known, entries, slot, mark, key) {
+            return Some(slot);
+        }
+    }
+    None
+}
+
+// Whether the entry in a slot, which has this mark, lends a note to the position of the key. Where
+// the marks differ, it is of another board, and nothing of the entries is read.
+fn lends_there(
+    known: u32,
+    entries: &ArrayVec<Entry, SLOTS>,
+    slot: usize,
+    attacker: Side,
+    mark: u32,
+    key: &Key,
+) -> bool
+    requires known { IsSomeAnd (slice_get entries.now.items slot) (λ entry. known
+        ≡ mark_of entry.key) }
+    requires mark { mark ≡ mark_of key.now }
+    ensures { IsTrue result ↔ LendsAt attacker key.now entries.now.items slot }
+{
+    if known != mark {
+        return false;
+    }
+    entries.as_slice()[slot].lends(attacker, key)
+}
+
+// The first slot whose entry lends a note to the position of the key, by the marks of the entries.
+fn first_lent(
+    marks: &[u32],
+    entries: &ArrayVec<Entry, SLOTS>,
+    attacker: Side,
+    mark: u32,
+    key: &Key,
+) -> Option<usize>
+    requires marks { marks.now ≡ marks_of entries.now.items }
+    requires mark { mark ≡ mark_of key.now }
+    ensures there { IfSome result (λ slot. slot < length entries.now.items) }
+    ensures some { IfSome result (IsFirst (LendsAt attacker key.now entries.now.items)) }
+    ensures none { IfNone result
+        ((slot : ℕ) → ¬ LendsAt attacker key.now entries.now.items slot) }
+{
+    for (slot, known) in marks.iter().enumerate() {
+        if lends_there(*known, entries, slot, attacker, mark, key) {
             return Some(slot);
         }
     }

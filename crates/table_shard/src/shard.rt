@@ -11,7 +11,7 @@ ghost use Rattle.table_shard.specs.Emptied.{AreUncounted};
 use crate::hash::{Spot, hash_of, spot_at};
 use crate::pins::Pins;
 use crate::row::Row;
-use board_core::Key;
+use board_core::{Key, Side};
 use notes::{Kept, Seen, Update};
 use path_tags::Path;
 use pn_numbers::Numbers;
@@ -102,9 +102,9 @@ impl Shard {
         }
     }
 
-    /// Where it has the position of a key: in the row that a hash of the key's words, modulo its
-    /// rows, names. Whoever keeps counts beside its rows keeps them at these places. Takes no
-    /// memory.
+    /// Where it has the position of a key: in the row that a hash of the key's words without the
+    /// hands, modulo its rows, names. Whoever keeps counts beside its rows keeps them at these
+    /// places. Takes no memory.
     pub fn spot_of(&self, key: &Key) -> Spot
         ensures spot { result ≡ spot_of key.now (length self.now) }
         ensures there { result.place < length self.now }
@@ -139,12 +139,15 @@ impl Shard {
         self.rows[spot.place].holds(slot, key)
     }
 
-    /// What the table shows of a position to a worker on the path: New exactly where it has no
-    /// entry of the key; Solved with the first note that holds on the path, where one does; else
-    /// Open with the numbers and how many workers are below, which is asked for then alone. The
-    /// note is shared. Errors: want of memory alone; then nothing was asked.
+    /// What the table shows of a position to a worker on the path, the first that there is: Solved
+    /// with the first note of its entry that holds on the path; Lent with the note of the first
+    /// other entry of its board that holds on every path and may be carried to it, for the attacker
+    /// `to`, where notes are lent at all; Open with the numbers of its entry and how many workers
+    /// are below, which is asked for then alone; New where it has no entry of the key. The note is
+    /// shared. Errors: want of memory alone; then nothing was asked.
     pub fn look<P: Pins>(
         &self,
+        to: Option<Side>,
         spot: Spot,
         key: &Key,
         path: &Path,
@@ -154,10 +157,10 @@ impl Shard {
         requires ready { P.ready pins.old }
         ensures ready { P.ready pins.new }
         ensures looks { MatchResult result
-            (λ seen. LooksBy P.told (row_of self.now key.now) key.now path.now pins.old seen
+            (λ seen. LooksBy P.told to (row_of self.now key.now) key.now path.now pins.old seen
             pins.new) (λ _. pins.old ≡ pins.new) }
     {
-        self.rows[spot.place].look(spot.mark, key, path, pins)
+        self.rows[spot.place].look(to, spot.mark, key, path, pins)
     }
 
     /// Enters a position: answers the slot of its entry. Where it has none, it gets one with these

@@ -73,6 +73,15 @@ impl Lines {
         }
     }
 
+    // Ends a line with what a note says that is lent: it depends on no repetition.
+    fn end_by_lent(&mut self, note: &Note) {
+        let word = match note.conclusion() {
+            Conclusion::Mate => "lent mate",
+            Conclusion::Escape => "lent escape",
+        };
+        self.end_by(word, &[u64::from(note.height())]);
+    }
+
     // Begins a line with the worker's number, where there is one, and this word.
     fn begin(&mut self, word: &str) {
         if self.is_world && write!(self.text, "{} ", self.worker).is_err() {
@@ -129,6 +138,7 @@ impl Lines {
                 &[u64::from(numbers.pn), u64::from(numbers.dn), *below],
             ),
             Seen::Solved(note) => self.end_by_note(note),
+            Seen::Lent(note) => self.end_by_lent(note),
         }
     }
 

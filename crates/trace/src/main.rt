@@ -7,8 +7,8 @@
 //! - `poll no`; `draw go N`, `draw done`, `draw spent`; `claim room N`, `claim noroom`; `post`
 //! - `enter SFEN PN DN kept SLOT`, `enter SFEN PN DN unkept`
 //! - `look SFEN new`, `look SFEN open PN DN BELOW`, `look SFEN mate HEIGHT`, `look SFEN escape
-//!   HEIGHT TAG`, where TAG
-//!   is how many positions' repetitions it depends on
+//!   HEIGHT TAG`, where TAG is how many positions' repetitions it depends on; `look SFEN lent mate
+//!   HEIGHT`, `look SFEN lent escape HEIGHT`, where the note is of other hands
 //! - `leave SFEN numbers PN DN`, `leave SFEN mate HEIGHT`, `leave SFEN escape HEIGHT TAG`, `leave
 //!   SFEN nothing`
 //! - at last `end` and how it ended: `posted`, `spent`, `noroom`, `toohigh`, `nomemory` or

@@ -156,8 +156,13 @@ where
     if rows.len() != ground.cut.shards {
         return Err(AllocError);
     }
+    let cut = Cut {
+        shards: ground.cut.shards,
+        own: ground.cut.own,
+        to: Some(problem.attacker()),
+    };
     let written = Recorder {
-        port: TablePort::new(rows, ground.cut, seats, watch),
+        port: TablePort::new(rows, cut, seats, watch),
         lines: Lines::new(alloc, problem.attacker(), true),
         below: 0,
     };
@@ -301,6 +306,7 @@ where
     let cut = Cut {
         shards: settings.shards as usize,
         own: (settings.rows / settings.shards) as usize,
+        to: Some(asked.problem.attacker()),
     };
     let (words, mut seat) = WorkerCounts::make(alloc, 8 * (cut.shards * cut.own))?;
     let (desk, mut desk_seat) = WordDesk::make(alloc, &asked.problem, settings)?;

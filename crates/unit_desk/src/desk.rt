@@ -4,7 +4,7 @@ ghost use Rattle.notes.specs.declared.words.Draw.TheVariants.{Done, Spent};
 ghost use Rattle.notes.specs.declared.words.RoomAnswer.TheVariants.{NoRoom};
 ghost use Rattle.unit_desk.specs.Desk.{IsAnswerTo, IsDesk, HasPosted, Draws, Claims, fresh, first_posted};
 
-use board_core::Position;
+use board_core::{Position, Side};
 use notes::{Draw, Note, RoomAnswer};
 use search_limits::Settings;
 use shogi_rules::Problem;
@@ -111,6 +111,13 @@ impl Desk {
         ensures { result ≡ self.posted }
     {
         self.note
+    }
+
+    /// The attacker of the problem, who is to move in its position.
+    pub fn attacker(&self) -> Side
+        ensures { result ≡ self.now.position.side }
+    {
+        self.position.side()
     }
 
     /// How many visits were drawn.

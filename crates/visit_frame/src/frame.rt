@@ -9,7 +9,7 @@ ghost use Rattle.visit_log.specs.declared.parts.Child.{Child};
 ghost use Rattle.visit_log.specs.Frame.{Task, task_for, begun};
 ghost use Rattle.visit_log.specs.Children.{AreChildren, is_solved, first_due, notes_under};
 ghost use Rattle.visit_log.specs.Round.{node_in, own as own_in, Selects, MayShow, Sight, Tells, looked, came_back, IsMade};
-ghost use Rattle.visit_log.specs.Machine.{Settles, keep, bare};
+ghost use Rattle.visit_log.specs.Machine.{IsLending, Settles, keep, bare};
 ghost use Rattle.visit_log.specs.Sound.{IsListed};
 
 use crate::listing::{children_of, node_at};
@@ -243,20 +243,40 @@ impl Frame {
     }
 
     /// The child at the place was looked at. Where the table has no entry of it, its start numbers
-    /// are reckoned here. Takes no memory.
-    pub fn look(&mut self, problem: &Problem, worker: u32, place: usize, seen: Seen)
+    /// are reckoned here; a note that is lent is carried to it. Errors: want of memory for that
+    /// alone, and then nothing has changed.
+    pub fn look(
+        &mut self,
+        alloc: Global,
+        problem: &Problem,
+        worker: u32,
+        place: usize,
+        seen: Seen,
+    ) -> Result<(), AllocError>
         requires listed { (path : List Key)
             × IsListed (task_for problem.now.position worker) path self.old
             × ((child : Child) → slice_get self.old.children place ≡ Some child
             → MayShow problem.now.position.side child.key path seen) }
         requires there { IsSome (slice_get self.old.children place) }
-        ensures { (sight : Sight) × (sight.place ≡ place) × (sight.seen ≡ seen)
+        ensures looked { OnOk result
+            ((sight : Sight) × (sight.place ≡ place) × (sight.seen ≡ seen)
             × (slice_get self.old.children place ≡ Some sight.child)
             × Tells problem.now.position.side self.old.place.position sight.child.by seen
-            sight.start × (self.new ≡ looked self.old sight) }
+            sight.start
+            × (self.new ≡ looked (task_for problem.now.position worker) self.old sight)) }
+        ensures lost { OnErr result (IsLending seen) }
+        ensures unchanged { OnErr result (self.new ≡ self.old) }
     {
         let _ = worker;
-        tell(problem, &self.position, &mut self.children, place, seen);
+        tell(
+            alloc,
+            problem,
+            &self.position,
+            &mut self.children,
+            place,
+            seen,
+        )?;
+        Ok(())
     }
 
     /// The visit of the chosen child ended so: the next round begins. Takes no memory.

@@ -1,44 +1,65 @@
 // What a look at a child tells, and what its visit leaves.
-ghost use Rattle.std.specs.Prelude.{◌≡◌, ◌<◌, Some, IsSome, length, map, slice_get, slice_set};
+ghost use Rattle.std.specs.Prelude.{◌≡◌, ◌<◌, Some, IsSome, OnErr, OnOk, length, map, slice_get, slice_set};
 ghost use Rattle.shogi_rules.specs.Rules.{IsQuiet};
 ghost use Rattle.visit_log.specs.declared.parts.Child.{Child};
 ghost use Rattle.visit_log.specs.declared.parts.Look.TheVariants.{Fresh};
 ghost use Rattle.visit_log.specs.Round.{Sight, Tells, told, staled, staled_look, visited};
+ghost use Rattle.visit_log.specs.Machine.{IsLending};
 ghost use Rattle.visit_frame.specs.Telling.{MayTell};
 
 use board_core::Position;
-use notes::{Note, Seen};
+use notes::{Note, Seen, carry};
 use pn_numbers::Numbers;
 use shogi_rules::{Problem, apply};
 use start_numbers::start;
+use std::alloc::{AllocError, Global};
 use visit_log::{Child, Left, Look};
 
-// The child at the place was looked at.
+// The child at the place was looked at. A note that is lent is carried to it. Errors: want of
+// memory for that alone, and then nothing changes.
 pub(crate) fn tell(
+    alloc: Global,
     problem: &Problem,
     position: &Position,
     children: &mut [Child],
     place: usize,
     seen: Seen,
-)
+) -> Result<(), AllocError>
     requires quiet { IsQuiet position.now }
     requires known { MayTell problem.now.position.side position.now children.old place seen }
-    ensures { (sight : Sight) × (sight.place ≡ place) × (sight.seen ≡ seen)
+    ensures told { OnOk result
+        ((sight : Sight) × (sight.place ≡ place) × (sight.seen ≡ seen)
         × (slice_get children.old place ≡ Some sight.child)
         × Tells problem.now.position.side position.now sight.child.by seen sight.start
-        × (children.new ≡ slice_set children.old place (told sight.child seen sight.start)) }
+        × (children.new ≡ slice_set children.old place
+        (told problem.now.position.side position.now sight.child seen sight.start))) }
+    ensures lost { OnErr result (IsLending seen) }
+    ensures unchanged { OnErr result (children.new ≡ children.old) }
 {
     match seen {
         Seen::New => {
             let numbers = start(problem, position, children[place].by);
             show(children, place, numbers, 0);
+            Ok(())
         }
-        Seen::Open { numbers, below } => show(children, place, numbers, below),
+        Seen::Open { numbers, below } => {
+            show(children, place, numbers, below);
+            Ok(())
+        }
         Seen::Solved(note) => {
             note.laws();
             // No other position has the key of the one behind the move.
             let _key = board_core::key(&apply(position, children[place].by));
             prove(children, place, note);
+            Ok(())
+        }
+        Seen::Lent(note) => {
+            let next = apply(position, children[place].by);
+            next.laws();
+            let own = carry(alloc, problem, &next, &note)?;
+            own.laws();
+            prove(children, place, own);
+            Ok(())
         }
     }
 }

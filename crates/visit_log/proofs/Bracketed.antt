@@ -15,7 +15,7 @@ use Rattle.visit_log.specs.declared.words.Request.TheVariants.{Look, Post}
 use Rattle.visit_log.specs.declared.words.Reply.TheVariants.{Post as PostedIt}
 use Rattle.visit_log.specs.Frame.{Task, Place, FrameView, root, opened}
 use Rattle.visit_log.specs.Round.{own, Choice, child_place}
-use Rattle.visit_log.specs.Visit.{Exchange, Visit, Unpolled, Halted, Undrawn, Refused, Unentered, Unlisted, Visited, Doings, nothing_yet, and_look, and_visit, Tail, Cut, Blind, Unclaimed, Unmade, Made, Passed, Under, Ending, Winds, Ends, ending, after_child, known_after, polled, drew, entered, looked_at, claimed, kept_by, leave, drawn_on, entered_on, visit_on, doings_on, tail_on, EndsLog}
+use Rattle.visit_log.specs.Visit.{Exchange, Visit, Unpolled, Halted, Undrawn, Refused, Unentered, Unlisted, Visited, Doings, nothing_yet, and_look, and_visit, Tail, Cut, Blind, Uncarried, Unclaimed, Unmade, Made, Passed, Under, Ending, Winds, Ends, ending, after_child, known_after, polled, drew, entered, looked_at, lent_at, claimed, kept_by, leave, drawn_on, entered_on, visit_on, doings_on, tail_on, EndsLog}
 use Rattle.visit_log.specs.Counts.{IsBracket, AreBrackets}
 use Rattle.visit_log.specs.Laws.{LogsAreBrackets}
 use Rattle.visit_log.proofs.Waiting.{kept_after}
@@ -91,6 +91,9 @@ mutual
   tail_brackets task held log f kept key (Blind place child) at of are =
       leave_one held (log ++ (Look child.key, None) ∷ []) f kept key Nothing at of
       (brackets_more [] ((kept, key) ∷ held) ((kept, key) ∷ held) log (Look child.key, None) are refl)
+  tail_brackets task held log f kept key (Uncarried place child note) at of are =
+      leave_one held (log ++ lent_at child note ∷ []) f kept key Nothing at of
+      (brackets_more [] ((kept, key) ∷ held) ((kept, key) ∷ held) log (lent_at child note) are refl)
   tail_brackets task held log f kept key Unclaimed at of are =
       leave_one held (log ++ claimed Full ∷ []) f kept key Nothing at of (brackets_more [] ((kept, key) ∷ held) ((kept, key) ∷ held) log (claimed Full) are refl)
   tail_brackets task held log f kept key (Unmade room end) at of are =

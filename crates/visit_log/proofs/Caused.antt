@@ -16,7 +16,7 @@ use Rattle.visit_log.specs.declared.words.Reply.TheVariants.{Post as PostedIt}
 use Rattle.visit_log.specs.Frame.{Task, Place, FrameView, root, opened}
 use Rattle.visit_log.specs.Children.{rule_at, notes_under}
 use Rattle.visit_log.specs.Round.{IsRefusal, Solves, child_place, node_in, own}
-use Rattle.visit_log.specs.Visit.{Exchange, Visit, Unpolled, Halted, Undrawn, Refused, Unentered, Unlisted, Visited, Doings, nothing_yet, and_look, and_visit, Tail, Cut, Blind, Unclaimed, Unmade, Made, Passed, Under, Ending, Winds, Ends, ending, tail_ending, known_after, polled, drew, entered, looked_at, claimed, leave, drawn_on, entered_on, visit_on, doings_on, tail_on, EndsLog, IsVisit, IsTail, path_at}
+use Rattle.visit_log.specs.Visit.{Exchange, Visit, Unpolled, Halted, Undrawn, Refused, Unentered, Unlisted, Visited, Doings, nothing_yet, and_look, and_visit, Tail, Cut, Blind, Uncarried, Unclaimed, Unmade, Made, Passed, Under, Ending, Winds, Ends, ending, tail_ending, known_after, polled, drew, entered, looked_at, lent_at, claimed, leave, drawn_on, entered_on, visit_on, doings_on, tail_on, EndsLog, IsVisit, IsTail, path_at}
 use Rattle.visit_log.specs.Unmade.{IsUnmadeIn, IsUnmadeBy, IsTooHigh}
 use Rattle.visit_log.specs.Laws.{HasCause, EndsHaveCauses}
 use Rattle.visit_log.proofs.Bracketed.{place_after}
@@ -61,6 +61,8 @@ mutual
   tail_holds task log f Cut e there = old log (leave f Nothing) e there
   tail_holds task log f (Blind place child) e there =
       old (log ++ (Look child.key, None) ∷ []) (leave f Nothing) e (old log (Look child.key, None) e there)
+  tail_holds task log f (Uncarried place child note) e there =
+      old (log ++ lent_at child note ∷ []) (leave f Nothing) e (old log (lent_at child note) e there)
   tail_holds task log f Unclaimed e there = old (log ++ claimed Full ∷ []) (leave f Nothing) e (old log (claimed Full) e there)
   tail_holds task log f (Unmade room end) e there = old (log ++ claimed (Room room) ∷ []) (leave f Nothing) e (old log (claimed (Room room)) e there)
   tail_holds task log f (Made room note) e there = old (log ++ claimed (Room room) ∷ []) (leave f (Noted note)) e (old log (claimed (Room room)) e there)
@@ -166,6 +168,7 @@ mutual
       → Contains log (entered f.place kept) → WindsWhy task (λ g room. IsUnmadeBy task f tail g room) (tail_ending task f tail) (tail_on task log f tail)
   tail_why task path log f kept Cut is there = tt
   tail_why task path log f kept (Blind place child) is there = tt
+  tail_why task path log f kept (Uncarried place child note) is there = tt
   tail_why task path log f kept Unclaimed is there = old (log ++ claimed Full ∷ []) (leave f Nothing) (claimed Full) (last log (claimed Full))
   tail_why task path log f kept (Unmade room end) is there =
       cause_more task (λ g given. IsUnmadeBy task f (Unmade room end) g given) end (log ++ claimed (Room room) ∷ []) (leave f Nothing)

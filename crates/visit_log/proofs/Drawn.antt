@@ -104,7 +104,10 @@ opens_covered task s t (f ∷ fs) kept claims most h = elim h [
 sees_covered : (task : Task) (s t : State) (place : ℕ) (fs : List FrameView) (seen : Seen) → s.claims + length fs ≤ s.visits → s.visits ≤ MOST_EXPANSIONS
     → Sees task s place fs seen t → Covers t
 sees_covered task s t place [] seen claims most h = absurd h
-sees_covered task s t place (f ∷ fs) seen claims most h = goes_covered task s t _ fs claims most h.5
+sees_covered task s t place (f ∷ fs) seen claims most h = elim h [
+  | inl sight ↦ goes_covered task s t _ fs claims most sight.5
+  | inr lost ↦ winds_covered (at_stage s (Looking place) (f ∷ fs)) t NoMemory (omega (arith, claims)) (omega (arith, claims)) most lost.1
+]
 
 makes_covered : (task : Task) (s t : State) (fs : List FrameView) → fs ≡ s.frames → s.claims + length fs ≤ s.visits → s.visits ≤ MOST_EXPANSIONS
     → Makes task s fs t → Covers t

@@ -49,7 +49,8 @@ opens_counts task s t (f ∷ fs) kept (inr lost) = counts_as s t _ 0 0 lost (ome
 
 sees_counts : (task : Task) (s t : State) (place : ℕ) (fs : List FrameView) (seen : Seen) → Sees task s place fs seen t → Counts s t 0 0
 sees_counts task s t place [] seen h = absurd h
-sees_counts task s t place (f ∷ fs) seen h = goes_counts task s t _ fs h.5
+sees_counts task s t place (f ∷ fs) seen (inl sight) = goes_counts task s t _ fs sight.5
+sees_counts task s t place (f ∷ fs) seen (inr lost) = counts_as s t _ 0 0 lost.1 (omega arith) (omega arith)
 
 makes_counts : (task : Task) (s t : State) (fs : List FrameView) → Makes task s fs t → Counts s t 0 1
 makes_counts task s t [] h = absurd h

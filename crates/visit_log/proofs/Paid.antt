@@ -10,7 +10,7 @@ use Rattle.visit_log.specs.declared.words.Request.TheVariants.{Look, Post}
 use Rattle.visit_log.specs.declared.words.Reply.TheVariants.{Post as PostedIt}
 use Rattle.visit_log.specs.Frame.{Task, Place, FrameView, root, opened}
 use Rattle.visit_log.specs.Round.{own, child_place}
-use Rattle.visit_log.specs.Visit.{Exchange, Visit, Unpolled, Halted, Undrawn, Refused, Unentered, Unlisted, Visited, Doings, nothing_yet, and_look, and_visit, Tail, Cut, Blind, Unclaimed, Unmade, Made, Passed, Under, ending, known_after, polled, drew, entered, looked_at, claimed, leave, drawn_on, entered_on, visit_on, doings_on, tail_on}
+use Rattle.visit_log.specs.Visit.{Exchange, Visit, Unpolled, Halted, Undrawn, Refused, Unentered, Unlisted, Visited, Doings, nothing_yet, and_look, and_visit, Tail, Cut, Blind, Uncarried, Unclaimed, Unmade, Made, Passed, Under, ending, known_after, polled, drew, entered, looked_at, lent_at, claimed, leave, drawn_on, entered_on, visit_on, doings_on, tail_on}
 use Rattle.visit_log.specs.Counts.{gives_visit, asks_room}
 use Rattle.visit_log.specs.Laws.{OneClaimAVisit}
 use Rattle.visit_log.proofs.Bracketed.{by_ends}
@@ -82,6 +82,8 @@ mutual
   tail_paid task log f Cut more paid = paid_more log (leave f Nothing) more refl (paid_less log more paid)
   tail_paid task log f (Blind place child) more paid =
       paid_more (log ++ (Look child.key, None) ∷ []) (leave f Nothing) more refl (paid_more log (Look child.key, None) more refl (paid_less log more paid))
+  tail_paid task log f (Uncarried place child note) more paid =
+      paid_more (log ++ lent_at child note ∷ []) (leave f Nothing) more refl (paid_more log (lent_at child note) more refl (paid_less log more paid))
   tail_paid task log f Unclaimed more paid = paid_more (log ++ claimed Full ∷ []) (leave f Nothing) more refl (paid_claim log Full more paid)
   tail_paid task log f (Unmade room end) more paid = paid_more (log ++ claimed (Room room) ∷ []) (leave f Nothing) more refl (paid_claim log (Room room) more paid)
   tail_paid task log f (Made room note) more paid = paid_more (log ++ claimed (Room room) ∷ []) (leave f (Noted note)) more refl (paid_claim log (Room room) more paid)

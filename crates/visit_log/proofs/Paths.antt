@@ -169,7 +169,8 @@ opens_once task s t (f ∷ fs) kept once (inr lost) = winds_once task (at_stage 
 sees_once : (task : Task) (s t : State) (place : ℕ) (fs : List FrameView) (seen : Seen) → NoRepeats (path_of task fs)
     → Sees task s place fs seen t → Once task t
 sees_once task s t place [] seen once h = absurd h
-sees_once task s t place (f ∷ fs) seen once h = goes_once task s t _ fs once h.5
+sees_once task s t place (f ∷ fs) seen once (inl sight) = goes_once task s t _ fs once sight.5
+sees_once task s t place (f ∷ fs) seen once (inr lost) = winds_once task (at_stage s (Looking place) (f ∷ fs)) t _ once lost.1
 
 makes_once : (task : Task) (s t : State) (fs : List FrameView) → Once task s → Makes task s fs t → Once task t
 makes_once task s t [] once h = absurd h

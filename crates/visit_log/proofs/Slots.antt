@@ -126,7 +126,8 @@ opens_total w task s (f ∷ fs) kept t new h =
 sees_total : (w : Weight) (task : Task) (s : State) (place : ℕ) (fs : List FrameView) (seen : Seen) (t : State) → Sees task s place fs seen t
     → total w t.frames ≡ total w fs
 sees_total w task s place [] seen t h = absurd h
-sees_total w task s place (f ∷ fs) seen t h = goes_total w task s _ fs t h.5
+sees_total w task s place (f ∷ fs) seen t (inl sight) = goes_total w task s _ fs t sight.5
+sees_total w task s place (f ∷ fs) seen t (inr lost) = winds_total w (at_stage s (Looking place) (f ∷ fs)) NoMemory t lost.1
 
 makes_total : (w : Weight) (task : Task) (s : State) (fs : List FrameView) (t : State) → Makes task s fs t → total w t.frames ≡ total w s.frames
 makes_total w task s [] t h = absurd h

@@ -6,9 +6,10 @@ use Rattle.board_core.specs.Board.{Board}
 use Rattle.board_core.specs.Key.{key_of}
 use Rattle.board_core.specs.declared.keys.Key.{Key}
 use Rattle.board_core.specs.declared.moves.Move.{Move}
-use Rattle.notes.specs.Derivation.{Derivation}
+use Rattle.notes.specs.Derivation.{Derivation, carried}
 use Rattle.notes.specs.declared.words.Seen.{Seen}
-use Rattle.notes.specs.declared.words.Seen.TheVariants.{New, Open as Known, Solved as Shown}
+use Rattle.notes.specs.declared.words.Seen.TheVariants.{New, Open as Known, Solved as Shown, Lent}
+use Rattle.path_tags.specs.Tag.{IsWithin}
 use Rattle.pn_numbers.specs.Numbers.{IsOpen}
 use Rattle.pn_numbers.specs.declared.node.Node.{Node}
 use Rattle.pn_numbers.specs.declared.numbers.Numbers.{Numbers}
@@ -175,18 +176,26 @@ off_sound task b path child new sound off by key on_path in_range noted = record
   off_path = λ is defends there. sound.off_path off defends (subst (Contains path) key there);
 }
 
+-- An empty tag is within each path.
+none_within : (path : List Key) → IsWithin [] path
+none_within path key at = absurd (let low = at.1 in omega (arith, low))
+
 -- A child is sound after what may be told of it, where it isn't on the path.
 pub told_sound : (task : Task) (b : Board) (path : List Key) (child : Child) (seen : Seen) (start : Numbers) → IsSoundChild task b path child
     → child.on_path ≡ false → MayShow (attacker_in task) child.key path seen → Tells (attacker_in task) b child.by seen start
-    → IsSoundChild task b path (told child seen start)
+    → IsSoundChild task b path (told (attacker_in task) b child seen start)
 told_sound task b path child New start sound off may tells =
-    off_sound task b path child (told child New start) sound off refl refl refl tells.in_range sound.note
+    off_sound task b path child (told (attacker_in task) b child New start) sound off refl refl refl tells.in_range sound.note
 told_sound task b path child (Known numbers below) start sound off may tells =
-    off_sound task b path child (told child (Known numbers below) start) sound off refl refl refl may sound.note
+    off_sound task b path child (told (attacker_in task) b child (Known numbers below) start) sound off refl refl refl may sound.note
 told_sound task b path child (Shown note) start sound off may tells =
-    off_sound task b path child (told child (Shown note) start) sound off refl refl refl sound.in_range (λ other is.
+    off_sound task b path child (told (attacker_in task) b child (Shown note) start) sound off refl refl refl sound.in_range (λ other is.
     subst (IsNoteOf task (after b child.by) path) (same_Some note other is)
     (record { valid = may.valid; about = tells; same_attacker = may.same_attacker; within = may.within }))
+told_sound task b path child (Lent note) start sound off may tells =
+    off_sound task b path child (told (attacker_in task) b child (Lent note) start) sound off refl refl refl sound.in_range (λ other is.
+    subst (IsNoteOf task (after b child.by) path) (same_Some (carried (attacker_in task) (after b child.by) note) other is)
+    (record { valid = tells; about = refl; same_attacker = refl; within = none_within path }))
 
 -- A child is sound after its visit, where it isn't on the path.
 pub visited_sound : (task : Task) (b : Board) (path : List Key) (child : Child) (left : Left) → IsSoundChild task b path child

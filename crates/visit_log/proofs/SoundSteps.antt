@@ -7,7 +7,7 @@ use Rattle.board_core.specs.declared.keys.Key.{Key}
 use Rattle.notes.specs.Derivation.{Derivation, tag_of}
 use Rattle.notes.specs.declared.words.Kept.{Kept}
 use Rattle.notes.specs.declared.words.Seen.{Seen}
-use Rattle.notes.specs.declared.words.Seen.TheVariants.{New, Open as Known, Solved as Shown}
+use Rattle.notes.specs.declared.words.Seen.TheVariants.{New, Open as Known, Solved as Shown, Lent}
 use Rattle.pn_numbers.specs.Numbers.{IsOpen}
 use Rattle.pn_numbers.specs.declared.numbers.Numbers.{Numbers}
 use Rattle.shogi_rules.specs.Rules.{after}
@@ -172,7 +172,7 @@ with_sound task f fs children sound same known = record {
 -- What is looked at is known soundly.
 pub looked_sound : (task : Task) (f : FrameView) (fs : List FrameView) (sight : Sight) → IsSoundVisit task f fs → IsLookedAt f sight.place
     → slice_get f.children sight.place ≡ Some sight.child → MayShow (attacker_in task) sight.child.key (path_of task (f ∷ fs)) sight.seen
-    → Tells (attacker_in task) f.place.position sight.child.by sight.seen sight.start → IsSoundVisit task (looked f sight) fs
+    → Tells (attacker_in task) f.place.position sight.child.by sight.seen sight.start → IsSoundVisit task (looked task f sight) fs
 looked_sound task f fs sight sound at there may tells =
     let path = path_of task (f ∷ fs) in
     let P = IsSoundChild task f.place.position path in
@@ -180,20 +180,23 @@ looked_sound task f fs sight sound at there may tells =
     subst (λ (c : Child). c.on_path ≡ false) (same_Some at.child sight.child (sym at.there ∙ there)) at.off_path in
     let new = told_sound task f.place.position path sight.child sight.seen sight.start
     (of_child P f.children sight.place sight.child sound.listed.children there) off may tells in
-    with_sound task f fs (slice_set f.children sight.place (told sight.child sight.seen sight.start)) sound
-    (moves_set f.children sight.place sight.child (told sight.child sight.seen sight.start) there (told_by sight.child sight.seen sight.start))
-    (All-set P f.children sight.place (told sight.child sight.seen sight.start) new sound.listed.children)
+    let after_it : Child = told (attacker_in task) f.place.position sight.child sight.seen sight.start in
+    with_sound task f fs (slice_set f.children sight.place after_it) sound
+    (moves_set f.children sight.place sight.child after_it there (told_by sight.child sight.seen sight.start))
+    (All-set P f.children sight.place after_it new sound.listed.children)
   where
-    told_by : (child : Child) (seen : Seen) (start : Numbers) → (told child seen start).by ≡ child.by
+    told_by : (child : Child) (seen : Seen) (start : Numbers) → (told (attacker_in task) f.place.position child seen start).by ≡ child.by
     told_by child New start = refl
     told_by child (Known numbers below) start = refl
     told_by child (Shown note) start = refl
+    told_by child (Lent note) start = refl
 
 -- So is the worker that was told what it looks at.
 sees_sound : (task : Task) (s : State) (place : ℕ) (fs : List FrameView) (seen : Seen) (t : State) → IsSoundAt task (Looking place) fs
     → MayShowAt task fs place seen → Sees task s place fs seen t → IsSound task t
 sees_sound task s place [] seen t sound may sees = absurd sees
-sees_sound task s place (f ∷ fs) seen t sound may sees =
+sees_sound task s place (f ∷ fs) seen t sound may (inr lost) = winds task (at_stage s (Looking place) (f ∷ fs)) t NoMemory lost.1
+sees_sound task s place (f ∷ fs) seen t sound may (inl sees) =
     let sight : Sight = sees.0 in
     let at : IsLookedAt f sight.place = subst (IsLookedAt f) (sym sees.1) sound.1 in
     let there : slice_get f.children sight.place ≡ Some sight.child =
@@ -202,7 +205,7 @@ sees_sound task s place (f ∷ fs) seen t sound may sees =
     subst (MayShow (attacker_in task) sight.child.key (path_of task (f ∷ fs))) (sym sees.2) (may sight.child sees.3) in
     let tells : Tells (attacker_in task) f.place.position sight.child.by sight.seen sight.start =
     subst (λ (seen : Seen). Tells (attacker_in task) f.place.position sight.child.by seen sight.start) (sym sees.2) sees.4 in
-    goes_on_sound task s (looked f sight) fs t (looked_sound task f fs sight sound.0.0 at there shown tells, sound.0.1) sees.5
+    goes_on_sound task s (looked task f sight) fs t (looked_sound task f fs sight sound.0.0 at there shown tells, sound.0.1) sees.5
 
 -- The note that is made is sound.
 makes_sound : (task : Task) (s t : State) → IsSoundAt task Claiming s.frames → Makes task s s.frames t → IsSound task t

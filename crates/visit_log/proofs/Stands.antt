@@ -14,6 +14,7 @@ use Rattle.notes.specs.declared.words.Draw.TheVariants.{Go, Done, Spent as AllDr
 use Rattle.notes.specs.declared.words.RoomAnswer.TheVariants.{Room, NoRoom as Full}
 use Rattle.notes.specs.declared.words.Kept.{Kept}
 use Rattle.notes.specs.declared.words.Seen.{Seen}
+use Rattle.notes.specs.declared.words.Seen.TheVariants.{Lent}
 use Rattle.notes.specs.declared.words.Update.TheVariants.{Numbers as Count, Note as Noted, Nothing}
 use Rattle.pn_numbers.specs.declared.numbers.Numbers.{Numbers}
 use Rattle.visit_log.specs.declared.parts.Child.{Child}
@@ -31,8 +32,8 @@ use Rattle.visit_log.specs.declared.words.Reply.TheVariants.{Poll as Polled, Dra
 use Rattle.visit_log.specs.Frame.{Task, attacker_in, Place, FrameView, root, begun, opened, choose}
 use Rattle.visit_log.specs.Children.{deciding, notes_under, rule_with}
 use Rattle.visit_log.specs.Round.{node_in, own, Solves, GivesUp, LooksNext, GoesDown, child_place, Sight, looked, IsMade, MayShow, Tells, IsSight, came_back}
-use Rattle.visit_log.specs.Visit.{Exchange, Visit, Unpolled, Halted, Undrawn, Refused, Unentered, Unlisted, nothing_yet, and_look, and_visit, Tail, Cut, Blind, Unclaimed, Unmade, Made, Passed, Ending, Winds, Ends, ending, after_child, known_after, polled, drew, entered, claimed, leave, drawn_on, entered_on, visit_on, tail_on, doings_on, tail_ending, EndsOpen, IsVisit, IsTail, EndsLog, IsVisitLog}
-use Rattle.visit_log.specs.Machine.{State, at_stage, one_visit, one_claim, MayShowAt, Begins, path_of, place_by, start, entered_ones, wind, starve, starve_at, starve_winding, Settles, GoesOn, Opens, Makes, Returns, LeadsAt, FitsAt, keep, asks, asks_at, ask_look, update_by, end_at}
+use Rattle.visit_log.specs.Visit.{Exchange, Visit, Unpolled, Halted, Undrawn, Refused, Unentered, Unlisted, nothing_yet, and_look, and_visit, Tail, Cut, Blind, Uncarried, Unclaimed, Unmade, Made, Passed, Ending, Winds, Ends, ending, after_child, known_after, polled, drew, entered, claimed, leave, drawn_on, entered_on, visit_on, tail_on, doings_on, tail_ending, EndsOpen, IsVisit, IsTail, EndsLog, IsVisitLog}
+use Rattle.visit_log.specs.Machine.{State, at_stage, one_visit, one_claim, MayShowAt, Begins, path_of, place_by, start, entered_ones, wind, starve, starve_at, starve_winding, Settles, GoesOn, IsLending, Opens, Makes, Returns, LeadsAt, FitsAt, keep, asks, asks_at, ask_look, update_by, end_at}
 use Rattle.visit_log.specs.Run.{Happening, Told, Dark, Starved, IsLooking, Happens, Runs, event, events, IsBegunLog}
 use Rattle.visit_log.specs.Laws.{LogsBegin, LogsAreWhole}
 use Rattle.visit_log.proofs.Waiting.{Below, Here, Over, over_by, over_as, over_root, leaves, close, leaves_here, leaves_below, leaves_begun, leaves_unlisted}
@@ -170,7 +171,7 @@ comes_back task g gs p before left child log (h, choice, a, goes, at, is) over t
 looks_on : (task : Task) (f : FrameView) (fs : List FrameView) (place : ℕ) (seen : Seen) (log : List Exchange) (sight : Sight) → Here task f fs log
     → ((child : Child) × LooksNext task f place child) → MayShowAt task (f ∷ fs) place seen → sight.place ≡ place → sight.seen ≡ seen
     → slice_get f.children place ≡ Some sight.child → Tells (attacker_in task) f.place.position sight.child.by seen sight.start
-    → Here task (looked f sight) fs (log ++ (ask_look (slice_get f.children place), Some (Looked seen)) ∷ [])
+    → Here task (looked task f sight) fs (log ++ (ask_look (slice_get f.children place), Some (Looked seen)) ∷ [])
 looks_on task f fs place seen log sight a (child, looks) may at told there tells =
     let path : List Key = path_of task (f ∷ fs) in
     let both : Some child ≡ Some sight.child = sym looks.there ∙ there in
@@ -191,10 +192,20 @@ looks_on task f fs place seen log sight a (child, looks) may at told there tells
       doings = and_look a.doings sight;
       listed = a.listed;
       done = (a.done, subst (λ (z : FrameView). IsSight task path z sight) a.is is);
-      is = ap (λ (z : FrameView). looked z sight) a.is;
+      is = ap (λ (z : FrameView). looked task z sight) a.is;
       log_is = ap₂ (λ (events : List Exchange) (e : Exchange). events ++ e ∷ []) a.log_is
           (ap₂ (λ (one : Option Child) (z : Seen). (ask_look one, Some (Looked z))) there (sym told));
     }
+
+-- A note is lent that there is no memory to carry.
+uncarried : (task : Task) (f : FrameView) (fs : List FrameView) (place : ℕ) (seen : Seen) (log : List Exchange) → Here task f fs log
+    → ((child : Child) × LooksNext task f place child) → MayShowAt task (f ∷ fs) place seen → IsLending seen
+    → StandsAt task (Winding NoMemory) (entered_ones (f ∷ fs)) (log ++ (ask_look (slice_get f.children place), Some (Looked seen)) ∷ [])
+uncarried task f fs place (Lent note) log here (child, looks) may lent =
+    let written : List Exchange = log ++ (ask_look (slice_get f.children place), Some (Looked (Lent note))) ∷ [] in
+    cut_with task f fs log NoMemory (Uncarried place child note) written here (looks, may child looks.there) refl
+    (ap (λ (one : Option Child). (log ++ (ask_look one, Some (Looked (Lent note))) ∷ []) ++ leave f Nothing ∷ []) (sym looks.there))
+uncarried task f fs place seen log here looks may lent = absurd lent
 
 -- 4. WHERE AN ANSWER LEADS.
 
@@ -345,8 +356,11 @@ told_of task (Drawing entry) fs visits claims (Drew AllDrawn) t log h fits leads
 told_of task Entering [] visits claims (Entered kept) t log h fits leads = absurd h
 told_of task Entering (f ∷ fs) visits claims (Entered kept) t log h fits leads = opens task (the_state Entering (f ∷ fs) visits claims) t f fs kept log h leads
 told_of task (Looking place) [] visits claims (Looked seen) t log h fits leads = absurd h
-told_of task (Looking place) (f ∷ fs) visits claims (Looked seen) t log (here, looks) fits (sight, at, told, there, tells, on) =
-    goes_on task (the_state (Looking place) (f ∷ fs) visits claims) (looked f sight) fs t (log ++ (ask_look (slice_get f.children place), Some (Looked seen)) ∷ [])
+told_of task (Looking place) (f ∷ fs) visits claims (Looked seen) t log (here, looks) fits (inr (lent, lost)) =
+    as_state task (wind (the_state (Looking place) (f ∷ fs) visits claims) NoMemory) t (log ++ (ask_look (slice_get f.children place), Some (Looked seen)) ∷ []) lost
+    (uncarried task f fs place seen log here looks fits lent)
+told_of task (Looking place) (f ∷ fs) visits claims (Looked seen) t log (here, looks) fits (inl (sight, at, told, there, tells, on)) =
+    goes_on task (the_state (Looking place) (f ∷ fs) visits claims) (looked task f sight) fs t (log ++ (ask_look (slice_get f.children place), Some (Looked seen)) ∷ [])
     (looks_on task f fs place seen log sight here looks fits at told there tells) on
 told_of task Claiming [] visits claims (Claimed claim) t log h fits leads = absurd h
 told_of task Claiming (f ∷ fs) visits claims (Claimed Full) t log (here, solves) fits leads =

@@ -14,7 +14,7 @@ use Rattle.pn_numbers.specs.declared.node.Node.TheVariants.{Attacker, Defender}
 use Rattle.pn_numbers.specs.declared.numbers.Numbers.{Numbers}
 use Rattle.notes.specs.declared.words.Kept.{Kept}
 use Rattle.notes.specs.declared.words.Seen.{Seen}
-use Rattle.notes.specs.declared.words.Seen.TheVariants.{New, Open as Known, Solved as Shown}
+use Rattle.notes.specs.declared.words.Seen.TheVariants.{New, Open as Known, Solved as Shown, Lent}
 use Rattle.notes.specs.declared.words.Draw.TheVariants.{Go, Done, Spent as AllDrawn}
 use Rattle.notes.specs.declared.words.RoomAnswer.TheVariants.{Room, NoRoom as Full}
 use Rattle.visit_log.specs.declared.parts.Child.{Child}
@@ -73,16 +73,19 @@ counts_less {X = X} p xs i x y there counts leaves =
     let is : one y ≡ 0 = ap (λ (b : Bool). cond b 1 0) leaves in
     omega (arith, changes, was, is)
 
-told_fresh : (child : Child) (seen : Seen) (start : Numbers) → is_unseen (told child seen start) ≡ false
-told_fresh child New start = refl
-told_fresh child (Known numbers below) start = refl
-told_fresh child (Shown note) start = refl
+told_fresh : (attacker : Side) (b : Board) (child : Child) (seen : Seen) (start : Numbers) → is_unseen (told attacker b child seen start) ≡ false
+told_fresh attacker b child New start = refl
+told_fresh attacker b child (Known numbers below) start = refl
+told_fresh attacker b child (Shown note) start = refl
+told_fresh attacker b child (Lent note) start = refl
 
-looked_less : (f : FrameView) (sight : Sight) (place : ℕ) → sight.place ≡ place → IsLookedAt f place
-    → unseen (looked f sight).children + 1 ≡ unseen f.children
-looked_less f sight place e at =
-    counts_less is_unseen f.children sight.place at.child (told sight.child sight.seen sight.start)
-    (ap (λ (i : ℕ). slice_get f.children i) e ∙ at.there) (ap not at.unseen) (told_fresh sight.child sight.seen sight.start)
+looked_less : (task : Task) (f : FrameView) (sight : Sight) (place : ℕ) → sight.place ≡ place → IsLookedAt f place
+    → unseen (looked task f sight).children + 1 ≡ unseen f.children
+looked_less task f sight place e at =
+    let attacker = attacker_in task in
+    let b = f.place.position in
+    counts_less is_unseen f.children sight.place at.child (told attacker b sight.child sight.seen sight.start)
+    (ap (λ (i : ℕ). slice_get f.children i) e ∙ at.there) (ap not at.unseen) (told_fresh attacker b sight.child sight.seen sight.start)
 
 back_length : (g : FrameView) (place : ℕ) (child : Child) (left : Left) → length (came_back g place child left).children ≡ length g.children
 back_length g place child left = length-set (map staled g.children) place (visited child left) ∙ length-map g.children staled
@@ -133,9 +136,13 @@ opens within task s t (f ∷ fs) kept h = elim h [
 sees : (task : Task) (s t : State) (place : ℕ) (fs : List FrameView) (seen : Seen) → IsSoundAt task (Looking place) fs → Sees task s place fs seen t
     → to_come t < comes (Looking place) fs s.visits
 sees task s t place [] seen sound h = absurd h
-sees task s t place (f ∷ fs) seen sound h =
-    let on = goes_on task s t (looked f h.0) fs h.5 in
-    omega (arith, on, looked_less f h.0 place h.1 sound.1)
+sees task s t place (f ∷ fs) seen sound h = elim h [
+  | inl sight ↦ (
+      let on = goes_on task s t (looked task f sight.0) fs sight.5 in
+      omega (arith, on, looked_less task f sight.0 place sight.1 sound.1)
+      )
+  | inr lost ↦ (let w = winds (at_stage s (Looking place) (f ∷ fs)) t NoMemory lost.1 in omega (arith, w))
+]
 
 makes : (task : Task) (s t : State) (fs : List FrameView) → Makes task s fs t → to_come t < comes Claiming s.frames s.visits
 makes task s t [] h = absurd h

@@ -117,7 +117,7 @@ OpenedIsSound = (task : Task) (f : FrameView) (fs : List FrameView) (kept : Kept
 abbrev pub LookedIsSound : Type 0
 LookedIsSound = (task : Task) (f : FrameView) (fs : List FrameView) (sight : Sight) → IsSoundVisit task f fs → IsLookedAt f sight.place
     → slice_get f.children sight.place ≡ Some sight.child → MayShow (attacker_in task) sight.child.key (path_of task (f ∷ fs)) sight.seen
-    → Tells (attacker_in task) f.place.position sight.child.by sight.seen sight.start → IsSoundVisit task (looked f sight) fs
+    → Tells (attacker_in task) f.place.position sight.child.by sight.seen sight.start → IsSoundVisit task (looked task f sight) fs
 
 -- A law: what comes back from the visit of a child leaves the visit sound.
 abbrev pub BackIsSound : Type 0

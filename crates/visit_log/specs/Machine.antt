@@ -13,6 +13,7 @@ use Rattle.notes.specs.Derivation.{Derivation}
 use Rattle.notes.specs.Valid.{IsInPlay}
 use Rattle.notes.specs.declared.words.Kept.{Kept}
 use Rattle.notes.specs.declared.words.Seen.{Seen}
+use Rattle.notes.specs.declared.words.Seen.TheVariants.{New, Open as Known, Solved as Shown, Lent}
 use Rattle.notes.specs.declared.words.Update.{Update}
 use Rattle.notes.specs.declared.words.Update.TheVariants.{Numbers as Count, Note as Noted, Nothing}
 use Rattle.notes.specs.declared.words.Draw.TheVariants.{Go, Done, Spent as AllDrawn}
@@ -171,12 +172,20 @@ Opens task s (f ∷ fs) kept t =
     × GoesOn task s (opened f.place kept children) fs t)
     ⊎ (t ≡ wind (at_stage s Entering (keep f kept ∷ fs)) NoMemory)
 
--- The child at the place was looked at.
+-- A note is lent.
+abbrev pub IsLending : Seen → Type 0
+IsLending New = ⊥
+IsLending (Known numbers below) = ⊥
+IsLending (Shown note) = ⊥
+IsLending (Lent note) = Unit {0}
+
+-- The child at the place was looked at; or a note is lent, and there is no memory to carry it.
 abbrev pub Sees : Task → State → ℕ → List FrameView → Seen → State → Type 0
 Sees task s place [] seen t = ⊥
 Sees task s place (f ∷ fs) seen t =
-    (sight : Sight) × (sight.place ≡ place) × (sight.seen ≡ seen) × (slice_get f.children place ≡ Some sight.child)
-    × Tells (attacker_in task) f.place.position sight.child.by seen sight.start × GoesOn task s (looked f sight) fs t
+    ((sight : Sight) × (sight.place ≡ place) × (sight.seen ≡ seen) × (slice_get f.children place ≡ Some sight.child)
+    × Tells (attacker_in task) f.place.position sight.child.by seen sight.start × GoesOn task s (looked task f sight) fs t)
+    ⊎ (IsLending seen × (t ≡ wind (at_stage s (Looking place) (f ∷ fs)) NoMemory))
 
 -- Room was claimed: the note is made; or it isn't.
 abbrev pub Makes : Task → State → List FrameView → State → Type 0

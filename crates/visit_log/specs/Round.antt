@@ -18,10 +18,11 @@ use Rattle.pn_numbers.specs.Numbers.{IsOpen}
 use Rattle.pn_numbers.specs.Selection.{IsSelected}
 use Rattle.pn_numbers.specs.Thresholds.{thresholds_of}
 use Rattle.start_numbers.specs.Start.{IsStartOfCheck, IsStartOfEvasion}
-use Rattle.notes.specs.Derivation.{Derivation, attacker_of, position_of, tag_of, rule_of, under_of, highest}
+use Rattle.notes.specs.Derivation.{Derivation, attacker_of, position_of, tag_of, rule_of, under_of, highest, carried}
 use Rattle.notes.specs.Valid.{IsValid}
+use Rattle.notes.specs.Lending.{IsLentTo}
 use Rattle.notes.specs.declared.words.Seen.{Seen}
-use Rattle.notes.specs.declared.words.Seen.TheVariants.{New, Open as Known, Solved as Shown}
+use Rattle.notes.specs.declared.words.Seen.TheVariants.{New, Open as Known, Solved as Shown, Lent}
 use Rattle.visit_log.specs.declared.parts.Child.{Child}
 use Rattle.visit_log.specs.declared.parts.Look.{Look}
 use Rattle.visit_log.specs.declared.parts.Look.TheVariants.{Due, Fresh, Stale}
@@ -102,19 +103,22 @@ pub record IsStart (attacker : Side) (b : Board) (by : Move) (numbers : Numbers)
   pub check : b.side ≡ attacker → IsStartOfCheck attacker b by numbers
   pub evasion : b.side ≡ other attacker → IsStartOfEvasion attacker b by numbers
 
--- What may be told of a position of this key on this path: numbers from 1 to the cap; a note about
--- it, for the attacker, that holds on the path.
+-- A note that may be told of a position of this key on this path: it is about it, for the attacker,
+-- and holds on the path.
 pub record IsFactOn (attacker : Side) (key : Key) (path : List Key) (note : Derivation) : Type 0 where
   pub valid : IsValid note
   pub about : key_of (position_of note) ≡ key.0
   pub same_attacker : attacker_of note ≡ attacker
   pub within : IsWithin (tag_of note) path
 
--- What a look may tell of the position of this key on this path.
+-- What a look may tell of the position of this key on this path: nothing; numbers from 1 to the
+-- cap; a note about it that holds on the path; a note that may be carried to it (to whichever
+-- position has the key).
 abbrev pub MayShow : Side → Key → List Key → Seen → Type 0
 MayShow attacker key path New = Unit {0}
 MayShow attacker key path (Known numbers below) = IsOpen numbers
 MayShow attacker key path (Shown note) = IsFactOn attacker key path note
+MayShow attacker key path (Lent note) = IsLentTo attacker key note
 
 -- A look at a child: where it stands, the child before, what was told, and the numbers with which
 -- it begins.
@@ -124,23 +128,27 @@ pub record Sight : Type 0 where
   pub seen : Seen
   pub start : Numbers
 
--- The child after a look. New: it counts with the numbers with which it begins, and no worker below
--- it.
-abbrev pub told : Child → Seen → Numbers → Child
-told child New start = record child { look = Fresh; numbers = start; below = 0 }
-told child (Known numbers below) start = record child { look = Fresh; numbers = numbers; below = below }
-told child (Shown note) start = record child { look = Fresh; note = Some note }
+-- A child of the position after a look, for the attacker. New: it counts with the numbers with
+-- which it begins, and no worker below it. Lent: the note is carried to it.
+abbrev pub told : Side → Board → Child → Seen → Numbers → Child
+told attacker b child New start = record child { look = Fresh; numbers = start; below = 0 }
+told attacker b child (Known numbers below) start = record child { look = Fresh; numbers = numbers; below = below }
+told attacker b child (Shown note) start = record child { look = Fresh; note = Some note }
+told attacker b child (Lent note) start = record child { look = Fresh; note = Some (carried attacker (after b child.by) note) }
 
 -- The visit after a look.
-abbrev pub looked : FrameView → Sight → FrameView
-looked f sight = with_children f (slice_set f.children sight.place (told sight.child sight.seen sight.start))
+abbrev pub looked : Task → FrameView → Sight → FrameView
+looked task f sight =
+    with_children f (slice_set f.children sight.place (told (attacker_in task) f.place.position sight.child sight.seen sight.start))
 
 -- What a look tells of the position behind a move: where it is new, the numbers with which it
--- begins; a note is about it.
+-- begins; a note is about it; one that is lent is valid where it is carried to it (whoever carries
+-- it shows this).
 abbrev pub Tells : Side → Board → Move → Seen → Numbers → Type 0
 Tells attacker b by New start = IsStart attacker b by start
 Tells attacker b by (Known numbers below) start = Unit {0}
 Tells attacker b by (Shown note) start = position_of note ≡ after b by
+Tells attacker b by (Lent note) start = IsValid (carried attacker (after b by) note)
 
 -- The look is the one that comes next, and what was told may be told.
 pub record IsSight (task : Task) (path : List Key) (f : FrameView) (sight : Sight) : Type 0 where

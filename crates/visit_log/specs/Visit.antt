@@ -6,6 +6,7 @@ use Rattle.pn_numbers.specs.declared.node.Node.{Node}
 use Rattle.pn_numbers.specs.declared.node.Node.TheVariants.{Attacker, Defender}
 use Rattle.notes.specs.Derivation.{Derivation}
 use Rattle.notes.specs.declared.words.Kept.{Kept}
+use Rattle.notes.specs.declared.words.Seen.TheVariants.{Lent}
 use Rattle.notes.specs.declared.words.Update.{Update}
 use Rattle.notes.specs.declared.words.Update.TheVariants.{Numbers as Count, Note as Noted, Nothing}
 use Rattle.notes.specs.declared.words.Draw.{Draw}
@@ -23,7 +24,7 @@ use Rattle.visit_log.specs.declared.words.Reply.{Reply}
 use Rattle.visit_log.specs.declared.words.Reply.TheVariants.{Poll as Polled, Draw as Drew, Claim as Claimed, Look as Looked, Enter as Entered, Leave as LeftIt, Post as PostedIt}
 use Rattle.visit_log.specs.Frame.{Task, attacker_in, node_at, Place, FrameView, root, opened, choose}
 use Rattle.visit_log.specs.Children.{AreChildren}
-use Rattle.visit_log.specs.Round.{own, Solves, GivesUp, LooksNext, Choice, GoesDown, child_place, Sight, looked, IsSight, came_back, IsMade, IsRefusal}
+use Rattle.visit_log.specs.Round.{own, Solves, GivesUp, LooksNext, Choice, GoesDown, child_place, Sight, looked, MayShow, IsSight, came_back, IsMade, IsRefusal}
 
 -- A request with its answer; none where a look was refused memory.
 abbrev pub Exchange : Type 0
@@ -50,6 +51,7 @@ mutual
   pub data Tail : Type 0 where
     Cut : Tail  -- cut off
     Blind : ℕ → Child → Tail  -- the next look, at this child, was refused memory
+    Uncarried : ℕ → Child → Derivation → Tail  -- the next look, at this child, lent this note, and there was no memory to carry it
     Unclaimed : Tail  -- solved, and there was no room for the note
     Unmade : ℕ → WorkEnd → Tail  -- solved, the room was claimed, and the note not made
     Made : ℕ → Derivation → Tail  -- solved: the room was claimed, and it left with the note
@@ -85,7 +87,7 @@ abbrev mutual
   -- What is known after these doings.
   pub known_after : Task → FrameView → Doings → FrameView
   known_after task f nothing_yet = f
-  known_after task f (and_look doings sight) = looked (known_after task f doings) sight
+  known_after task f (and_look doings sight) = looked task (known_after task f doings) sight
   known_after task f (and_visit doings choice visit) =
       let g = known_after task f doings in
       after_child g choice (ending task (child_place task g choice) visit)
@@ -93,6 +95,7 @@ abbrev mutual
   pub tail_ending : Task → FrameView → Tail → Ending
   tail_ending task f Cut = Winds NoMemory
   tail_ending task f (Blind place child) = Winds NoMemory
+  tail_ending task f (Uncarried place child note) = Winds NoMemory
   tail_ending task f Unclaimed = Winds NoRoom
   tail_ending task f (Unmade room end) = Winds end
   tail_ending task f (Made room note) = Ends (Solved note)
@@ -112,6 +115,10 @@ drew draw = (Draws, Some (Drew draw))
 -- Entering a position.
 abbrev pub entered : Place → Kept → Exchange
 entered p kept = (Enter p.key p.numbers, Some (Entered kept))
+
+-- A look at a child that lends a note.
+abbrev pub lent_at : Child → Derivation → Exchange
+lent_at child note = (Look child.key, Some (Looked (Lent note)))
 
 -- A look.
 abbrev pub looked_at : Sight → Exchange
@@ -161,6 +168,7 @@ abbrev mutual
   pub tail_on : Task → List Exchange → FrameView → Tail → List Exchange
   tail_on task log f Cut = log ++ leave f Nothing ∷ []
   tail_on task log f (Blind place child) = (log ++ (Look child.key, None) ∷ []) ++ leave f Nothing ∷ []
+  tail_on task log f (Uncarried place child note) = (log ++ lent_at child note ∷ []) ++ leave f Nothing ∷ []
   tail_on task log f Unclaimed = (log ++ claimed Full ∷ []) ++ leave f Nothing ∷ []
   tail_on task log f (Unmade room end) = (log ++ claimed (Room room) ∷ []) ++ leave f Nothing ∷ []
   tail_on task log f (Made room note) = (log ++ claimed (Room room) ∷ []) ++ leave f (Noted note) ∷ []
@@ -218,6 +226,7 @@ abbrev mutual
   pub IsTail : Task → List Key → FrameView → Tail → Type 0
   IsTail task path f Cut = Unit {0}
   IsTail task path f (Blind place child) = LooksNext task f place child
+  IsTail task path f (Uncarried place child note) = LooksNext task f place child × MayShow (attacker_in task) child.key path (Lent note)
   IsTail task path f Unclaimed = Solves task f
   IsTail task path f (Unmade room end) = Solves task f × IsRefusal task f end
   IsTail task path f (Made room note) = Solves task f × IsMade task f note

@@ -72,7 +72,12 @@ pub both_ok : {A E : Type 0} (r : Result A E) (P Q : Type 0) → OnOk r P → On
 both_ok (Ok a) P Q p q = (p, q)
 both_ok (Err e) P Q p q = tt
 
--- The place stays, where a call succeeded and where it failed.
+-- The place stays, where it does where a call succeeded, and where it failed and changed nothing.
+pub place_kept : {A E : Type 0} (r : Result A E) (P : Type 0) (f g : FrameView) → (P → g.place ≡ f.place) → OnOk r P → OnErr r (g ≡ f) → g.place ≡ f.place
+place_kept (Ok a) P f g stays is same = stays is
+place_kept (Err e) P f g stays is same = ap (λ (z : FrameView). z.place) same
+
+-- So where the successors were listed.
 pub listed_place : {A E : Type 0} (r : Result A E) (f g : FrameView)
     → OnOk r (g ≡ record { place = f.place; kept = f.kept; children = g.children; chosen = 0 }) → OnErr r (g ≡ f) → g.place ≡ f.place
 listed_place (Ok a) f g is same = ap (λ (z : FrameView). z.place) is

@@ -9,14 +9,14 @@ use Rattle.visit_log.specs.declared.parts.Child.{Child}
 use Rattle.visit_log.specs.declared.parts.Left.{Left}
 use Rattle.visit_log.specs.declared.parts.Left.TheVariants.{Solved, Open}
 use Rattle.visit_log.specs.declared.parts.Stage.{Stage}
-use Rattle.visit_log.specs.declared.parts.Stage.TheVariants.{Entering, Leaving}
+use Rattle.visit_log.specs.declared.parts.Stage.TheVariants.{Looking, Entering, Leaving}
 use Rattle.visit_log.specs.declared.words.WorkEnd.{WorkEnd}
 use Rattle.visit_log.specs.declared.words.WorkEnd.TheVariants.{NoMemory}
 use Rattle.visit_log.specs.declared.words.Request.TheVariants.{Look, End}
 use Rattle.visit_log.specs.Frame.{Task, FrameView, attacker_in, begun, opened}
 use Rattle.visit_log.specs.Children.{AreChildren}
 use Rattle.visit_log.specs.Round.{MayShow, Sight, Tells, looked, came_back, IsMade, IsRefusal}
-use Rattle.visit_log.specs.Machine.{State, at_stage, path_of, keep, Settles, GoesOn, Opens, Sees, Makes, Returns, MayShowAt, wind, one_claim, rest_of, ask_look, ask_look_in}
+use Rattle.visit_log.specs.Machine.{State, at_stage, path_of, keep, Settles, GoesOn, IsLending, Opens, Sees, Makes, Returns, MayShowAt, wind, one_claim, rest_of, ask_look, ask_look_in}
 use Rattle.visit_log.specs.Sound.{IsSoundPlace, IsSoundVisit, IsListed, IsLookedAt, IsNoteOf, IsSoundAt, AreSound}
 use Rattle.visit_log.specs.Laws.{OpenedIsSound, LookedIsSound, BackIsSound}
 use Rattle.worker_core.specs.Stack.{top_of, HasTop, HasOver, ChangesTop}
@@ -104,7 +104,7 @@ opens_lost task s u t (f ∷ fs) ks kept sound k frames visits claims is =
 pub looked_top : (task : Task) (place : ℕ) (seen : Seen) (before after : List FrameView) → LookedIsSound
     → HasOver (λ f fs. IsSoundVisit task f fs × IsLookedAt f place) before → MayShowAt task before place seen
     → ChangesTop (λ f g. (sight : Sight) × (sight.place ≡ place) × (sight.seen ≡ seen) × (slice_get f.children place ≡ Some sight.child)
-    × Tells (attacker_in task) f.place.position sight.child.by seen sight.start × (g ≡ looked f sight)) before after
+    × Tells (attacker_in task) f.place.position sight.child.by seen sight.start × (g ≡ looked task f sight)) before after
     → HasTop (λ f. (path : List Key) × IsListed task path f) after
 looked_top task place seen [] after law sound may changes = absurd sound
 looked_top task place seen (f ∷ fs) after law sound may changes =
@@ -119,25 +119,36 @@ looked_top task place seen (f ∷ fs) after law sound may changes =
     subst (λ (z : Seen). MayShow (attacker_in task) sight.child.key (path_of task (f ∷ fs)) z) (sym told) (may sight.child there) in
     let tells : Tells (attacker_in task) f.place.position sight.child.by sight.seen sight.start =
     subst (λ (z : Seen). Tells (attacker_in task) f.place.position sight.child.by z sight.start) (sym told) changes.1.4 in
-    let visit : IsSoundVisit task (looked f sight) fs = law task f fs sight sound.0 at2 there2 may2 tells in
+    let visit : IsSoundVisit task (looked task f sight) fs = law task f fs sight sound.0 at2 there2 may2 tells in
     subst (HasTop (λ f. (path : List Key) × IsListed task path f)) (sym changes.2)
-    (subst (λ (z : FrameView). (path : List Key) × IsListed task path z) (sym changes.1.5) (path_of task (looked f sight ∷ fs), visit.listed))
+    (subst (λ (z : FrameView). (path : List Key) × IsListed task path z) (sym changes.1.5) (path_of task (looked task f sight ∷ fs), visit.listed))
 
 pub sees : (task : Task) (s u t : State) (place : ℕ) (seen : Seen) (before after : List FrameView)
     → ChangesTop (λ f g. (sight : Sight) × (sight.place ≡ place) × (sight.seen ≡ seen) × (slice_get f.children place ≡ Some sight.child)
-    × Tells (attacker_in task) f.place.position sight.child.by seen sight.start × (g ≡ looked f sight)) before after
+    × Tells (attacker_in task) f.place.position sight.child.by seen sight.start × (g ≡ looked task f sight)) before after
     → u.visits ≡ s.visits → u.claims ≡ s.claims → HasOver (λ f fs. GoesOn task u f fs t) after → Sees task s place before seen t
 sees task s u t place seen [] after changes visits claims on = absurd changes
 sees task s u t place seen (f ∷ fs) after changes visits claims on =
     let sight : Sight = changes.1.0 in
-    let over : GoesOn task u changes.0 fs t = subst (HasOver (λ f fs. GoesOn task u f fs t)) changes.2 on in (
+    let over : GoesOn task u changes.0 fs t = subst (HasOver (λ f fs. GoesOn task u f fs t)) changes.2 on in
+    inl (
       sight,
       changes.1.1,
       changes.1.2,
       changes.1.3,
       changes.1.4,
-      goes_on_from task s u t (looked f sight) fs visits claims (subst (λ (z : FrameView). GoesOn task u z fs t) changes.1.5 over),
+      goes_on_from task s u t (looked task f sight) fs visits claims (subst (λ (z : FrameView). GoesOn task u z fs t) changes.1.5 over),
     )
+
+-- There is no memory to carry a note that is lent.
+pub sees_lost : (task : Task) (s u t : State) (place : ℕ) (seen : Seen) (before : List FrameView)
+    → HasOver (λ f fs. IsSoundVisit task f fs × IsLookedAt f place) before → IsLending seen → u.frames ≡ before → u.visits ≡ s.visits → u.claims ≡ s.claims
+    → t ≡ wind u NoMemory → Sees task s place before seen t
+sees_lost task s u t place seen [] sound lent frames visits claims is = absurd sound
+sees_lost task s u t place seen (f ∷ fs) sound lent frames visits claims is =
+    let same : at_stage u (Looking place) u.frames ≡ at_stage s (Looking place) (f ∷ fs) =
+    λ i. record { stage = Looking place; frames = frames i; visits = visits i; claims = claims i } in
+    inr (lent, is ∙ ap (λ (z : State). wind z NoMemory) same)
 
 -- The note of the innermost position is made; or it isn't.
 pub makes : (task : Task) (s t : State) (frames : List FrameView) (note : Derivation) → HasTop (λ f. IsMade task f note) frames

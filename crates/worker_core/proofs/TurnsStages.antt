@@ -64,7 +64,8 @@ opens_on task s (f ∷ fs) kept t (inr lost) = ap (λ (z : State). entering z.st
 
 sees_on : (task : Task) (s : State) (place : ℕ) (fs : List FrameView) (seen : Seen) (t : State) → Sees task s place fs seen t → entering t.stage ≡ 0
 sees_on task s place [] seen t h = absurd h
-sees_on task s place (f ∷ fs) seen t h = settles_on task _ t.stage h.5.next h.5.settles
+sees_on task s place (f ∷ fs) seen t (inl sight) = settles_on task _ t.stage sight.5.next sight.5.settles
+sees_on task s place (f ∷ fs) seen t (inr lost) = ap (λ (z : State). entering z.stage) lost.1
 
 makes_on : (task : Task) (s : State) (fs : List FrameView) (t : State) → Makes task s fs t → entering t.stage ≡ 0
 makes_on task s [] t h = absurd h

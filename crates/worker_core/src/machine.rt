@@ -156,7 +156,7 @@ impl Core {
         }
     }
 
-    fn looked(&mut self, place: usize, seen: Seen)
+    fn looked(&mut self, alloc: Global, place: usize, seen: Seen)
         requires sound { HasOver (λ f fs. IsSoundVisit self.old.task f fs
             × IsLookedAt f place) self.old.state.frames }
         requires fits { FitsAt self.old.task self.old.state (Looking place) (Looked seen) }
@@ -166,8 +166,10 @@ impl Core {
     {
         // What was looked at is sound.
         sound_laws();
-        self.stack.look(place, seen);
-        self.go_on();
+        match self.stack.look(alloc, place, seen) {
+            Ok(()) => self.go_on(),
+            Err(_) => self.wind(WorkEnd::NoMemory),
+        }
     }
 
     // The copy of the note that goes out with the Leave, where one was made.
@@ -292,7 +294,7 @@ impl Core {
             Reply::Claim(claim) => self.claimed(alloc, claim),
             Reply::Look(seen) => {
                 if let Stage::Looking(place) = self.stage {
-                    self.looked(place, seen);
+                    self.looked(alloc, place, seen);
                 }
                 None
             }

@@ -56,8 +56,8 @@ pub trait Port {
         ensures book { IsBooked (Claims, Some (Claimed result)) (book self.old) (book self.new) };
 
     /// What is known of the position of this key, by a worker on this path: a note only about it,
-    /// for the problem's attacker, that holds on the path; else numbers from 1 to the cap. Errors:
-    /// want of memory alone.
+    /// for the problem's attacker, that holds on the path; or one of another position, which may be
+    /// carried to it; else numbers from 1 to the cap. Errors: want of memory alone.
     fn look(&mut self, key: &Key, path: &Path) -> Result<Seen, AllocError>
         ensures turn { turn self.old path.now (Look key.now) (shown result) self.new }
         ensures book { IsBooked (Look key.now, shown result) (book self.old) (book self.new) }

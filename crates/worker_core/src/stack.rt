@@ -8,7 +8,7 @@ ghost use Rattle.visit_log.specs.declared.parts.Child.{Child};
 ghost use Rattle.visit_log.specs.Frame.{FrameView, attacker_in, begun, task_for};
 ghost use Rattle.visit_log.specs.Children.{AreChildren, is_solved, notes_under};
 ghost use Rattle.visit_log.specs.Round.{node_in, MayShow, Sight, Tells, looked, came_back, IsMade};
-ghost use Rattle.visit_log.specs.Machine.{keep, bare, Settles, IsPlayed, path_of, place_by, position_by, entered_ones, rest_of};
+ghost use Rattle.visit_log.specs.Machine.{keep, bare, IsLending, Settles, IsPlayed, path_of, place_by, position_by, entered_ones, rest_of};
 ghost use Rattle.visit_log.specs.Sound.{IsListed, IsMoveTo, IsSoundPlace, AreSound, IsSoundEntry};
 ghost use Rattle.worker_core.specs.Stack.{top_of, HasTop, ChangesTop, without_unentered};
 
@@ -81,7 +81,7 @@ impl Stack {
     ghost use Rattle.visit_log.specs.Frame.{FrameView, attacker_in, begun, task_for};
     ghost use Rattle.visit_log.specs.Children.{AreChildren, is_solved, notes_under};
     ghost use Rattle.visit_log.specs.Round.{node_in, MayShow, Sight, Tells, looked, came_back, IsMade};
-    ghost use Rattle.visit_log.specs.Machine.{keep, bare, Settles, IsPlayed, path_of, place_by, position_by, entered_ones, rest_of};
+    ghost use Rattle.visit_log.specs.Machine.{keep, bare, IsLending, Settles, IsPlayed, path_of, place_by, position_by, entered_ones, rest_of};
     ghost use Rattle.visit_log.specs.Sound.{IsListed, IsMoveTo, IsSoundPlace, AreSound, IsSoundEntry};
     ghost use Rattle.worker_core.specs.Stack.{top_of, HasTop, ChangesTop, without_unentered};
 
@@ -243,25 +243,29 @@ impl Stack {
         settle_top(self.frames.as_mut_slice(), &self.problem, self.worker)
     }
 
-    /// The innermost visit's child at the place was looked at.
-    pub(crate) fn look(&mut self, place: usize, seen: Seen)
+    /// The innermost visit's child at the place was looked at. Errors: want of memory to carry a
+    /// note that is lent, and then nothing changes.
+    pub(crate) fn look(&mut self, alloc: Global, place: usize, seen: Seen) -> Result<(), AllocError>
         requires listed { HasTop (λ f. (path : List Key) × IsListed self.old.task path f
             × ((child : Child) → slice_get f.children place ≡ Some child
             → MayShow (attacker_in self.old.task) child.key path seen)) self.old.frames }
         requires there { HasTop (λ f. IsSome (slice_get f.children place)) self.old.frames }
         ensures task { self.new.task ≡ self.old.task }
-        ensures looked { ChangesTop (λ f g. (sight : Sight) × (sight.place ≡ place)
+        ensures looked { OnOk result (ChangesTop (λ f g. (sight : Sight) × (sight.place ≡ place)
             × (sight.seen ≡ seen) × (slice_get f.children place ≡ Some sight.child)
             × Tells (attacker_in self.old.task) f.place.position sight.child.by seen sight.start
-            × (g ≡ looked f sight)) self.old.frames self.new.frames }
+            × (g ≡ looked self.old.task f sight)) self.old.frames self.new.frames) }
+        ensures lost { OnErr result (IsLending seen) }
+        ensures unchanged { OnErr result (self.new ≡ self.old) }
     {
         look_top(
             self.frames.as_mut_slice(),
+            alloc,
             &self.problem,
             self.worker,
             place,
             seen,
-        );
+        )
     }
 
     /// The visit of the child to which the innermost visit went down ended so.

@@ -5,7 +5,7 @@ ghost use Rattle.visit_log.specs.declared.parts.Child.{Child};
 ghost use Rattle.visit_log.specs.Frame.{Task, FrameView, task_for};
 ghost use Rattle.visit_log.specs.Children.{AreChildren};
 ghost use Rattle.visit_log.specs.Round.{MayShow, Sight, Tells, looked, came_back};
-ghost use Rattle.visit_log.specs.Machine.{keep, bare, Settles, path_of};
+ghost use Rattle.visit_log.specs.Machine.{keep, bare, IsLending, Settles, path_of};
 ghost use Rattle.visit_log.specs.Sound.{IsListed, IsSoundPlace};
 ghost use Rattle.worker_core.specs.Stack.{top_of, HasTop, ChangesTop};
 
@@ -84,30 +84,35 @@ pub(crate) fn settle_top(frames: &mut [Frame], problem: &Problem, worker: u32) -
     frame.settle(problem, worker)
 }
 
-// Its child at the place was looked at.
+// Its child at the place was looked at. Errors: want of memory to carry a note that is lent, and
+// then nothing changes.
 pub(crate) fn look_top(
     frames: &mut [Frame],
+    alloc: Global,
     problem: &Problem,
     worker: u32,
     place: usize,
     seen: Seen,
-)
+) -> Result<(), AllocError>
     requires some { 0 < length frames.old }
     requires listed { HasTop (λ f. (path : List Key)
         × IsListed (task_for problem.now.position worker) path f
         × ((child : Child) → slice_get f.children place ≡ Some child
         → MayShow problem.now.position.side child.key path seen)) (reverse frames.old) }
     requires there { HasTop (λ f. IsSome (slice_get f.children place)) (reverse frames.old) }
-    ensures looked { ChangesTop (λ f g. (sight : Sight) × (sight.place ≡ place)
+    ensures looked { OnOk result (ChangesTop (λ f g. (sight : Sight) × (sight.place ≡ place)
         × (sight.seen ≡ seen) × (slice_get f.children place ≡ Some sight.child)
         × Tells problem.now.position.side f.place.position sight.child.by seen sight.start
-        × (g ≡ looked f sight)) (reverse frames.old) (reverse frames.new) }
+        × (g ≡ looked (task_for problem.now.position worker) f sight)) (reverse frames.old)
+        (reverse frames.new)) }
+    ensures lost { OnErr result (IsLending seen) }
+    ensures unchanged { OnErr result (frames.new ≡ frames.old) }
     ensures path { (task : Task) → path_of task (reverse frames.new)
         ≡ path_of task (reverse frames.old) }
 {
     let last = frames.len() - 1;
     let frame = &mut frames[last];
-    frame.look(problem, worker, place, seen);
+    frame.look(alloc, problem, worker, place, seen)
 }
 
 // The visit of the child to which it went down ended so.

@@ -97,7 +97,8 @@ impl Worker {
 
     /// Takes the answer in, which must be of the request's kind: a visit comes where fewer than a
     /// billion came before; numbers are from 1 to the cap; a note is about the child that was
-    /// looked at, for the attacker, and holds on the path. Where memory is wanting it winds up.
+    /// looked at, for the attacker, and holds on the path, or is lent, and may be carried to it.
+    /// Where memory is wanting it winds up.
     pub fn advance(&mut self, alloc: Global, answer: Reply)
         requires waiting { self.old.waiting ≡ true }
         requires fits { Fits self.old.task self.old.state answer }

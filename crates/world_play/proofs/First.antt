@@ -122,18 +122,18 @@ first_fair problem s kept is some = record {
 -- 5. THE WORLD THAT IS MADE.
 
 pub made_is : (problem : Board) (s : SettingsView) (place : ℕ) (port : LonePortView) (workers : List WorkerView) (raised : List Bool)
-    → port ≡ alone_at_first problem s.expansions s.room s.rows → workers ≡ workers_from problem 1 place → raised ≡ replicate place false → place ≡ s.workers
+    → port ≡ alone_at_first problem s.expansions s.room s.rows s.lends → workers ≡ workers_from problem 1 place → raised ≡ replicate place false → place ≡ s.workers
     → record { port = port; workers = workers; raised = raised } ≡ world_at_first problem s
 made_is problem s place port workers raised one two three end =
     let ws : workers ≡ workers_from problem 1 s.workers = two ∙ ap (λ (n : ℕ). workers_from problem 1 n) end in
     let rs : raised ≡ replicate s.workers false = three ∙ ap (λ (n : ℕ). replicate n false) end in
     let P : LonePortView → List WorkerView → List Bool → World = λ p w r. record { port = p; workers = w; raised = r } in
     ap (λ (p : LonePortView). P p workers raised) one
-    ∙ (ap (λ (w : List WorkerView). P (alone_at_first problem s.expansions s.room s.rows) w raised) ws
-    ∙ ap (λ (r : List Bool). P (alone_at_first problem s.expansions s.room s.rows) (workers_from problem 1 s.workers) r) rs)
+    ∙ (ap (λ (w : List WorkerView). P (alone_at_first problem s.expansions s.room s.rows s.lends) w raised) ws
+    ∙ ap (λ (r : List Bool). P (alone_at_first problem s.expansions s.room s.rows s.lends) (workers_from problem 1 s.workers) r) rs)
 
 pub made_fair : (problem : Board) (s : SettingsView) (place : ℕ) (port : LonePortView) (workers : List WorkerView) (raised : List Bool) → IsKept problem → IsProblem problem
-    → 0 < s.workers → port ≡ alone_at_first problem s.expansions s.room s.rows → workers ≡ workers_from problem 1 place → raised ≡ replicate place false
+    → 0 < s.workers → port ≡ alone_at_first problem s.expansions s.room s.rows s.lends → workers ≡ workers_from problem 1 place → raised ≡ replicate place false
     → place ≡ s.workers → IsFair (record { port = port; workers = workers; raised = raised })
 made_fair problem s place port workers raised kept is some one two three end =
     subst IsFair (sym (made_is problem s place port workers raised one two three end)) (first_fair problem s kept is some)

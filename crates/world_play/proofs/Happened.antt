@@ -1,9 +1,11 @@
 -- What each event comes to in a fair world.
 use Rattle.std.proofs.Common.{◌≡◌, inl, inr, ℕ, ◌+◌, cond, List, [], ◌∷◌, ◌++◌, length, set, get_or, arith, refl, sym, ap, ◌∙◌, subst, Bool, true, false, length-set, append-nil, append_assoc}
-use Rattle.std.specs.Prelude.{Option, Some, None, slice_get, slice_index_or, IfSome, IfNone, if◌then◌else◌}
+use Rattle.std.specs.Prelude.{Option, Some, None, slice_get, slice_index_or, IfSome, IfNone, ◌&&◌, if◌then◌else◌}
 use Rattle.std.proofs.lemmas.List.Sums.{sum_by-append}
 use Rattle.std.proofs.lemmas.Option.{slice_get_within, slice_get_read, same_Some}
 use Rattle.table_shard.specs.Spot.{word_of}
+use Rattle.visit_log.specs.declared.parts.Stage.{Stage}
+use Rattle.visit_log.specs.declared.parts.Stage.TheVariants.{Looking}
 use Rattle.visit_log.specs.declared.words.WorkEnd.{WorkEnd}
 use Rattle.visit_log.specs.declared.words.Request.{Request}
 use Rattle.visit_log.specs.declared.words.Request.TheVariants.{Enter, Leave}
@@ -15,23 +17,29 @@ use Rattle.visit_log.specs.Sound.{IsTask}
 use Rattle.visit_log.specs.Counts.{Words, own_slots, enters, leaves}
 use Rattle.visit_log.specs.Laws.{IsLeftAlone, HasCause, WorkersAreSound, SlotsMove, StarvingMovesNothing}
 use Rattle.worker_core.specs.Port.{KeepsOthers, Goes}
-use Rattle.worker_core.specs.Machine.{is_poll}
+use Rattle.worker_core.specs.Machine.{is_poll, looks_at, winds_at}
 use Rattle.worker_core.proofs.Offered.{goes_asks}
 use Rattle.lone_port.specs.Lone.{LonePortView, IsLone, book_of, opened}
 use Rattle.lone_port.specs.World.{World, Steps, StepsAt, IsAtWork, IsIdle, Happens, Plays}
 use Rattle.lone_port.specs.declared.event.Event.{Event}
 use Rattle.lone_port.specs.declared.event.Event.TheVariants.{Step, Raise, Starve}
-use Rattle.world_play.specs.Fair.{IsFair, IsToldOf, only}
-use Rattle.world_play.specs.Logs.{GoOnBy, is_refused, refused_looks}
+use Rattle.world_play.specs.Fair.{IsFair, IsToldOf, numbered, only}
+use Rattle.world_play.specs.Logs.{AreLost, GoOnBy, is_lent, is_refused}
+use Rattle.world_play.specs.Lost.{Loses, looks_of, winds_of, lost_by}
 use Rattle.world_play.proofs.Desks.{desk_same, keeps}
 use Rattle.world_play.proofs.Stepped.{sum_set, fair_on, member_on}
 use Rattle.world_play.proofs.Holding.{entered_on}
 use Rattle.world_play.proofs.Gone.{goes_on_by, gone_none, gone_one, gone_quietly, gone_then}
 
--- What an event comes to, and how many looks were refused memory in it.
+-- What an event comes to, and after how many looks of it the worker wound up.
 abbrev pub Comes : World → Event → ℕ → World → Type 0
-Comes world event refused after =
-    (log : List (ℕ × Exchange)) × Happens world event log after × GoOnBy world.workers log after.workers × (refused_looks log ≡ refused)
+Comes world event lost after =
+    (log : List (ℕ × Exchange)) × Happens world event log after × GoOnBy world.workers log after.workers × AreLost log lost
+    × (lost ≡ lost_by world event after)
+
+-- No look, none lost.
+none_lost : AreLost [] 0
+none_lost = record { least = omega arith; most = omega arith }
 
 -- 1. A STEP.
 
@@ -87,8 +95,8 @@ step_fair sound moves starving world after number place worker later x lone r =
     (member_on (opened world.port false) after.port (slice_index_or world.raised place false) place worker later x (r.fair.members place worker r.at_work.there) r.steps r.leads)
 
 pub step_comes : (world after : World) (number place : ℕ) (worker later : WorkerView) (x : Exchange) (refused : ℕ) → IsRequest world after number place worker later x
-    → refused_looks ((number, x) ∷ []) ≡ refused → Comes world (Step number) refused after
-step_comes world after number place worker later x refused r counts =
+    → AreLost ((number, x) ∷ []) refused → refused ≡ lost_by world (Step number) after → Comes world (Step number) refused after
+step_comes world after number place worker later x refused r counts exact =
     let m = r.fair.members place worker r.at_work.there in
     let polls : is_poll (asks worker.state) ≡ is_poll x.0 = ap is_poll (sym (goes_asks worker.task worker.state later.state x r.steps.goes)) in
     let at : StepsAt world place worker x after = record {
@@ -103,6 +111,7 @@ step_comes world after number place worker later x refused r counts =
           (gone_one world.workers place number worker later x r.at_work.there r.at_work.numbered
           (goes_on_by worker later (x ∷ []) m.idle r.steps.idle r.steps.task r.leads)),
       counts,
+      exact,
     )
 
 -- 2. A RAISE.
@@ -127,6 +136,7 @@ raise_comes world after number place worker at e = (
   [],
   inl (place, worker, at, e, refl),
   subst (λ (w : World). GoOnBy world.workers [] w.workers) (sym e) (gone_none world.workers),
+  none_lost,
   refl,
 )
 
@@ -185,10 +195,49 @@ starve_comes world after number place worker later fair at is leads e =
           (gone_quietly world.workers place worker later at.there
           (goes_on_by worker later [] m.idle idle task
           (λ log l. subst (λ (z : List Exchange). Leads worker.task z later.state) (sym (append-nil log)) (leads_starved worker later m.idle leads log l)))),
+      none_lost,
       refl,
     )
 
+-- Of what changes nothing no look is lost: no worker looks and winds up at once.
+not_both : (stage : Stage) → looks_at stage && winds_at stage ≡ false
+not_both (Looking place) = refl
+not_both stage = refl
+
+not_both_of : (worker : Option WorkerView) → looks_of worker && winds_of worker ≡ false
+not_both_of None = refl
+not_both_of (Some worker) = not_both worker.state.stage
+
+idle_lost : (world : World) (number : ℕ) → 0 ≡ lost_by world (Step number) world
+idle_lost world number = sym (ap {B = ℕ} (λ (b : Bool). if b then 1 else 0) (not_both_of (numbered world.workers number)))
+
 -- 4. A SCHEDULE.
+
+loses_push : (es : List Event) (e : Event) (w v u : World) (a b : List (ℕ × Exchange)) (lost more : ℕ) → Loses w es a v lost → Happens v e b u
+    → more ≡ lost_by v e u → Loses w (es ++ e ∷ []) (a ++ b) u (lost + more)
+loses_push [] e w v u a b lost more h k count =
+    let none = h.2 in
+    let same : lost_by w e u ≡ lost_by v e u = ap (λ (z : World). lost_by z e u) h.1 in (
+      b,
+      [],
+      u,
+      0,
+      subst (λ (z : World). Happens z e b u) (sym h.1) k,
+      (refl, refl, refl),
+      ap (λ (z : List (ℕ × Exchange)). z ++ b) h.0 ∙ sym (append-nil b),
+      omega (arith, none, same, count),
+    )
+loses_push (f ∷ es) e w v u a b lost more h k count =
+    let so_far = h.7 in (
+      h.0,
+      h.1 ++ b,
+      h.2,
+      h.3 + more,
+      h.4,
+      loses_push es e h.2 v u h.1 b h.3 more h.5 k count,
+      ap (λ (z : List (ℕ × Exchange)). z ++ b) h.6 ∙ append_assoc h.0 h.1 b,
+      omega (arith, so_far),
+    )
 
 plays_push : (es : List Event) (e : Event) (w v u : World) (a b : List (ℕ × Exchange)) → Plays w es a v → Happens v e b u → Plays w (es ++ e ∷ []) (a ++ b) u
 plays_push [] e w v u a b h k =
@@ -203,22 +252,28 @@ plays_push (f ∷ es) e w v u a b h k = (
   ap (λ (z : List (ℕ × Exchange)). z ++ b) h.5 ∙ append_assoc h.0 h.1 b,
 )
 
--- What a schedule comes to, and how many looks were refused memory in it.
+-- What a schedule comes to, and after how many looks of it workers wound up.
 abbrev pub Played : World → List Event → ℕ → World → Type 0
-Played world events refused after =
-    (log : List (ℕ × Exchange)) × Plays world events log after × GoOnBy world.workers log after.workers × (refused_looks log ≡ refused)
+Played world events lost after =
+    (log : List (ℕ × Exchange)) × Plays world events log after × GoOnBy world.workers log after.workers × AreLost log lost
+    × Loses world events log after lost
 
 pub played_none : (world : World) → Played world [] 0 world
-played_none world = ([], (refl, refl), gone_none world.workers, refl)
+played_none world = ([], (refl, refl), gone_none world.workers, none_lost, (refl, refl, refl))
 
-pub played_push : (world mid after : World) (events : List Event) (event : Event) (refused more : ℕ) → Played world events refused mid
-    → Comes mid event more after → Played world (events ++ event ∷ []) (refused + more) after
-played_push world mid after events event refused more p c =
-    let both = sum_by-append (λ (told : ℕ × Exchange). cond (is_refused told.1) 1 0) p.0 c.0 in (
+pub played_push : (world mid after : World) (events : List Event) (event : Event) (lost more : ℕ) → Played world events lost mid
+    → Comes mid event more after → Played world (events ++ event ∷ []) (lost + more) after
+played_push world mid after events event lost more p c =
+    let refused = sum_by-append (λ (told : ℕ × Exchange). cond (is_refused told.1) 1 0) p.0 c.0 in
+    let lent = sum_by-append (λ (told : ℕ × Exchange). cond (is_lent told.1) 1 0) p.0 c.0 in (
       p.0 ++ c.0,
       plays_push events event world mid after p.0 c.0 p.1 c.1,
       gone_then world.workers mid.workers after.workers p.0 c.0 p.2 c.2,
-      (let one = p.3 in let two = c.3 in omega (arith, both, one, two)),
+      record {
+        least = omega (arith, p.3.least, c.3.least, refused);
+        most = omega (arith, p.3.most, c.3.most, refused, lent);
+      },
+      loses_push events event world mid after p.0 c.0 lost more p.4 c.1 c.4,
     )
 
 -- 5. WHAT THE CODE READS.
@@ -275,10 +330,10 @@ requested world after ready number place found first worker later stops polls re
 
 -- No event of a worker that is idle changes anything.
 pub idle_step : (world : World) (number : ℕ) → IsIdle world number → Comes world (Step number) 0 world
-idle_step world number idle = ([], inr (idle, refl, refl), gone_none world.workers, refl)
+idle_step world number idle = ([], inr (idle, refl, refl), gone_none world.workers, none_lost, idle_lost world number)
 
 pub idle_raise : (world : World) (number : ℕ) → IsIdle world number → Comes world (Raise number) 0 world
-idle_raise world number idle = ([], inr (idle, refl, refl), gone_none world.workers, refl)
+idle_raise world number idle = ([], inr (idle, refl, refl), gone_none world.workers, none_lost, refl)
 
 pub idle_starve : (world : World) (number : ℕ) → IsIdle world number → Comes world (Starve number) 0 world
-idle_starve world number idle = ([], inr (idle, refl, refl), gone_none world.workers, refl)
+idle_starve world number idle = ([], inr (idle, refl, refl), gone_none world.workers, none_lost, refl)

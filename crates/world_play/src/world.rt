@@ -11,7 +11,8 @@ ghost use Rattle.table_shard.specs.Row.{IsRow};
 ghost use Rattle.world_play.specs.Fair.{numbered, IsFair, all_below};
 ghost use Rattle.world_play.specs.Crew.{IsCrew};
 ghost use Rattle.world_play.specs.Promises.{IsKeptWorld, HoldsWhatIsEntered, AreSoundWorkers, AreToldOf, AllHaveEnded, IsOver, IsLeft};
-ghost use Rattle.world_play.specs.Logs.{GoOnBy, refused_looks};
+ghost use Rattle.world_play.specs.Logs.{AreLost, GoOnBy};
+ghost use Rattle.world_play.specs.Lost.{Loses, lost_by};
 
 use board_core::Key;
 use lone_port::{Event, LonePort, step};
@@ -76,28 +77,29 @@ impl World {
         })
     }
 
-    /// Has the events of a schedule happen, one after the other, and says how many looks were
-    /// refused memory in this call. An event of a worker that isn't there, or that has ended,
-    /// changes nothing; a look that is refused memory starves its worker.
+    /// Has the events of a schedule happen, one after the other, and says after how many looks of
+    /// this call a worker wound up for want of memory: they were refused it, or lent a note that
+    /// there was none to carry. An event of a worker that isn't there, or that has ended, changes
+    /// nothing; a look that is refused memory starves its worker.
     pub fn play(&mut self, alloc: Global, events: &[Event]) -> usize
         // Whatever log a worker was reached by, it is reached now by that log with its own requests
         // and answers of this call behind.
         ensures { (log : List (ℕ × Exchange)) × Plays self.old events.now log self.new
             × GoOnBy self.old.workers log self.new.workers
-            × (refused_looks log ≡ result) }
+            × AreLost log result × Loses self.old events.now log self.new result }
     {
-        let mut refused = 0;
+        let mut lost = 0;
         for event in events {
-            refused += self.happen(alloc, *event);
+            lost += self.happen(alloc, *event);
         }
-        refused
+        lost
     }
 
-    // Has one event happen, and says how many looks were refused memory in it.
+    // Has one event happen, and says after how many looks of it the worker wound up.
     fn happen(&mut self, alloc: Global, event: Event) -> usize
         ensures played { (log : List (ℕ × Exchange)) × Happens self.old event log self.new
             × GoOnBy self.old.workers log self.new.workers
-            × (refused_looks log ≡ result) }
+            × AreLost log result × (result ≡ lost_by self.old event self.new) }
         ensures one { result ≤ 1 }
     {
         match event {
@@ -133,12 +135,12 @@ impl World {
         }
     }
 
-    // Has the request of the worker of this number answered, and says how many looks were refused
-    // memory: 1 where this one was.
+    // Has the request of the worker of this number answered, and says after how many looks it wound
+    // up for want of memory: 1 where after this one.
     fn step(&mut self, alloc: Global, number: u32) -> usize
         ensures played { (log : List (ℕ × Exchange)) × Happens self.old (Step number) log self.new
             × GoOnBy self.old.workers log self.new.workers
-            × (refused_looks log ≡ result) }
+            × AreLost log result × (result ≡ lost_by self.old (Step number) self.new) }
         ensures one { result ≤ 1 }
     {
         let Some(place) = self.at_work(number) else {
@@ -152,14 +154,14 @@ impl World {
         let stops = take_stop(&mut self.raised, place, polls);
         self.port.open(false);
         step(alloc, &mut self.port, &mut self.workers[place], stops);
-        refusals(looks, self.workers[place].is_winding())
+        lost(looks, self.workers[place].is_winding())
     }
 
     // Signals a stop to the worker of this number.
     fn raise(&mut self, number: u32)
         ensures { (log : List (ℕ × Exchange)) × Happens self.old (Raise number) log self.new
             × GoOnBy self.old.workers log self.new.workers
-            × (refused_looks log ≡ 0) }
+            × AreLost log 0 × (0 ≡ lost_by self.old (Raise number) self.new) }
     {
         let Some(place) = self.at_work(number) else {
             return;
@@ -171,7 +173,7 @@ impl World {
     fn starve(&mut self, number: u32)
         ensures { (log : List (ℕ × Exchange)) × Happens self.old (Starve number) log self.new
             × GoOnBy self.old.workers log self.new.workers
-            × (refused_looks log ≡ 0) }
+            × AreLost log 0 × (0 ≡ lost_by self.old (Starve number) self.new) }
     {
         let Some(place) = self.at_work(number) else {
             return;
@@ -284,9 +286,9 @@ fn take_stop(raised: &mut Vec<bool>, place: usize, polls: bool) -> bool
     stops
 }
 
-// How many looks were refused memory in a step, by whether the worker looked before it and winds up
-// behind it: what a look shows never has it wind up.
-fn refusals(looked: bool, winds: bool) -> usize
+// After how many looks the worker wound up in a step, by whether it looked before it and winds up
+// behind it: what a look shows has it wind up only where there is no memory to carry that.
+fn lost(looked: bool, winds: bool) -> usize
     ensures { result ≡ (if looked && winds then 1 else 0) }
 {
     if looked && winds { 1 } else { 0 }

@@ -14,7 +14,7 @@ use Rattle.lone_port.proofs.lone.LonePortPort.enter.Goals as goal
 
 pub invariant_of-self : goal.invariant_of-self
 invariant_of-self c =
-    let port : LonePortView = record { rows = c.self.inside.shard; pins = c.self.inside.pins.items; desk = c.self.inside.desk; going = c.self.inside.is_going; stops = c.self.inside.stops } in
+    let port : LonePortView = record { rows = c.self.inside.shard; pins = c.self.inside.pins.items; desk = c.self.inside.desk; going = c.self.inside.is_going; stops = c.self.inside.stops; lends = c.self.inside.lends } in
     let long : length port.rows ≡ length port.pins = sym c.self.invariant.as_many in
     let eight : length c.index.result.now ≡ 8 = ap length c.index.ensures ∙ (ap length (get_or_default port.pins c.spot_of-spot.result.place c.index.result.now []
     (subst (λ (n : ℕ). c.spot_of-spot.result.place < n) long c.spot_of-spot.ensures.there))
@@ -26,7 +26,7 @@ invariant_of-self c =
 
 pub returns-in-Slot-clause-book : goal.returns-in-Slot-clause-book
 returns-in-Slot-clause-book c =
-    let port : LonePortView = record { rows = c.self.inside.shard; pins = c.self.inside.pins.items; desk = c.self.inside.desk; going = c.self.inside.is_going; stops = c.self.inside.stops } in
+    let port : LonePortView = record { rows = c.self.inside.shard; pins = c.self.inside.pins.items; desk = c.self.inside.desk; going = c.self.inside.is_going; stops = c.self.inside.stops; lends = c.self.inside.lends } in
     let long : length port.rows ≡ length port.pins = sym c.self.invariant.as_many in
     let eight : length c.index.result.now ≡ 8 = ap length c.index.ensures ∙ (ap length (get_or_default port.pins c.spot_of-spot.result.place c.index.result.now []
     (subst (λ (n : ℕ). c.spot_of-spot.result.place < n) long c.spot_of-spot.ensures.there))
@@ -44,7 +44,7 @@ returns-in-Slot-clause-book c =
 
 pub returns-in-Slot-clause-turn : goal.returns-in-Slot-clause-turn
 returns-in-Slot-clause-turn c path =
-    let port : LonePortView = record { rows = c.self.inside.shard; pins = c.self.inside.pins.items; desk = c.self.inside.desk; going = c.self.inside.is_going; stops = c.self.inside.stops } in
+    let port : LonePortView = record { rows = c.self.inside.shard; pins = c.self.inside.pins.items; desk = c.self.inside.desk; going = c.self.inside.is_going; stops = c.self.inside.stops; lends = c.self.inside.lends } in
     let long : length port.rows ≡ length port.pins = sym c.self.invariant.as_many in
     let eight : length c.index.result.now ≡ 8 = ap length c.index.ensures ∙ (ap length (get_or_default port.pins c.spot_of-spot.result.place c.index.result.now []
     (subst (λ (n : ℕ). c.spot_of-spot.result.place < n) long c.spot_of-spot.ensures.there))
@@ -62,7 +62,7 @@ returns-in-Slot-clause-turn c path =
 
 pub returns-in-Unkept-clause-turn : goal.returns-in-Unkept-clause-turn
 returns-in-Unkept-clause-turn c path =
-    let port : LonePortView = record { rows = c.self.inside.shard; pins = c.self.inside.pins.items; desk = c.self.inside.desk; going = c.self.inside.is_going; stops = c.self.inside.stops } in
+    let port : LonePortView = record { rows = c.self.inside.shard; pins = c.self.inside.pins.items; desk = c.self.inside.desk; going = c.self.inside.is_going; stops = c.self.inside.stops; lends = c.self.inside.lends } in
     let long : length port.rows ≡ length port.pins = sym c.self.invariant.as_many in
     let eight : length c.index.result.now ≡ 8 = ap length c.index.ensures ∙ (ap length (get_or_default port.pins c.spot_of-spot.result.place c.index.result.now []
     (subst (λ (n : ℕ). c.spot_of-spot.result.place < n) long c.spot_of-spot.ensures.there))

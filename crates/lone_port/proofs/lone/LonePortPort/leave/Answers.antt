@@ -23,12 +23,12 @@ own_slot port now kept key slot is slot_is held =
 
 pub bounds-index_mut-slot : goal.bounds-index_mut-slot
 bounds-index_mut-slot c =
-    let port : LonePortView = record { rows = c.self.inside.shard; pins = c.self.inside.pins.items; desk = c.self.inside.desk; going = c.self.inside.is_going; stops = c.self.inside.stops } in
+    let port : LonePortView = record { rows = c.self.inside.shard; pins = c.self.inside.pins.items; desk = c.self.inside.desk; going = c.self.inside.is_going; stops = c.self.inside.stops; lends = c.self.inside.lends } in
     (own_slot port c.args.self.now c.args.kept c.args.key.now c.in-Slot.slot c.self.view_is c.in-Slot.is c.requires.held).low
 
 pub overflow_sub-index_mut : goal.overflow_sub-index_mut
 overflow_sub-index_mut c =
-    let port : LonePortView = record { rows = c.self.inside.shard; pins = c.self.inside.pins.items; desk = c.self.inside.desk; going = c.self.inside.is_going; stops = c.self.inside.stops } in
+    let port : LonePortView = record { rows = c.self.inside.shard; pins = c.self.inside.pins.items; desk = c.self.inside.desk; going = c.self.inside.is_going; stops = c.self.inside.stops; lends = c.self.inside.lends } in
     let mine = own_slot port c.args.self.now c.args.kept c.args.key.now c.in-Slot.slot c.self.view_is c.in-Slot.is c.requires.held in
     let long : length port.rows ≡ length port.pins = sym c.self.invariant.as_many in
     leave_some port c.args.key.now c.spot_of-spot.result.place (length port.rows) c.in-Slot.slot c.index_mut.result.now
@@ -36,12 +36,12 @@ overflow_sub-index_mut c =
 
 pub bounds-index_mut-slot-2 : goal.bounds-index_mut-slot-2
 bounds-index_mut-slot-2 c =
-    let port : LonePortView = record { rows = c.self.inside.shard; pins = c.self.inside.pins.items; desk = c.self.inside.desk; going = c.self.inside.is_going; stops = c.self.inside.stops } in
+    let port : LonePortView = record { rows = c.self.inside.shard; pins = c.self.inside.pins.items; desk = c.self.inside.desk; going = c.self.inside.is_going; stops = c.self.inside.stops; lends = c.self.inside.lends } in
     (own_slot port c.args.self.now c.args.kept c.args.key.now c.in-Slot.slot c.self.view_is c.in-Slot.is c.requires.held).low
 
 pub invariant_of-self : goal.invariant_of-self
 invariant_of-self c =
-    let port : LonePortView = record { rows = c.self.inside.shard; pins = c.self.inside.pins.items; desk = c.self.inside.desk; going = c.self.inside.is_going; stops = c.self.inside.stops } in
+    let port : LonePortView = record { rows = c.self.inside.shard; pins = c.self.inside.pins.items; desk = c.self.inside.desk; going = c.self.inside.is_going; stops = c.self.inside.stops; lends = c.self.inside.lends } in
     let mine = own_slot port c.args.self.now c.args.kept c.args.key.now c.in-Slot.slot c.self.view_is c.in-Slot.is c.requires.held in
     let long : length port.rows ≡ length port.pins = sym c.self.invariant.as_many in
     leave_keeps port c.leave_held.new.self c.args.key.now c.args.update c.spot_of-spot.result.place (length port.rows) c.in-Slot.slot c.index_mut.result.now c.self.invariant
@@ -50,7 +50,7 @@ invariant_of-self c =
 
 pub returns-clause-book : goal.returns-clause-book
 returns-clause-book c =
-    let port : LonePortView = record { rows = c.self.inside.shard; pins = c.self.inside.pins.items; desk = c.self.inside.desk; going = c.self.inside.is_going; stops = c.self.inside.stops } in
+    let port : LonePortView = record { rows = c.self.inside.shard; pins = c.self.inside.pins.items; desk = c.self.inside.desk; going = c.self.inside.is_going; stops = c.self.inside.stops; lends = c.self.inside.lends } in
     let mine = own_slot port c.args.self.now c.args.kept c.args.key.now c.in-Slot.slot c.self.view_is c.in-Slot.is c.requires.held in
     let long : length port.rows ≡ length port.pins = sym c.self.invariant.as_many in
     let counts = c.index_mut.result.now in

@@ -5,7 +5,7 @@ use Rattle.lone_port.specs.Lone.{LonePortView, book_of}
 use Rattle.lone_port.specs.World.{World, IsAtWork}
 use Rattle.lone_port.specs.declared.event.Event.TheVariants.{Step}
 use Rattle.world_play.proofs.Suited.{suited}
-use Rattle.world_play.proofs.Refused.{step_refused}
+use Rattle.world_play.proofs.Refused.{step_exact, step_refused}
 use Rattle.world_play.proofs.Happened.{Comes, at_work_by, requested, step_fair, step_comes, idle_step}
 use Rattle.world_play.proofs.world.World.step.Goals as goal
 
@@ -80,6 +80,8 @@ returns-clause-played c =
     c.take_stop-stops.result c.is_polling-polls.result c.step.result c.self.invariant at c.index.ensures c.index_mut.ensures.value c.is_polling-polls.ensures
     c.take_stop-stops.ensures.stops c.open.ensures refl c.take_stop-stops.ensures.told e.steps e.ended e.others in
     let counts = step_refused w after c.args.number c.in-Some.place c.index_mut.result.now c.step.new.worker r.0 c.index-2.result.now c.index-3.result.now
-    c.is_looking-looks.result c.is_winding.result c.refusals.result r.1 c.index-2.ensures c.index-3.ensures c.is_looking-looks.ensures c.is_winding.ensures c.refusals.ensures in
-    subst (λ (v : World). Comes v (Step c.args.number) c.refusals.result after) c.self.view_is
-    (step_comes w after c.args.number c.in-Some.place c.index_mut.result.now c.step.new.worker r.0 c.refusals.result r.1 counts)
+    c.is_looking-looks.result c.is_winding.result c.lost.result r.1 c.index-2.ensures c.index-3.ensures c.is_looking-looks.ensures c.is_winding.ensures c.lost.ensures in
+    let exact = step_exact w after c.args.number c.in-Some.place c.index_mut.result.now c.step.new.worker r.0 c.index-2.result.now c.index-3.result.now
+    c.is_looking-looks.result c.is_winding.result c.lost.result r.1 c.index-2.ensures c.index-3.ensures c.is_looking-looks.ensures c.is_winding.ensures c.lost.ensures in
+    subst (λ (v : World). Comes v (Step c.args.number) c.lost.result after) c.self.view_is
+    (step_comes w after c.args.number c.in-Some.place c.index_mut.result.now c.step.new.worker r.0 c.lost.result r.1 counts exact)
