@@ -1,6 +1,6 @@
--- The line of `solve`, in clap's own terms.
+-- The line of `solve`, and of what is asked the same, in clap's own terms.
 use Rattle.std.specs.Prelude.{codes}
-use Rattle.clap.specs.Words.{App, Rule, new_app, with_rule}
+use Rattle.clap.specs.Words.{App, Rule, Text, new_app, with_rule}
 use Rattle.search_limits.specs.declared.settings.TheConstants.{MOST_WORKERS}
 use Rattle.tsume_words.specs.Options.{deadline_option, expansions_option, file_word, kif_flag, number_option, progress_flag, rest_flag, room_option, rows_option, shards_option}
 
@@ -8,10 +8,10 @@ use Rattle.tsume_words.specs.Options.{deadline_option, expansions_option, file_w
 abbrev pub workers_option : Rule
 workers_option = number_option (codes "workers") 1 MOST_WORKERS (codes "1")
 
--- `solve` has the five numbers, of them 1,000,000 expansions where nothing is said, the deadline,
--- the three flags and the file.
-unfoldable pub solve_line : App
-solve_line = with_rule
+-- A line with what `solve` is asked: the five numbers, of them 1,000,000 expansions where nothing
+-- is said, the deadline, the three flags and the file.
+abbrev pub with_search : App → App
+with_search line = with_rule
     (with_rule
     (with_rule
     (with_rule
@@ -19,7 +19,7 @@ solve_line = with_rule
     (with_rule
     (with_rule
     (with_rule
-    (with_rule (with_rule (new_app (codes "solve")) workers_option) (expansions_option (codes "1000000")))
+    (with_rule (with_rule line workers_option) (expansions_option (codes "1000000")))
     room_option)
     rows_option)
     shards_option)
@@ -28,3 +28,7 @@ solve_line = with_rule
     rest_flag)
     progress_flag)
     file_word
+
+-- The line of a command of this name that is asked what `solve` is.
+unfoldable pub search_line : Text → App
+search_line name = with_search (new_app name)

@@ -14,3 +14,5 @@ mod words;
 
 pub use asked::Solve;
 pub use running::{solve, solve_alone};
+pub use stops::arm_all;
+pub use words::search_options;

@@ -13,7 +13,7 @@ ghost use Rattle.cmd_solve.specs.Asked.{solve_in};
 ghost use Rattle.cmd_solve.specs.Meaning.{solve_meaning};
 
 use crate::Solve;
-use crate::stops::arm_each;
+use crate::stops::{arm_all, arm_each};
 use app_texts::{ProblemFault, Solution};
 use one_run::Unanswered;
 use problem_answers::{read_problem, verdict};
@@ -111,7 +111,7 @@ pub(crate) fn answer<R: Threads + Wait + Sync, G: Gate, T: Stop + Drop>(
     ensures line { IfOk result HasLine }
 {
     let problem = posed(asked, input)?;
-    arm_each(stops, asked.watch.deadline);
+    arm_all(stops, asked.watch.deadline);
     let end = search(rt, alloc, &problem, &asked.settings, gate, stops);
     told(alloc, &problem, end)
 }

@@ -12,3 +12,11 @@ pub(crate) fn arm_each<T: Stop>(stops: &mut [T], after_ms: Option<u64>)
         stop.arm(after_ms);
     }
 }
+
+/// Arms each of these stops, for a deadline of so many milliseconds or for none.
+pub fn arm_all<T: Stop>(stops: &mut Vec<T>, after_ms: Option<u64>)
+    ensures { map T.signal stops.new.items
+        ≡ map (λ signal. armed_with signal after_ms) (map T.signal stops.old.items) }
+{
+    arm_each(stops, after_ms);
+}

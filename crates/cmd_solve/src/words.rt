@@ -1,10 +1,11 @@
 // The words of `solve`. Lines of help end below 80 columns, where a test looks.
-ghost use Rattle.std.specs.Prelude.{◌≡◌, codes, false};
-ghost use Rattle.clap.specs.Words.{found_of, rows_of, rule_of};
+ghost use Rattle.std.specs.Prelude.{◌≡◌, IfOk, codes, false};
+ghost use Rattle.clap.specs.Words.{app_of, found_of, rows_of, rule_of};
+ghost use Rattle.clap.specs.declared.builder.command.Command.TheViews.{out-Command as fields_of};
 ghost use Rattle.search_limits.specs.Sizes.{IsFromTo};
 ghost use Rattle.search_limits.specs.declared.settings.TheConstants.{MOST_WORKERS};
 ghost use Rattle.tsume_words.specs.Given.{HasNumber, number_of};
-ghost use Rattle.cmd_solve.specs.Line.{workers_option};
+ghost use Rattle.cmd_solve.specs.Line.{with_search, workers_option};
 
 use crate::Solve;
 use clap::{Arg, ArgMatches, Command};
@@ -38,6 +39,28 @@ fn workers(given: &ArgMatches<'_>) -> u32
     number(given, "workers") as u32
 }
 
+/// Puts behind a command's line what `solve` is asked: the numbers of a search, its deadline, how
+/// the problem is read, whether its progress is told, and the file. Errors: want of memory alone.
+pub fn search_options<'a>(alloc: Global, line: Command<'a>) -> Result<Command<'a>, AllocError>
+    ensures app { IfOk result (λ made. app_of made ≡ with_search (app_of line.entry)) }
+    ensures local { (fields_of line.entry).has_globals ≡ false
+        → IfOk result (λ made. (fields_of made).has_globals ≡ false) }
+{
+    line.arg(workers_option(alloc))?
+        .arg(expansions_option(alloc, "1000000"))?
+        .arg(room_option(alloc))?
+        .arg(rows_option(alloc))?
+        .arg(shards_option(alloc))?
+        .arg(deadline_option(alloc))?
+        .arg(kif_flag(alloc))?
+        .arg(rest_flag(alloc))?
+        .arg(progress_flag(alloc))?
+        .arg(file_word(
+            alloc,
+            "The problem's file, 65536 bytes at most; - or none: standard input",
+        ))
+}
+
 impl CommandWords for Solve {
     ghost use Rattle.cmd_solve.specs.Asked.{solve_in};
     ghost use Rattle.cmd_solve.specs.Meaning.{SolveView};
@@ -50,7 +73,7 @@ impl CommandWords for Solve {
     ghost meaning = { solve_words };
 
     fn line<'a>(alloc: Global) -> Result<Command<'a>, AllocError> {
-        Command::new(alloc, "solve")
+        let line = Command::new(alloc, "solve")
             .about("Solves a problem (SFEN or KIF): its mate, or that there is none")
             .after_help(
                 "It prints a certificate too, which `tsume check` accepts. Every interposition\n\
@@ -60,20 +83,8 @@ impl CommandWords for Solve {
                  Status: 0 a mate or none, 1 gave up, 2 words refused, 3 no problem, 4 reading\n\
                  failed, 5 writing failed, 6 out of memory.\n\n\
                  Example:\n  echo '4k4/9/4P4/9/9/9/9/9/9 b G 1' | tsume solve --expansions 100000",
-            )
-            .arg(workers_option(alloc))?
-            .arg(expansions_option(alloc, "1000000"))?
-            .arg(room_option(alloc))?
-            .arg(rows_option(alloc))?
-            .arg(shards_option(alloc))?
-            .arg(deadline_option(alloc))?
-            .arg(kif_flag(alloc))?
-            .arg(rest_flag(alloc))?
-            .arg(progress_flag(alloc))?
-            .arg(file_word(
-                alloc,
-                "The problem's file, 65536 bytes at most; - or none: standard input",
-            ))
+            );
+        search_options(alloc, line)
     }
 
     fn read(_alloc: Global, given: &ArgMatches<'_>) -> Result<Solve, WordsEnd> {

@@ -4,9 +4,10 @@ ghost use Rattle.position_places.specs.Places.{AreBoardPlacesOf};
 
 use crate::letters::problem;
 use crate::same::same;
-use board_core::Side;
+use board_core::{Side, key};
 use cert_text::{Certificate, CertificateOf, Entry, read_cert};
 use dominance_places::{is_dominated, least_dominated};
+use hand_dominance::key_dominates;
 use position_places::BoardPlaces;
 use std::alloc::{AllocError, Global};
 use std::test::Fail;
@@ -94,4 +95,132 @@ fn what_is_dominated_is_found(rt: HostRuntime) -> Result<(), Fail> {
         return Ok(());
     }
     panic!(&rt; "no escape: {ESCAPE}")
+}
+
+// Whether the one position dominates the other for the attacker, told by their keys.
+#[test]
+fn keys_tell_which_position_dominates_which(rt: HostRuntime) {
+    let cases = [
+        (
+            Side::Black,
+            "4k4/9/4P4/9/9/9/9/9/4K4 b G",
+            "4k4/9/4P4/9/9/9/9/9/4K4 b G",
+            true,
+        ),
+        (
+            Side::Black,
+            "4k4/9/4P4/9/9/9/9/9/4K4 b GP",
+            "4k4/9/4P4/9/9/9/9/9/4K4 b G",
+            true,
+        ),
+        (
+            Side::Black,
+            "4k4/9/4P4/9/9/9/9/9/4K4 b G",
+            "4k4/9/4P4/9/9/9/9/9/4K4 b GP",
+            false,
+        ),
+        (
+            Side::Black,
+            "4k4/9/4P4/9/9/9/9/9/4K4 b G",
+            "4k4/9/4P4/9/9/9/9/9/4K4 b Gp",
+            true,
+        ),
+        (
+            Side::Black,
+            "4k4/9/4P4/9/9/9/9/9/4K4 b Gp",
+            "4k4/9/4P4/9/9/9/9/9/4K4 b G",
+            false,
+        ),
+        (
+            Side::White,
+            "4k4/9/4P4/9/9/9/9/9/4K4 b Gp",
+            "4k4/9/4P4/9/9/9/9/9/4K4 b G",
+            true,
+        ),
+        (
+            Side::White,
+            "4k4/9/4P4/9/9/9/9/9/4K4 b GP",
+            "4k4/9/4P4/9/9/9/9/9/4K4 b G",
+            false,
+        ),
+        (
+            Side::Black,
+            "4k4/9/4P4/9/9/9/9/9/4K4 w G",
+            "4k4/9/4P4/9/9/9/9/9/4K4 b G",
+            false,
+        ),
+        (
+            Side::Black,
+            "4k4/9/9/4P4/9/9/9/9/4K4 b G",
+            "4k4/9/4P4/9/9/9/9/9/4K4 b G",
+            false,
+        ),
+        // More of one kind don't make up for another, and each kind has bits of its own.
+        (
+            Side::Black,
+            "4k4/9/4P4/9/9/9/9/9/4K4 b 2R2B4G4S4N4L16P",
+            "4k4/9/4P4/9/9/9/9/9/4K4 b 17P",
+            false,
+        ),
+        (
+            Side::Black,
+            "4k4/9/4P4/9/9/9/9/9/4K4 b 17P",
+            "4k4/9/4P4/9/9/9/9/9/4K4 b 16P",
+            true,
+        ),
+        (
+            Side::Black,
+            "4k4/9/4P4/9/9/9/9/9/4K4 b R2B4G4S4N4L17P",
+            "4k4/9/4P4/9/9/9/9/9/4K4 b 2R",
+            false,
+        ),
+        (
+            Side::Black,
+            "4k4/9/4P4/9/9/9/9/9/4K4 b 2RB4G4S4N4L17P",
+            "4k4/9/4P4/9/9/9/9/9/4K4 b 2B",
+            false,
+        ),
+        (
+            Side::Black,
+            "4k4/9/4P4/9/9/9/9/9/4K4 b 2R2B3G4S4N4L17P",
+            "4k4/9/4P4/9/9/9/9/9/4K4 b 4G",
+            false,
+        ),
+        (
+            Side::Black,
+            "4k4/9/4P4/9/9/9/9/9/4K4 b 2R2B4G3S4N4L17P",
+            "4k4/9/4P4/9/9/9/9/9/4K4 b 4S",
+            false,
+        ),
+        (
+            Side::Black,
+            "4k4/9/4P4/9/9/9/9/9/4K4 b 2R2B4G4S3N4L17P",
+            "4k4/9/4P4/9/9/9/9/9/4K4 b 4N",
+            false,
+        ),
+        (
+            Side::Black,
+            "4k4/9/4P4/9/9/9/9/9/4K4 b 2R2B4G4S4N3L17P",
+            "4k4/9/4P4/9/9/9/9/9/4K4 b 4L",
+            false,
+        ),
+        (
+            Side::Black,
+            "4k4/9/4P4/9/9/9/9/9/4K4 b 2R2B4G4S4N4L17P",
+            "4k4/9/4P4/9/9/9/9/9/4K4 b 2R2B4G4S4N4L17P",
+            true,
+        ),
+    ];
+    for (attacker, over, under, wanted) in cases {
+        let (high, low) = (
+            key(&problem(&rt, over).position),
+            key(&problem(&rt, under).position),
+        );
+        same(
+            &rt,
+            (over, under),
+            key_dominates(attacker, &high, &low),
+            wanted,
+        );
+    }
 }

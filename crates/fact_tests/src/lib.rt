@@ -1,4 +1,5 @@
-//! The public calls on notes, certificates, bounds and lists of positions, tried by examples.
+//! The public calls on notes, certificates, bounds, cook reports and lists of positions, tried by
+//! examples.
 //!
 //! The tests of this layer stand here and not in its libraries, so that no library is proved twice.
 //! Without tests this crate is empty.
@@ -12,6 +13,8 @@ mod chase;
 mod checked;
 #[cfg(test)]
 mod checking;
+#[cfg(test)]
+mod cooks;
 #[cfg(test)]
 mod derivations;
 #[cfg(test)]

@@ -1,6 +1,7 @@
 // Whole runs over a source and a sink in memory.
 mod bounds;
 mod certificates;
+mod cooks;
 mod diagrams;
 mod examples;
 mod failing;

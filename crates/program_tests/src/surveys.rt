@@ -28,7 +28,7 @@ fn tallies_are_counted(rt: HostRuntime) -> Result<(), Fail> {
         (0, 1, 10_000, (1, 0, 0)),
         (0, 40, 10_000, (8, 22, 10)),
         (33_469, 60, 1, (0, 0, 60)),
-        (771_001_813, 50, 100, (6, 0, 44)),
+        (771_001_813, 50, 100, (6, 1, 43)),
     ];
     for (seed, count, expansions, wanted) in rows {
         let tallies = survey(&rt, rt.alloc(), seed, count, expansions)?;

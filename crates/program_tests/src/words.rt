@@ -3,6 +3,7 @@ use crate::lines::words_of;
 use crate::same::same;
 use cmd_check::Check;
 use cmd_collection::Collection;
+use cmd_cook::Cook;
 use cmd_shortest::Shortest;
 use cmd_solve::Solve;
 use cmd_survey::SurveyRange;
@@ -18,7 +19,7 @@ use tsume_words::{Format, ProblemForm, Watch, WordsEnd};
 // Of the commands over many problems the seed, the count and the expansions; or the settings,
 // whether `--rest` stands, `told` where `--certificates` does, `until` the deadline, and `by` the
 // threads.
-static ASKED: [(&str, &str); 74] = [
+static ASKED: [(&str, &str); 76] = [
     ("solve", "solve 1 1000000 1000000000 65536 64 false"),
     ("solve --rest", "solve 1 1000000 1000000000 65536 64 true"),
     (
@@ -97,6 +98,11 @@ static ASKED: [(&str, &str); 74] = [
         "shortest 50 1000000000 false until 5 telling",
     ),
     ("shortest --limit +7 -", "shortest 7 1000000 false"),
+    ("cook", "cook 1 1000000 1000000000 65536 64 false"),
+    (
+        "cook --workers 2 --rest --kif --deadline 7 --progress a.kif",
+        "cook 2 1000000 1000000000 65536 64 true kif until 7 telling of a.kif",
+    ),
     ("check", "check"),
     ("check --workers 3", "check by 3"),
     ("check --problem 4k4/9 --workers 2", "check 4k4/9 by 2"),
@@ -376,7 +382,7 @@ static REFUSED: [(&str, &str); 46] = [
 ];
 
 // A request for help or for the version, and a part of its text.
-static HELPED: [(&str, &str); 37] = [
+static HELPED: [(&str, &str); 39] = [
     ("--version", "tsume 0.1.0\n"),
     ("-V --help", "tsume 0.1.0\n"),
     ("--help", "Usage: tsume <COMMAND>\n"),
@@ -430,6 +436,8 @@ static HELPED: [(&str, &str); 37] = [
         "shortest -h",
         " search comes back to it [default: 1000000]\n",
     ),
+    ("help cook", "Usage: tsume cook [OPTIONS] [FILE]\n"),
+    ("cook -h", "sound, exactly one first check mates"),
     ("help check", "Usage: tsume check [OPTIONS] [FILE]\n"),
     ("help record", "Usage: tsume record [FILE]\n"),
     ("help upgrade", "Usage: tsume upgrade [FILE]\n"),
@@ -488,13 +496,14 @@ static HELPED: [(&str, &str); 37] = [
     ("check --help", "-h, --help            Print help\n"),
 ];
 
-// What help shows for some commands alone: workers solve and check, and parts have the tables of
-// those that solve.
+// What help shows for some commands alone: workers solve, cook and check, and parts have the tables
+// of those that solve.
 static HIDDEN: [&str; 2] = ["--workers", "--shards"];
 
 fn command_text(alloc: Global, command: &Command) -> Result<String, AllocError> {
     match command {
-        Command::Solve(asked) => solve_text(alloc, asked),
+        Command::Solve(asked) => search_text(alloc, "solve", asked),
+        Command::Cook(Cook { solve }) => search_text(alloc, "cook", solve),
         Command::Shortest(asked) => shortest_text(alloc, asked),
         Command::Check(asked) => check_text(alloc, asked),
         Command::Survey(asked) => survey_text(alloc, asked),
@@ -505,17 +514,18 @@ fn command_text(alloc: Global, command: &Command) -> Result<String, AllocError> 
     }
 }
 
-fn solve_text(alloc: Global, asked: &Solve) -> Result<String, AllocError> {
+fn search_text(alloc: Global, name: &str, asked: &Solve) -> Result<String, AllocError> {
     let Settings {
         workers,
         expansions,
         room,
         rows,
         shards,
+        lends: _,
     } = asked.settings;
     let form = form_text(alloc, asked.form)?;
-    let solve = format!(in alloc; "solve {workers} {expansions} {room} {rows} {shards} {form}")?;
-    watched_text(alloc, solve, asked.watch)
+    let search = format!(in alloc; "{name} {workers} {expansions} {room} {rows} {shards} {form}")?;
+    watched_text(alloc, search, asked.watch)
 }
 
 fn shortest_text(alloc: Global, asked: &Shortest) -> Result<String, AllocError> {
@@ -571,6 +581,7 @@ fn collection_text(alloc: Global, asked: &Collection) -> Result<String, AllocErr
         room,
         rows,
         shards,
+        lends: _,
     } = asked.settings;
     let rest = asked.form.rest;
     let told = if asked.form.certificates { " told" } else { "" };
@@ -640,7 +651,7 @@ fn help_teaches_each_option_in_narrow_lines(rt: HostRuntime) -> Result<(), Fail>
             } else {
                 "collection"
             };
-            let shown = line.contains("solve") || line.contains(also);
+            let shown = line.contains("solve") || line.contains("cook") || line.contains(also);
             same(&rt, (line, option), text.contains(option), shown);
         }
     }

@@ -6,6 +6,7 @@ use Rattle.search_limits.specs.Sizes.{SettingsView}
 use Rattle.tsume_words.specs.Meaning.{CommandMeaning}
 use Rattle.cmd_solve.specs as solve
 use Rattle.cmd_shortest.specs as shortest
+use Rattle.cmd_cook.specs as cook
 use Rattle.cmd_check.specs as check
 use Rattle.cmd_survey.specs as survey
 use Rattle.cmd_collection.specs as collection
@@ -19,6 +20,7 @@ use Rattle.program_words.specs.declared.command.Command.TheVariants as asks
 pub data CommandView : Type 0 where
   to_solve : solve.Meaning.SolveView → CommandView
   to_shortest : shortest.Asked.ShortestView → CommandView
+  to_cook : solve.Meaning.SolveView → CommandView
   to_check : check.Words.CheckView → CommandView
   to_survey : survey.Words.SurveyView → CommandView
   to_collect : collection.Words.CollectView → CommandView
@@ -30,6 +32,7 @@ pub data CommandView : Type 0 where
 abbrev pub command_view : Command → CommandView
 command_view (asks.Solve asked) = to_solve (solve.Asked.solve_in asked)
 command_view (asks.Shortest asked) = to_shortest (shortest.Asked.shortest_in asked)
+command_view (asks.Cook asked) = to_cook (cook.Asked.cook_in asked)
 command_view (asks.Check asked) = to_check (check.Words.check_view asked)
 command_view (asks.Survey asked) = to_survey (survey.Words.survey_in asked)
 command_view (asks.Collection asked) = to_collect (collection.Asked.collect_in asked)
@@ -40,6 +43,7 @@ command_view (asks.Upgrade asked) = to_upgrade
 -- The numbers of the search that is asked for, where the words give them: they are tested.
 abbrev pub numbers_of : CommandView → Option SettingsView
 numbers_of (to_solve asked) = Some asked.settings
+numbers_of (to_cook asked) = Some asked.settings
 numbers_of (to_collect asked) = Some asked.settings
 numbers_of other = None
 
@@ -80,6 +84,7 @@ commands =
     let more = command (codes "collection") collection.Words.collection_words to_collect more in
     let more = command (codes "survey") survey.Words.survey_words to_survey more in
     let more = command (codes "check") check.Words.check_words to_check more in
+    let more = command (codes "cook") cook.Words.cook_words to_cook more in
     let more = command (codes "shortest") shortest.Words.shortest_words to_shortest more in
     let more = command (codes "solve") solve.Words.solve_words to_solve more in
     more

@@ -5,6 +5,8 @@
 pub enum Command {
     /// Solve the problem that is read.
     Solve(cmd_solve::Solve),
+    /// Tell of each first check of the problem that is read whether it mates.
+    Cook(cmd_cook::Cook),
     /// Look for the shortest mate of the problem that is read.
     Shortest(cmd_shortest::Shortest),
     /// Check the certificate that is read.

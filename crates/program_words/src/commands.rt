@@ -19,6 +19,7 @@ macro_rules! with_each_command {
         $then!($($given),*;
             "solve" Solve cmd_solve::Solve,
             "shortest" Shortest cmd_shortest::Shortest,
+            "cook" Cook cmd_cook::Cook,
             "check" Check cmd_check::Check,
             "survey" Survey cmd_survey::SurveyRange,
             "collection" Collection cmd_collection::Collection,

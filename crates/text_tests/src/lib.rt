@@ -1,6 +1,5 @@
 //! The public calls on texts (moves, positions, solutions, certificates, bounds, shortest mates,
-//! collections)
-//! and on problems by number, by examples.
+//! collections, lines of sessions) and on problems by number, by examples.
 //!
 //! The tests of this layer stand here and not in its libraries, so that no library is proved twice.
 //! Without tests this crate is empty.
@@ -24,6 +23,8 @@ mod moves;
 mod records;
 #[cfg(test)]
 mod same;
+#[cfg(test)]
+mod sessions;
 #[cfg(test)]
 mod sfen;
 #[cfg(test)]

@@ -3,7 +3,7 @@ use Rattle.std.specs.Prelude.{◌≡◌, ◌⊎◌, true, false, List, Option, S
 use Rattle.std.specs.Global.{Global}
 use Rattle.clap.specs.Words.{Text as Word}
 use Rattle.program_words.specs.Commands.{CommandView}
-use Rattle.program_words.specs.Commands.CommandView.{to_solve, to_shortest, to_check, to_survey, to_collect, to_judge, to_record, to_upgrade}
+use Rattle.program_words.specs.Commands.CommandView.{to_solve, to_shortest, to_cook, to_check, to_survey, to_collect, to_judge, to_record, to_upgrade}
 use Rattle.program_words.specs.Meaning.{IsRefusalOf, MayAskForHelp}
 use Rattle.app_texts.specs.declared.fault.ProblemFault.{ProblemFault}
 use Rattle.one_run.specs.declared.written.Written.TheVariants.{Whole, NoMemory as HelpNoMemory}
@@ -12,6 +12,7 @@ use Rattle.one_run.specs.Stops.{Signals, AreUnused}
 use Rattle.one_run.specs.Written.{Statement, IsStatedRun}
 use Rattle.cmd_solve.specs.Headline.{IsSolveRun}
 use Rattle.cmd_shortest.specs.Headline.{IsShortestRun}
+use Rattle.cmd_cook.specs.Headline.{IsCookRun}
 use Rattle.cmd_check.specs.Asked.{IsFaultInWords, AnyProblemIsSound}
 use Rattle.cmd_check.specs.Headline.{IsCheckRun}
 use Rattle.cmd_bound.specs.Headline.{IsBoundRun}
@@ -71,6 +72,8 @@ IsKept (ends.Solve ended) (Some (to_solve asked)) words stops source sink =
     IsSolveRun asked stops source sink ended
 IsKept (ends.Shortest ended) (Some (to_shortest asked)) words stops source sink =
     IsShortestRun asked (first_of stops) source sink ended × AreUnused (others_of stops)
+IsKept (ends.Cook ended) (Some (to_cook asked)) words stops source sink =
+    IsCookRun asked stops source sink ended
 IsKept (ends.Check ended) (Some (to_check asked)) words stops source sink =
     (asked.bound ≡ false) × IsCheckRun asked.problem source sink ended × AreUnused stops
 IsKept (ends.Bound ended) (Some (to_check asked)) words stops source sink =

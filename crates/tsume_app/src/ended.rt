@@ -64,6 +64,8 @@ pub enum Ended {
     Solve(one_run::Ended<app_texts::Solution, ProblemFault>),
     /// As `shortest`.
     Shortest(one_run::Ended<cmd_shortest::ShortestAnswer, ProblemFault>),
+    /// As `cook`.
+    Cook(one_run::Ended<cmd_cook::CookAnswer, ProblemFault>),
     /// As `check`.
     Check(one_run::Ended<app_texts::Judgement, cert_text::CertFault>),
     /// As `check` where it is asked for a bound.
@@ -90,6 +92,7 @@ macro_rules! with_ending {
         match $ended {
             Ended::Solve($ending) => $then,
             Ended::Shortest($ending) => $then,
+            Ended::Cook($ending) => $then,
             Ended::Check($ending) => $then,
             Ended::Bound($ending) => $then,
             Ended::Survey($ending) => $then,
@@ -144,10 +147,10 @@ impl Refusal {
 
 impl Ended {
     /// The exit status: 0 for a verdict, an accepted certificate or bound, a survey, a solution, a
-    /// record or help, 1 where a search gave up, 7 where a certificate or a bound is refused; of a
-    /// collection 3 where a line is no problem, else 1 where a search gave up, else 0; 2 where the
-    /// words are refused, 3 where the input is, 4 where the source failed, 5 where the sink failed,
-    /// 6 for want of memory.
+    /// record, a report or help, 1 where a search gave up, 7 where a certificate or a bound is
+    /// refused; of a collection 3 where a line is no problem, else 1 where a search gave up, else
+    /// 0; 2 where the words are refused, 3 where the input is, 4 where the source failed, 5 where
+    /// the sink failed, 6 for want of memory.
     pub fn status(&self) -> u8
         ensures { result ≡ status_of self.now }
     {

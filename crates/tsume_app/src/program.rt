@@ -23,6 +23,7 @@ use app_texts::ProblemFault;
 use cmd_bound::check_with_bound;
 use cmd_check::{Check, asked_problem, check};
 use cmd_collection::{Onlooker, collection};
+use cmd_cook::{CheckOnlooker, cook};
 use cmd_record::record;
 use cmd_shortest::{LengthOnlooker, Shortest, ShortestAnswer, shortest};
 use cmd_solution::solution;
@@ -112,7 +113,7 @@ fn command_ended<
     R: Threads + Wait + AllocGlobal + Sync,
     S: Source,
     K: Sink,
-    G: Gate + Onlooker + LengthOnlooker,
+    G: Gate + Onlooker + LengthOnlooker + CheckOnlooker,
     T: Stop + Drop,
 >(rt: &R, command: &Command, source: &mut S, sink: &mut K, gate: &G, stops: &mut Vec<T>) -> Ended
     requires { length stops.old.items ≡ MOST_WORKERS }
@@ -130,6 +131,7 @@ fn command_ended<
             let stop = &mut stops[0];
             Ended::Shortest(shortest_ended(alloc, asked, source, sink, gate, stop))
         }
+        Command::Cook(asked) => Ended::Cook(cook(rt, asked, source, sink, gate, stops)),
         Command::Check(asked) => check_ended(rt, alloc, asked, source, sink),
         Command::Survey(range) => Ended::Survey(survey(rt, alloc, range, sink)),
         Command::Solution(asked) => Ended::Solution(solution(alloc, asked, source, sink)),
@@ -145,7 +147,7 @@ fn words_ended<
     R: Threads + Wait + AllocGlobal + Sync,
     S: Source,
     K: Sink,
-    G: Gate + Onlooker + LengthOnlooker,
+    G: Gate + Onlooker + LengthOnlooker + CheckOnlooker,
     T: Stop + Drop,
 >(rt: &R, words: WordsRead, source: &mut S, sink: &mut K, gate: &G, stops: &mut Vec<T>) -> Ended
     requires { length stops.old.items ≡ MOST_WORKERS }
@@ -219,6 +221,13 @@ fn limit_told(command: &Command) -> Option<u64>
                 None
             }
         }
+        Command::Cook(asked) => {
+            if asked.solve.watch.progress {
+                Some(asked.solve.settings.expansions)
+            } else {
+                None
+            }
+        }
         Command::Shortest(asked) => {
             if asked.watch.progress {
                 Some(asked.expansions.count)
@@ -269,13 +278,14 @@ pub(crate) fn tells_accepted(words: &WordsRead) -> bool {
 /// used up first, a stop was signalled, or the certificate might have more entries than are read,
 /// that it is unknown, and why. `shortest` reads a problem likewise, and writes how many moves its
 /// shortest mate takes, with the certificate and a bound, which `check --bound` reads, or that
-/// there is none up to a limit, or that it is unknown. `check` reads a certificate, perhaps behind
-/// the line of the USI answer, and writes whether it is valid for its own problem, or for the one
-/// that `--problem` gives (SFEN), or the first reason why it isn't; a certificate of another
-/// problem isn't valid for it. With `--bound` it reads a mate's certificate with a bound behind it,
-/// or a bound alone, and writes that no mate is shorter, that there is none within so many moves,
-/// or what speaks against it. Positions are compared, and not texts. A `--problem` that is none
-/// refuses the words, before anything is read.
+/// there is none up to a limit, or that it is unknown. `cook` reads a problem likewise, and writes
+/// of each first check whether it mates, with what shows it, and one word for all. `check` reads a
+/// certificate, perhaps behind the line of the USI answer, and writes whether it is valid for its
+/// own problem, or for the one that `--problem` gives (SFEN), or the first reason why it isn't; a
+/// certificate of another problem isn't valid for it. With `--bound` it reads a mate's certificate
+/// with a bound behind it, or a bound alone, and writes that no mate is shorter, that there is none
+/// within so many moves, or what speaks against it. Positions are compared, and not texts. A
+/// `--problem` that is none refuses the words, before anything is read.
 ///
 /// `survey` reads nothing: it decides the problems that the generator makes of a range of numbers,
 /// over threads, and writes how many are mates, have none, or were given up. `collection` reads a
@@ -289,26 +299,26 @@ pub(crate) fn tells_accepted(words: &WordsRead) -> bool {
 /// [`MOST_CERTIFICATE_BYTES`](crate::MOST_CERTIFICATE_BYTES) of a certificate; a text that is no
 /// problem or no certificate, with its first fault; a source or a sink whose count of faults rose;
 /// want of memory. The whole text is made before the first write, but for a collection, whose
-/// reports are written one by one. `solve` and `shortest` pass the gate for visits of positions, as
-/// the worker that visits it (no clause says it), and no other command does. Where the words ask
-/// for it, `collection` tells the gate which lines are decided, and its deadlines go by the gate's
-/// clock, with stops of its own. The stops, one for each worker that there may be, are armed once,
-/// with the deadline that the words give or with none, when `solve` has accepted its problem, and
-/// before that they aren't used; then each worker polls the one at its place. `shortest` uses the
-/// first alone in the same way. Only `solve` with several workers waits, for them: who asks for
-/// another command may call it in its own crate, without the handle for waiting. (The tsume rule;
-/// USI protocol: `checkmate`.)
+/// reports are written one by one. `solve`, `shortest` and `cook` pass the gate for visits of
+/// positions, as the worker that visits it (no clause says it), and no other command does. Where
+/// the words ask for it, `collection` tells the gate which lines are decided, and its deadlines go
+/// by the gate's clock, with stops of its own. The stops, one for each worker that there may be,
+/// are armed once, with the deadline that the words give or with none, when `solve` or `cook` has
+/// accepted its problem, and before that they aren't used; then each worker polls the one at its
+/// place. `shortest` uses the first alone in the same way. Only `solve` and `cook` with several
+/// workers wait, for them: who asks for another command may call it in its own crate, without the
+/// handle for waiting. (The tsume rule; USI protocol: `checkmate`.)
 pub fn run<
     R: Threads + Wait + AllocGlobal + Sync,
     S: Source,
     K: Sink,
-    G: Gate + Onlooker + LengthOnlooker,
+    G: Gate + Onlooker + LengthOnlooker + CheckOnlooker,
     T: Stop + Drop,
 >(rt: &R, words: WordsRead, source: &mut S, sink: &mut K, gate: &G, stops: &mut Vec<T>) -> Ended
     requires { length stops.old.items ≡ MOST_WORKERS }
     // Whatever command ended the run is the one that the words asked for, and it kept all that it
-    // promises, clause by clause: see `solve`, `shortest`, `check`, `survey` and `collection` of
-    // their crates.
+    // promises, clause by clause: see `solve`, `shortest`, `cook`, `check`, `survey` and
+    // `collection` of their crates.
     // Where none was begun, the words asked for none, and help was written, where they may ask for
     // it, or they are refused with the cause; or they gave a problem that is none; or memory was
     // wanted. Nothing was read then, and no stop used.

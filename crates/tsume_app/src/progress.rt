@@ -4,6 +4,7 @@ ghost use Rattle.std.specs.Prelude.{◌≡◌};
 use crate::pipe::Pipe;
 use app_texts::Solution;
 use cmd_collection::{Onlooker, Report};
+use cmd_cook::CheckOnlooker;
 use cmd_shortest::LengthOnlooker;
 use search_gate::Gate;
 use std::sync::atomic::{AtomicBool, AtomicU64, Ordering};
@@ -51,9 +52,9 @@ impl fmt::Display for Grouped {
 
 /// A gate that tells the user for how long a search has run, how many visits all its workers made,
 /// and how many a second, a few times a second and each time over the line before; where it isn't
-/// asked to, it is an open gate. Of a shortest mate it tells which length is asked about. Of a
-/// collection, on which it looks, it tells how many lines are decided, about once a second. It
-/// remembers too where the reader of a pipe went away.
+/// asked to, it is an open gate. Of a shortest mate it tells which length is asked about, of a cook
+/// report which check is searched. Of a collection, on which it looks, it tells how many lines are
+/// decided, about once a second. It remembers too where the reader of a pipe went away.
 #[derive(Drop)]
 pub(crate) struct Progress<'a, R> {
     system: &'a R,
@@ -67,6 +68,14 @@ pub(crate) struct Progress<'a, R> {
     is_shown: AtomicBool,
     is_closed: AtomicBool,
     lines: Lines,
+    checks: Checks,
+}
+
+// Which check of a report is searched, of how many; 0 of 0 before the first, and of no report.
+#[derive(Drop)]
+struct Checks {
+    number: AtomicU64,
+    all: AtomicU64,
 }
 
 // How many lines a collection has that hold a problem, and how many of them are decided, and how.
@@ -123,6 +132,10 @@ impl<'a, R: io::Eprint + Clock> Progress<'a, R> {
             is_shown: AtomicBool::new(false),
             is_closed: AtomicBool::new(false),
             lines: Lines::new(),
+            checks: Checks {
+                number: AtomicU64::new(0),
+                all: AtomicU64::new(0),
+            },
         }
     }
 
@@ -174,6 +187,19 @@ impl<'a, R: io::Eprint + Clock> Progress<'a, R> {
             passed / 1_000,
             Grouped(used),
             Grouped(pace(used, passed))
+        )
+        .ok();
+    }
+
+    // Tells, over the line before, how far the searches of a report have come. Of as many visits as
+    // there can be, in a day, the line takes 46 columns.
+    fn tell_check(&self, used: u64, passed: u64, all: u64) {
+        self.is_shown.store(true, Ordering::SeqCst);
+        eprint!(self.system;
+            "\r                                              \r{} s, {} visits, check {}/{all}",
+            passed / 1_000,
+            Grouped(used),
+            self.checks.number.load(Ordering::SeqCst)
         )
         .ok();
     }
@@ -260,7 +286,7 @@ impl<'a, R: io::Eprint + Clock> Progress<'a, R> {
             return;
         };
         let used = self.used.load(Ordering::SeqCst);
-        if used >= limit {
+        if used >= limit && self.checks.all.load(Ordering::SeqCst) == 0 {
             self.tell_end(used, ": all; give it more --expansions");
         } else {
             self.tell_end(used, ": the answer says which limit to raise");
@@ -289,8 +315,18 @@ impl<'a, R: io::Eprint + Clock + Sync> Gate for Progress<'a, R> {
             self.passed.store(passed, Ordering::SeqCst);
         }
         if self.is_due(now, PAUSE) {
-            self.tell(used, passed);
+            match self.checks.all.load(Ordering::SeqCst) {
+                0 => self.tell(used, passed),
+                all => self.tell_check(used, passed, all),
+            }
         }
+    }
+}
+
+impl<'a, R: io::Eprint + Clock + Sync> CheckOnlooker for Progress<'a, R> {
+    fn begins(&self, number: usize, all: usize) {
+        self.checks.number.store(number as u64, Ordering::SeqCst);
+        self.checks.all.store(all as u64, Ordering::SeqCst);
     }
 }
 

@@ -12,6 +12,7 @@ use crate::pipe::Pipe;
 use crate::program::{named_file, run, tells_accepted, told_limit};
 use crate::progress::{Clearing, Progress};
 use cmd_collection::Onlooker;
+use cmd_cook::CheckOnlooker;
 use cmd_shortest::LengthOnlooker;
 use explanations::{Trouble, explain};
 use program_words::WordsRead;
@@ -89,7 +90,7 @@ pub fn run_and_tell<
     K: Sink,
     E: Sink,
     P: Pipe,
-    G: Gate + Onlooker + LengthOnlooker,
+    G: Gate + Onlooker + LengthOnlooker + CheckOnlooker,
     T: Stop + Drop,
 >(
     rt: &R,
@@ -324,10 +325,11 @@ fn run_on_file<
 /// search has come is written a few times a second, each over the one before, and cleared when the
 /// answer is written or the user is told of a fault; behind the answer a line tells how many visits
 /// it took, and where the search gave up, how to let it go on. Of `shortest` the line tells which
-/// length is asked about, once its first search has ended. Of a collection a line tells so, about
-/// once a second, how many problems are decided; and behind the answer of `check` one tells the
-/// problem that was accepted. Where the text of a collection with a fault begins as a record does,
-/// the user is told so once. What comes back ends the process with the exit status.
+/// length is asked about, once its first search has ended, of `cook` which check is searched. Of a
+/// collection a line tells so, about once a second, how many problems are decided; and behind the
+/// answer of `check` one tells the problem that was accepted. Where the text of a collection with a
+/// fault begins as a record does, the user is told so once. What comes back ends the process with
+/// the exit status.
 pub fn start<
     R: Env + io::Input + Print + Eprint + Files + Clock + AllocGlobal + Threads + Wait + Sync,
     W: io::Write + Drop,

@@ -3,6 +3,7 @@ use super::examples::{MANY, MANY_TEXT};
 use super::seen::{seen_by, stops_at};
 use crate::same::same;
 use cmd_collection::{Onlooker, Report};
+use cmd_cook::CheckOnlooker;
 use cmd_shortest::LengthOnlooker;
 use search_gate::Gate;
 use std::sync::atomic::{AtomicU64, Ordering};
@@ -38,6 +39,8 @@ impl Looker {
 impl Gate for Looker {
     fn pass(&self, _worker: u32, _expansion: u64) {}
 }
+
+impl CheckOnlooker for Looker {}
 
 impl LengthOnlooker for Looker {}
 

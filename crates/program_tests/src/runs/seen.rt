@@ -4,6 +4,7 @@ ghost use Rattle.search_limits.specs.declared.settings.TheConstants.{MOST_WORKER
 
 use crate::lines::words_of;
 use cmd_collection::Onlooker;
+use cmd_cook::CheckOnlooker;
 use cmd_shortest::LengthOnlooker;
 use one_run::Written;
 use search_gate::{Gate, MemStop, OpenGate, Stop};
@@ -46,6 +47,7 @@ fn answer_and_input(ended: &Ended) -> (bool, usize) {
     match ended {
         Ended::Solve(ended) => own(ended),
         Ended::Shortest(ended) => own(ended),
+        Ended::Cook(ended) => own(ended),
         Ended::Check(ended) => own(ended),
         Ended::Bound(ended) => own(ended),
         Ended::Survey(ended) => own_written(ended),
@@ -113,7 +115,7 @@ pub(crate) fn seen_of<R: Threads + Wait + AllocGlobal + Sync>(
 // The same, with this gate and these stops.
 pub(crate) fn seen_by<
     R: Threads + Wait + AllocGlobal + Sync,
-    G: Gate + Onlooker + LengthOnlooker,
+    G: Gate + Onlooker + LengthOnlooker + CheckOnlooker,
     T: Stop + Drop,
 >(
     rt: &R,

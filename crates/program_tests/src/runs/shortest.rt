@@ -3,6 +3,7 @@ use super::examples::{GOLD, TWO_ROOKS};
 use super::seen::{seen_by, seen_of, stops_at};
 use crate::same::same;
 use cmd_collection::{Onlooker, Report};
+use cmd_cook::CheckOnlooker;
 use cmd_shortest::LengthOnlooker;
 use search_gate::{Gate, OpenGate};
 use std::sync::atomic::{AtomicU64, Ordering};
@@ -138,6 +139,8 @@ struct Hearing {
 impl Gate for Hearing {
     fn pass(&self, _worker: u32, _expansion: u64) {}
 }
+
+impl CheckOnlooker for Hearing {}
 
 impl LengthOnlooker for Hearing {
     fn asks(&self, moves: u32, _made: u64) {

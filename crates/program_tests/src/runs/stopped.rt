@@ -2,10 +2,11 @@
 ghost use Rattle.std.specs.Prelude.{◌≡◌, IfOk, vec_len};
 ghost use Rattle.search_limits.specs.declared.settings.TheConstants.{MOST_WORKERS};
 
-use super::examples::{NO_CHECK_TEXT, TWO_ROOKS, TWO_ROOKS_TEXT};
+use super::examples::{GOLD, NO_CHECK_TEXT, TWO_ROOKS, TWO_ROOKS_TEXT};
 use super::seen::{seen_by, stops_at};
 use crate::same::same;
 use cmd_collection::{Onlooker, Report};
+use cmd_cook::CheckOnlooker;
 use cmd_shortest::LengthOnlooker;
 use search_gate::{Clock, DeadlineStop, Gate, OpenGate};
 use search_limits::MOST_WORKERS;
@@ -29,6 +30,8 @@ impl Gate for Counting {
         }
     }
 }
+
+impl CheckOnlooker for Counting {}
 
 impl LengthOnlooker for Counting {}
 
@@ -135,6 +138,31 @@ fn a_deadline_counts_from_when_the_search_begins(rt: HostRuntime) -> Result<(), 
     Ok(())
 }
 
+// Of a check without an answer it is known that it mates; behind the others no search begins.
+const LATE: &str =
+    "cook open 7\ncheck 5c5b unknown stopped\ncheck 5c5b+ unknown stopped\ncheck G*4a unknown stopped\ncheck G*4b unknown stopped\ncheck G*5b mate 1 0\ncheck G*6a unknown stopped\ncheck G*6b unknown stopped\nend\n";
+
+#[test]
+fn a_deadline_is_of_all_searches_of_first_checks(rt: HostRuntime) -> Result<(), Fail> {
+    let mut stops = deadlines(rt.alloc())?;
+    let seen = seen_by(
+        &rt,
+        "cook --deadline 1",
+        GOLD,
+        (7, 0),
+        (11, 0),
+        &OpenGate,
+        &mut stops,
+    )?;
+    same(
+        &rt,
+        "cook --deadline 1",
+        (seen.status, seen.kept.as_str()),
+        (1, LATE),
+    );
+    Ok(())
+}
+
 // Somebody whose clock shows a millisecond more each time it is read.
 #[derive(Drop)]
 struct Ticking {
@@ -144,6 +172,8 @@ struct Ticking {
 impl Gate for Ticking {
     fn pass(&self, _worker: u32, _expansion: u64) {}
 }
+
+impl CheckOnlooker for Ticking {}
 
 impl LengthOnlooker for Ticking {}
 

@@ -1,44 +1,15 @@
-use Rattle.std.proofs.Common.{◌∙◌, ap, ap₂}
+use Rattle.std.proofs.Common.{◌∙◌, ap}
 use Rattle.std.proofs.lemmas.Result.{IfOk-weaker}
-use Rattle.clap.specs.Words.{with_rule}
-use Rattle.tsume_words.proofs.Offered.{same_app, same_app_after, stays_local}
-use Rattle.cmd_solve.specs.Line.{solve_line}
+use Rattle.tsume_words.proofs.Offered.{same_app, same_app_after}
+use Rattle.cmd_solve.specs.Line.{search_line, with_search}
 use Rattle.cmd_solve.proofs.words.SolveCommandWords.line.Goals as goal
 
 pub returns : goal.returns
-unfolding solve_line
+unfolding search_line
 returns c =
-    let bare = same_app_after _ _ _ c.after_help.ensures ∙ (same_app _ _ _ c.about.ensures ∙ c.new.ensures.app) in
-    let w = c.workers_option.ensures in
-    let e = c.expansions_option.ensures in
-    let n = c.room_option.ensures in
-    let r = c.rows_option.ensures in
-    let s = c.shards_option.ensures in
-    let one = c.in_ok-arg.ensures.shape w.local ∙ ap₂ with_rule bare w.rule in
-    let two = c.in_ok-arg-2.ensures.shape e.local ∙ ap₂ with_rule one e.rule in
-    let three = c.in_ok-arg-3.ensures.shape n.local ∙ ap₂ with_rule two n.rule in
-    let four = c.in_ok-arg-4.ensures.shape r.local ∙ ap₂ with_rule three r.rule in
-    let five = c.in_ok-arg-5.ensures.shape s.local ∙ ap₂ with_rule four s.rule in
-    let no_0 = ap (λ f. f.has_globals) c.after_help.ensures ∙ (ap (λ f. f.has_globals) c.about.ensures ∙ c.new.ensures.local) in
-    let no_1 = stays_local _ _ _ c.in_ok-arg.ensures.globals no_0 w.local in
-    let no_2 = stays_local _ _ _ c.in_ok-arg-2.ensures.globals no_1 e.local in
-    let no_3 = stays_local _ _ _ c.in_ok-arg-3.ensures.globals no_2 n.local in
-    let no_4 = stays_local _ _ _ c.in_ok-arg-4.ensures.globals no_3 r.local in
-    let no_5 = stays_local _ _ _ c.in_ok-arg-5.ensures.globals no_4 s.local in
-    let d = c.deadline_option.ensures in
-    let k = c.kif_flag.ensures in
-    let f = c.rest_flag.ensures in
-    let p = c.progress_flag.ensures in
-    let w_file = c.file_word.ensures in
-    let six = c.in_ok-arg-6.ensures.shape d.local ∙ ap₂ with_rule five d.rule in
-    let no_6 = stays_local _ _ _ c.in_ok-arg-6.ensures.globals no_5 d.local in
-    let seven = c.in_ok-arg-7.ensures.shape k.local ∙ ap₂ with_rule six k.rule in
-    let no_7 = stays_local _ _ _ c.in_ok-arg-7.ensures.globals no_6 k.local in
-    let eight = c.in_ok-arg-8.ensures.shape f.local ∙ ap₂ with_rule seven f.rule in
-    let no_8 = stays_local _ _ _ c.in_ok-arg-8.ensures.globals no_7 f.local in
-    let nine = c.in_ok-arg-9.ensures.shape p.local ∙ ap₂ with_rule eight p.rule in
-    let no_9 = stays_local _ _ _ c.in_ok-arg-9.ensures.globals no_8 p.local in
+    let bare = same_app_after _ _ _ c.after_help-line.ensures ∙ (same_app _ _ _ c.about.ensures ∙ c.new.ensures.app) in
+    let none = ap (λ f. f.has_globals) c.after_help-line.ensures ∙ (ap (λ f. f.has_globals) c.about.ensures ∙ c.new.ensures.local) in
     record {
-      app = IfOk-weaker c.arg-10.result _ _ (λ r adds. adds.shape w_file.local ∙ ap₂ with_rule nine w_file.rule) c.arg-10.ensures;
-      local = IfOk-weaker c.arg-10.result _ _ (λ r adds. stays_local _ _ _ adds.globals no_9 w_file.local) c.arg-10.ensures;
+      app = IfOk-weaker c.search_options.result _ _ (λ r same. same ∙ ap with_search bare) c.search_options.ensures.app;
+      local = c.search_options.ensures.local none;
     }

@@ -1,0 +1,4 @@
+pub mod Written
+pub mod Promises
+pub mod Taken
+pub mod Offered

@@ -1,0 +1,5 @@
+pub mod Stepping
+pub mod Joining
+pub mod Ordered
+pub mod Showing
+pub mod Heard

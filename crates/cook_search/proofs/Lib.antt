@@ -1,0 +1,5 @@
+pub mod Polled
+pub mod Searches
+pub mod Walking
+pub mod Mated
+pub mod Checks

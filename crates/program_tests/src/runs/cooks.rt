@@ -1,0 +1,69 @@
+// Runs of `cook`, whose answers are another program's.
+use super::examples::GOLD;
+use super::seen::seen_of;
+use crate::same::same;
+use std::test::Fail;
+
+const GOLD_COOK: &str =
+    "cook sound 7\ncheck 5c5b escape 5a4a 1 11\n3G5/5k3/9/9/9/9/9/9/9 b p\n4G4/4P1k2/9/9/9/9/9/9/9 b -\n4k4/9/9/9/9/9/9/9/9 b Gp\n5k3/4P4/9/9/9/9/9/9/9 b G\n5k3/9/9/9/9/9/9/9/9 b gp\n6k2/4P4/9/9/9/9/9/9/9 b g\n9/3k5/9/9/9/9/9/9/9 b gp\n9/4P1k2/9/9/9/9/9/9/9 b g\n9/4Pk3/9/9/9/9/9/9/9 b g\n9/4k4/9/9/9/9/9/9/9 b gp\n9/5k3/9/9/9/9/9/9/9 b gp\ncheck 5c5b+ escape 5a5b 1 7\n4G4/9/5k3/9/9/9/9/9/9 b p\n9/3G5/5k3/9/9/9/9/9/9 b p\n9/4k4/9/9/9/9/9/9/9 b Gp\n9/5k3/9/9/9/9/9/9/9 b gp\n9/9/3k5/9/9/9/9/9/9 b gp\n9/9/4k4/9/9/9/9/9/9 b gp\n9/9/5k3/9/9/9/9/9/9 b gp\ncheck G*4a escape 5a4a 1 2\n5k3/9/4P4/9/9/9/9/9/9 b g\n9/4k4/9/9/9/9/9/9/9 b gp\ncheck G*4b escape 5a4b 1 2\n9/4+P4/6k2/9/9/9/9/9/9 b g\n9/5k3/4P4/9/9/9/9/9/9 b g\ncheck G*5b mate 1 0\ncheck G*6a escape 5a4a 1 4\n3G1k3/9/4P4/9/9/9/9/9/9 b -\n3G5/4+P1k2/9/9/9/9/9/9/9 b -\n3G5/5+P3/7k1/9/9/9/9/9/9 b -\n4G4/6k2/4P4/9/9/9/9/9/9 b -\ncheck G*6b escape 5a4a 1 6\n4G4/6k2/4P4/9/9/9/9/9/9 b -\n5k3/3G5/4P4/9/9/9/9/9/9 b -\n9/3G+P1k2/9/9/9/9/9/9/9 b -\n9/3G1+P3/7k1/9/9/9/9/9/9 b -\n9/4G1k2/4P4/9/9/9/9/9/9 b -\n9/5G3/4P2k1/9/9/9/9/9/9 b -\nend\n";
+
+const SPENT: &str =
+    "cook open 12\ncheck 8d7d unknown expansions 18\ncheck 8d8e unknown expansions 18\ncheck S*6d unknown expansions 18\ncheck S*6f unknown expansions 18\ncheck S*7f unknown expansions 18\ncheck S*8f unknown expansions 18\ncheck G*6e unknown expansions 18\ncheck G*6f unknown expansions 18\ncheck G*7d unknown expansions 18\ncheck G*7f unknown expansions 18\ncheck G*8e unknown expansions 18\ncheck G*8f unknown expansions 18\nend\n";
+
+const FULL: &str =
+    "cook open 7\ncheck 7e6e unknown room 5\ncheck 7e7f unknown room 5\ncheck 8h7g unknown room 5\ncheck G*5f unknown room 5\ncheck G*6e unknown room 5\ncheck G*7f unknown room 5\ncheck G*7g unknown room 5\nend\n";
+
+const COOKED: &str =
+    "cook cooked 14\ncheck 6c6e unknown room 29\ncheck 6c7c unknown room 29\ncheck 8g7g mate 1 15\n2 7g7e 9/1k7/1r7/9/K8/P8/2r6/G7B/9 w 2g\n1 G*8d 9/1k7/1r7/K8/2r6/P8/9/G7B/9 w 2g\n1 G*8d 9/1k7/1r7/K8/9/P8/2r6/G7B/9 w 2g\n3 6c6d 9/1k7/3r5/1K7/9/P8/2r6/G7B/9 w 2g\n3 6c6e 9/1k7/3r5/9/1K7/P1g6/2r6/G7B/9 w g\n3 6c8c 9/1k7/3r5/9/1K7/P8/2r6/G7B/9 w 2g\n4 G*7f 9/1k7/3r5/9/9/PK7/2r6/G7B/9 w 2g\n2 6c6e 9/1k7/3r5/9/K8/P1g6/2r6/G7B/9 w g\n1 G*8c 9/1k7/9/1K7/3r5/P1g6/2r6/G7B/9 w g\n1 G*8c 9/1k7/9/1K7/3r5/P2g5/2r6/G7B/9 w g\n2 7f6f 9/1k7/9/2K6/3r5/P1g6/2r6/G7B/9 w g\n2 G*7e 9/1k7/9/3r5/1K7/P8/2r6/G7B/9 w 2g\n1 G*8d 9/1k7/9/3r5/K1g6/P8/2r6/G7B/9 w g\n1 7g7e+ 9/1k7/9/3r5/K8/P8/2r6/G7B/9 w 2g\n1 G*8c 9/1k7/9/K8/3r5/P1g6/2r6/G7B/9 w g\ncheck 8g7g+ mate 1 6\n2 6c6d 9/1k7/3r5/1K7/9/P8/2+r6/G7B/9 w 2g\n2 6c6e 9/1k7/3r5/9/1K7/P8/2+r6/G7B/9 w 2g\n1 G*8c 9/1k7/9/1K7/3r5/P8/2+r6/G7B/9 w 2g\n1 G*8d 9/1k7/9/3r5/1K7/P8/2+r6/G7B/9 w 2g\n1 7g7e 9/1k7/9/3r5/K8/P8/2+r6/G7B/9 w 2g\n1 7g7d 9/1k7/9/K8/3r5/P8/2+r6/G7B/9 w 2g\ncheck 8g8d+ unknown room 29\ncheck 8g8e unknown room 29\ncheck 8g8e+ unknown room 29\ncheck 8g8f+ unknown room 29\ncheck G*6d mate 1 3\n2 G*8f 9/1k7/3r5/3g5/9/P1K6/1r7/G7B/9 w g\n1 6d6e 9/1k7/3r5/3g5/9/P2K5/1r7/G7B/9 w g\n1 6d6e 9/1k7/3r5/3g5/9/Pg1K5/1r7/G7B/9 w -\ncheck G*6e mate 1 1\n1 6c6d 9/1k7/3r5/2K6/3g5/P8/1r7/G7B/9 w g\ncheck G*7d mate 1 2\n1 G*6d 9/1k7/3r5/2K6/9/P8/1r7/G7B/9 w Gg\n1 6c6g+ 9/1k7/3r5/2g6/9/P1K6/1r7/G7B/9 w g\ncheck G*7f mate 1 3\n1 8g8c+ 9/1k7/3r5/2K6/9/P1g6/1r7/G7B/9 w g\n2 6c6g+ 9/1k7/3r5/9/9/P1K6/1r7/G7B/9 w Gg\n1 G*6d 9/1k7/9/9/2K6/P8/1r1+r5/G7B/9 w Gg\ncheck G*8d mate 1 1\n1 6c6g+ 9/1k7/3r5/1g7/9/P1K6/1r7/G7B/9 w g\ncheck G*8e mate 1 1\n1 G*6d 9/1k7/3r5/2K6/1g7/P8/1r7/G7B/9 w g\nend\n";
+
+// Words, a problem's text, and the status, what the user is told beside the answer, and the answer.
+static RUNS: [(&str, &str, u8, &str, &str); 8] = [
+    ("cook", GOLD, 0, "", GOLD_COOK),
+    (
+        "cook",
+        "4k4/9/9/9/9/9/9/9/9 b - 1\n",
+        0,
+        "",
+        "cook nomate 0\nend\n",
+    ),
+    (
+        "cook --expansions 18",
+        "1l7/9/9/1+S7/2k1r4/9/9/1+Ls3l2/9 b GSg 1\n",
+        1,
+        "",
+        SPENT,
+    ),
+    (
+        "cook --room 5 --expansions 4000",
+        "2n6/2nn1b3/9/9/bs+P5s/3k5/3NL1Lp1/1+P2L2r1/8G b Gr2g2sl15p 1\n",
+        1,
+        "",
+        FULL,
+    ),
+    (
+        "cook --room 29 --expansions 4000",
+        "9/1k7/3r5/9/2K6/P8/1r7/G7B/9 w 2g 1\n",
+        1,
+        "",
+        COOKED,
+    ),
+    ("cook", "", 3, "bad row at 0", ""),
+    ("cook --kif", GOLD, 3, "no diagram", ""),
+    (
+        "cook",
+        "4k4/9/9/9/9/9/9/9/4R4 b - 1\n",
+        3,
+        "defender in check",
+        "",
+    ),
+];
+
+#[test]
+fn first_checks_are_told_of(rt: HostRuntime) -> Result<(), Fail> {
+    for (words, input, status, fault, answer) in RUNS {
+        let seen = seen_of(&rt, words, input, (7, 0), (11, 0))?;
+        let found = (seen.status, seen.fault.as_str(), seen.kept.as_str());
+        same(&rt, (words, input), found, (status, fault, answer));
+    }
+    Ok(())
+}
