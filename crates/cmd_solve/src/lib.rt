@@ -14,5 +14,6 @@ mod words;
 
 pub use asked::Solve;
 pub use running::{solve, solve_alone};
+pub use solution::{Question, solve_problem};
 pub use stops::arm_all;
 pub use words::search_options;

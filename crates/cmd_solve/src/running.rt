@@ -73,7 +73,7 @@ fn solve_through<
         Ok(input) => input,
         Err(ended) => return ended,
     };
-    let answer = answer(rt, alloc, asked, &input, gate, stops);
+    let answer = answer(rt, asked, &input, gate, stops);
     tell(alloc, asked, input, answer, sink)
 }
 

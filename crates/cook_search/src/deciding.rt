@@ -14,20 +14,20 @@ use crate::Ground;
 use cert_extract::{ExtractEnd, extract};
 use cert_text::{Certificate, EscapeCertificate, MOST_ENTRIES, MateCertificate};
 use notes::Note;
-use search_crew::search;
+use search_crew::Tables;
 use search_gate::{Gate, Stop};
-use search_limits::{Cause, Settings};
-use search_pool::{Crew, SearchEnd, Table};
+use search_limits::Cause;
+use search_pool::{Crew, SearchEnd};
 use shogi_rules::Problem;
 use std::alloc::{AllocError, Global};
 use std::sync::Wait;
 use std::thread::Threads;
 
-/// What searches go over and leave: the table of one worker, the stops of all, and the workers of
-/// the searches that gave up.
+/// What searches go over and leave: their tables, their stops, and the workers of those that gave
+/// up.
 #[derive(Drop)]
 pub(crate) struct Means<T: Drop> {
-    pub(crate) table: Table,
+    pub(crate) tables: Tables,
     pub(crate) stops: Vec<T>,
     pub(crate) crews: Vec<Crew>,
 }
@@ -41,49 +41,6 @@ pub(crate) enum Finding {
     Escape(EscapeCertificate),
     // It isn't decided, and why.
     Open(Cause),
-}
-
-// A search by one worker over the table that is kept.
-fn searched_alone<G: Gate, T: Stop>(
-    alloc: Global,
-    position: &Problem,
-    settings: &Settings,
-    gate: &G,
-    table: &mut Table,
-    stops: &mut [T],
-) -> Result<SearchEnd, AllocError>
-    requires alone { settings.now.workers ≡ 1 }
-    requires stops { 0 < length stops.old }
-    ensures end { IfOk result (IsSearchEnd position.now.position (settings_in settings.now)
-        (map T.signal stops.old) (map T.signal stops.new)) }
-    ensures solution { IfOk result (IsSolution position.now.position) }
-    ensures polled { ArePolled 1 (map T.signal stops.old) (map T.signal stops.new) }
-{
-    table.search_until(alloc, position, settings, gate, &mut stops[0])
-}
-
-// A search of a position by as many workers as the settings say: one goes over the table that is
-// kept, several make theirs.
-fn searched<R: Threads + Wait + AllocGlobal + Sync, G: Gate, T: Stop + Drop>(
-    ground: &Ground<'_, R, G>,
-    position: &Problem,
-    table: &mut Table,
-    stops: &mut Vec<T>,
-) -> Result<SearchEnd, AllocError>
-    requires stops { ground.now.settings.now.workers ≤ length stops.old.items }
-    ensures end { IfOk result
-        (IsSearchEnd position.now.position (settings_in ground.now.settings.now)
-        (map T.signal stops.old.items) (map T.signal stops.new.items)) }
-    ensures solution { IfOk result (IsSolution position.now.position) }
-    ensures polled { ArePolled ground.now.settings.now.workers
-        (map T.signal stops.old.items) (map T.signal stops.new.items) }
-{
-    let alloc = ground.rt.alloc();
-    let settings = ground.settings;
-    if settings.workers == 1 {
-        return searched_alone(alloc, position, settings, ground.gate, table, stops);
-    }
-    search(ground.rt, alloc, position, settings, ground.gate, stops)
 }
 
 // What the note that answers a position shows of it, by the certificate that is extracted from it,
@@ -136,6 +93,8 @@ pub(crate) fn decide<R: Threads + Wait + AllocGlobal + Sync, G: Gate, T: Stop + 
     ensures polled { ArePolled ground.now.settings.now.workers
         (map T.signal means.old.stops.items) (map T.signal means.new.stops.items) }
 {
-    let end = searched(ground, position, &mut means.table, &mut means.stops)?;
+    let (settings, gate) = (ground.settings, ground.gate);
+    let stops = &mut means.stops;
+    let end = means.tables.search(ground.rt, position, settings, gate, stops)?;
     found_by(ground.rt.alloc(), position, end, &mut means.crews)
 }

@@ -9,8 +9,9 @@ use crate::lines::line_on;
 use crate::{CheckOnlooker, Ground};
 use check_moves::checks;
 use cook_report::Report;
+use search_crew::Tables;
 use search_gate::{Gate, Stop};
-use search_pool::{Crew, Table};
+use search_pool::Crew;
 use std::alloc::AllocError;
 use std::mem;
 use std::sync::Wait;
@@ -69,7 +70,7 @@ pub fn cook<R: Threads + Wait + AllocGlobal + Sync, G: Gate + CheckOnlooker, T: 
 {
     let alloc = ground.rt.alloc();
     let mut means = Means {
-        table: Table::new(),
+        tables: Tables::new(),
         stops: mem::replace(stops, Vec::new(alloc)),
         crews: Vec::new(alloc),
     };

@@ -63,7 +63,6 @@ fn a_crew_ends_as_it_should(rt: HostRuntime) -> Result<(), Fail> {
     for (text, workers, expansions, room, wanted, crew) in rows {
         let end = search(
             &rt,
-            rt.alloc(),
             &problem(&rt, text),
             &settings_of(&rt, workers, expansions, room),
             &OpenGate,
@@ -80,7 +79,6 @@ fn a_crew_that_gives_up_tells_why(rt: HostRuntime) -> Result<(), Fail> {
     for workers in [2, 4, 64] {
         let end = search(
             &rt,
-            rt.alloc(),
             &problem(&rt, ROOKS),
             &settings_of(&rt, workers, 1, 100),
             &OpenGate,
@@ -91,7 +89,6 @@ fn a_crew_that_gives_up_tells_why(rt: HostRuntime) -> Result<(), Fail> {
         same(&rt, workers, (count, visits), (workers as usize, 1));
         let end = search(
             &rt,
-            rt.alloc(),
             &problem(&rt, ROOKS),
             &settings_of(&rt, workers, 1_000_000, 1),
             &OpenGate,
@@ -110,7 +107,6 @@ fn a_crew_over_a_tiny_table_is_never_wrong(rt: HostRuntime) -> Result<(), Fail> 
         for workers in [2, 8, 64] {
             let end = search(
                 &rt,
-                rt.alloc(),
                 &problem(&rt, text),
                 &settings_of(&rt, workers, 20_000, 20_000),
                 &OpenGate,
@@ -144,7 +140,6 @@ fn each_worker_heeds_its_own_stop(rt: HostRuntime) -> Result<(), Fail> {
     let mut stops = stops_at(alloc, 1)?;
     let end = search(
         &rt,
-        alloc,
         &problem(&rt, ROOKS),
         &settings_of(&rt, 3, 10_000, 10_000),
         &OpenGate,
@@ -214,7 +209,6 @@ fn two_workers_meet_at_their_first_visits(rt: HostRuntime) -> Result<(), Fail> {
     };
     let end = search(
         &rt,
-        rt.alloc(),
         &problem(&rt, ROOKS),
         &settings_of(&rt, 2, 10_000, 10_000),
         &meeting,

@@ -117,9 +117,8 @@ impl Gate for Turns {
 
 // What two workers in turn had drawn when the first ended, and whether worker 2 drew the first
 // visit of all; none where one of them was away for too long.
-fn drawn_in_turn<R: Threads + Wait + Sync>(
+fn drawn_in_turn<R: Threads + Wait + AllocGlobal + Sync>(
     rt: &R,
-    alloc: Global,
     problem: &Problem,
     settings: &Settings,
 ) -> Result<Option<(u64, u64, bool)>, AllocError> {
@@ -127,7 +126,7 @@ fn drawn_in_turn<R: Threads + Wait + Sync>(
         return Ok(None);
     }
     let turns = Turns::new();
-    search(rt, alloc, problem, settings, &turns, &mut quiet(alloc)?)?;
+    search(rt, problem, settings, &turns, &mut quiet(rt.alloc())?)?;
     let (one, two) = turns.drawn();
     if turns.is_void.load(Ordering::SeqCst) != 0 || one == 0 || two == 0 {
         return Ok(None);
@@ -185,7 +184,7 @@ fn take_turns<R: Threads + Wait + Abort + Sync>(
 ) -> Result<(), AllocError> {
     let settings = Settings::new(2, VISITS, 10_000, 1_024, 16).expect(rt, "settings");
     for _ in 0..TRIES {
-        if let Some((one, two, second_first)) = drawn_in_turn(rt, alloc, problem, &settings)? {
+        if let Some((one, two, second_first)) = drawn_in_turn(rt, problem, &settings)? {
             let wanted = drawn_in_world(rt, alloc, problem, &settings, second_first)?;
             same(rt, row, (one, two), wanted);
             return Ok(());

@@ -13,6 +13,8 @@ use Rattle.word_desk.specs.WordDesk.{WordDeskView, DeskSeatView, unused, joined}
 use Rattle.shared_table.specs.Seat.{RowSeatView}
 use Rattle.table_port.specs.Port.{TablePortView}
 use Rattle.table_port.specs.declared.parts.Cut.{Cut}
+use Rattle.worker_counts.specs.declared.view.TheConstants.{MOST_SEATS}
+use Rattle.worker_counts.specs.declared.view.View.{View}
 use Rattle.search_crew.specs.End.{HasSearched, HaveSearched, EndedSo, OneEnded}
 
 -- 1. A WORKER WITH ITS PORT.
@@ -28,6 +30,10 @@ pub record LaneView : Type 0 where
 -- A port with these, whose rows aren't told.
 abbrev pub port_of : Cut → RowSeatView → DeskSeatView → TablePortView
 port_of its_cut its_seat its_desk = record { cut = its_cut; shards = None; seat = its_seat; desk = its_desk }
+
+-- A seat has all parts of its words, and has added nothing to them.
+abbrev pub IsAtFirst : View → Type 0
+IsAtFirst view = (view.added ≡ []) × (view.parts ≡ MOST_SEATS)
 
 -- What a crew shares: its problem, the words that count workers, and the desk.
 pub record Shared : Type 0 where

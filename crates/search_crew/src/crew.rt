@@ -10,9 +10,9 @@ ghost use Rattle.table_shard.specs.Row.{lent_to};
 ghost use Rattle.visit_log.specs.declared.words.WorkEnd.TheVariants.{Posted, Spent, NoRoom};
 ghost use Rattle.word_desk.specs.WordDesk.{unused};
 ghost use Rattle.worker_counts.specs.declared.view.TheConstants.{MOST_SEATS};
-ghost use Rattle.worker_counts.specs.Counts.{whole, with_part_less};
+ghost use Rattle.worker_counts.specs.Counts.{with_part_less};
 ghost use Rattle.search_crew.specs.End.{GaveUpFor, IsCrewEnd, IsFirstEnded, IsSearchEnd, HaveSearched, NoneEnded, OneEnded};
-ghost use Rattle.search_crew.specs.Inside.{AreFresh, ClosesCrew, CrewTells, IsFresh, shares};
+ghost use Rattle.search_crew.specs.Inside.{AreFresh, ClosesCrew, CrewTells, IsAtFirst, IsFresh, shares};
 
 use crate::closing::{Words, gather};
 use crate::lane::{Lane, work_all};
@@ -21,7 +21,7 @@ use notes::HEIGHT_LIMIT;
 use search_gate::{Gate, Stop};
 use search_limits::{Cause, Settings};
 use search_pool::{Crew, SearchEnd, search_alone_until};
-use shared_table::{BlackJob, Job, LockedRows, RowSeat, SharedTable, WhiteJob};
+use shared_table::{Job, LockedRows, RowSeat, SharedTable};
 use shogi_rules::Problem;
 use std::alloc::{AllocError, Global};
 use std::sync::Wait;
@@ -115,7 +115,7 @@ fn fill_lanes<'a, J: Job, K: Job, R: Wait, G: Gate, T: Stop + Drop>(
     stops: &mut Vec<T>,
     lanes: &mut Vec<LockedLane<'a, J, R, G, T>>,
 )
-    requires seat { (seat.old.counts ≡ ground.now.table.now.words) × (seat.old.view ≡ whole) }
+    requires seat { (seat.old.counts ≡ ground.now.table.now.words) × (IsAtFirst seat.old.view) }
     requires desk_seat { desk_seat.old ≡ unused ground.now.desk.now MOST_SEATS }
     requires stops { ground.now.count ≤ length stops.old.items }
     requires lanes { (lanes.old.items ≡ []) × (ground.now.count ≤ vec_capacity lanes.old) }
@@ -156,7 +156,7 @@ fn work_crew<
     desk_seat: &mut DeskSeat,
     stops: &mut Vec<T>,
 ) -> Result<Vec<Worker>, AllocError>
-    requires seat { (seat.old.counts ≡ ground.now.table.now.words) × (seat.old.view ≡ whole) }
+    requires seat { (seat.old.counts ≡ ground.now.table.now.words) × (IsAtFirst seat.old.view) }
     requires desk_seat { desk_seat.old ≡ unused ground.now.desk.now MOST_SEATS }
     requires stops { ground.now.count ≤ length stops.old.items }
     ensures tells { IfOk result
@@ -242,47 +242,84 @@ fn outcome(settings: &Settings, crew: Vec<Worker>, end: DeskEnd) -> Result<Searc
     Ok(SearchEnd::Unknown(cause, Crew::new(crew)))
 }
 
-// A search by several workers, of the job's attacker.
-fn search_as<
-    J: Job + Send + Sync,
-    K: Job + Send + Sync,
-    R: Threads + Wait + Sync,
-    G: Gate,
-    T: Stop + Drop,
->(
-    rt: &R,
-    alloc: Global,
-    problem: &Problem,
-    settings: &Settings,
-    gate: &G,
-    stops: &mut Vec<T>,
-) -> Result<SearchEnd, AllocError>
-    requires attacks { problem.now.position.side ≡ J.ATTACKER }
-    requires stops { settings.now.workers ≤ length stops.old.items }
-    ensures end { IfOk result
-        (IsCrewEnd problem.now.position (settings_in settings.now) (map T.signal stops.old.items)
-        (map T.signal stops.new.items)) }
-    ensures polled { ArePolled settings.now.workers
-        (map T.signal stops.old.items) (map T.signal stops.new.items) }
-{
-    let (table, mut seat) = SharedTable::<J, K>::make(alloc, settings)?;
-    let (desk, mut desk_seat) = WordDesk::make(alloc, problem, settings)?;
-    let ground = Ground {
-        problem,
-        count: settings.workers,
-        table: &table,
-        lends: settings.lends,
-        desk: &desk,
-        gate,
-        wait: rt,
-    };
-    let crew = work_crew(alloc, &ground, &mut seat, &mut desk_seat, stops)?;
-    // Every worker has left all that it had entered: each count is zero.
-    let _counts = table.close(seat);
-    outcome(settings, crew, desk.close(desk_seat))
+// A table of several workers between searches, and the first seat at its words, which has all parts
+// of it and has added nothing.
+#[derive(Drop)]
+pub(crate) struct Kept<J: Job, K: Job> {
+    table: SharedTable<J, K>,
+    seat: CountSeat,
+    ghost at: { seat.counts ≡ table.words },
+    ghost at_first: { IsAtFirst seat.view },
 }
 
-/// Searches a problem with one worker, as the settings say, which polls the first stop: [`search`]
+impl<J: Job + Send + Sync, K: Job + Send + Sync> Kept<J, K> {
+    // One with the shards and the rows of the settings, which knows nothing. Errors: want of memory
+    // alone.
+    pub(crate) fn make(alloc: Global, settings: &Settings) -> Result<Kept<J, K>, AllocError> {
+        let (table, seat) = SharedTable::make(alloc, settings)?;
+        Ok(Kept { table, seat })
+    }
+
+    // Whether it has the shards and the rows of the settings.
+    pub(crate) fn suits(&self, settings: &Settings) -> bool {
+        self.table.laws();
+        let (shards, own) = (self.table.shards() as u64, self.table.own() as u64);
+        shards == settings.shards && shards * own == settings.rows
+    }
+
+    // The same for the other attacker, emptied.
+    pub(crate) fn turned(self) -> Kept<K, J> {
+        Kept {
+            table: self.table.turned(),
+            seat: self.seat,
+        }
+    }
+
+    // The same, emptied.
+    pub(crate) fn emptied(self) -> Kept<J, K> {
+        Kept {
+            table: self.table.emptied(),
+            seat: self.seat,
+        }
+    }
+
+    // A search by several workers, of the job's attacker, over this table, which comes back. Every
+    // worker has left all that it had entered.
+    pub(crate) fn search<R: Threads + Wait + AllocGlobal + Sync, G: Gate, T: Stop + Drop>(
+        self,
+        rt: &R,
+        problem: &Problem,
+        settings: &Settings,
+        gate: &G,
+        stops: &mut Vec<T>,
+    ) -> Result<(SearchEnd, Kept<J, K>), AllocError>
+        requires attacks { problem.now.position.side ≡ J.ATTACKER }
+        requires stops { settings.now.workers ≤ length stops.old.items }
+        ensures end { IfOk result (λ done. IsCrewEnd problem.now.position
+            (settings_in settings.now) (map T.signal stops.old.items)
+            (map T.signal stops.new.items) done.0) }
+        ensures polled { ArePolled settings.now.workers
+            (map T.signal stops.old.items) (map T.signal stops.new.items) }
+    {
+        let alloc = rt.alloc();
+        let Kept { table, mut seat } = self;
+        let (desk, mut desk_seat) = WordDesk::make(alloc, problem, settings)?;
+        let ground = Ground {
+            problem,
+            count: settings.workers,
+            table: &table,
+            lends: settings.lends,
+            desk: &desk,
+            gate,
+            wait: rt,
+        };
+        let crew = work_crew(alloc, &ground, &mut seat, &mut desk_seat, stops)?;
+        let end = outcome(settings, crew, desk.close(desk_seat))?;
+        Ok((end, Kept { table, seat }))
+    }
+}
+
+/// Searches a problem with one worker, as the settings say, which polls the first stop: [`search`](crate::search)
 /// without threads, which takes no lock and waits for nobody. Takes the table's memory at once:
 /// about 1 KB a row. Errors: want of memory alone.
 pub fn search_by_one<G: Gate, T: Stop>(
@@ -300,48 +337,4 @@ pub fn search_by_one<G: Gate, T: Stop>(
     ensures polled { ArePolled 1 (map T.signal stops.old) (map T.signal stops.new) }
 {
     search_alone_until(alloc, problem, settings, gate, &mut stops[0])
-}
-
-/// Searches a problem with the settings' workers: each works in a thread of its own where one can
-/// be made, over one table behind locks and one desk, till it has ended; then their seats are taken
-/// back, and table and desk are closed. Where a note was posted, the first one answers the problem;
-/// else the search gave up, for the first cause that a worker met, and all workers come with it, in
-/// order. With one worker it takes no lock and waits for nobody: it is [`search_by_one`].
-///
-/// The gate is passed for each visit, by the worker that drew it, with no lock held. Worker w polls
-/// stop w and no other; the stops go with the workers, and come back to their places. Takes the
-/// table's memory at once: about 1 KB a row. Errors: want of memory alone. Nothing is promised of
-/// which worker is first, or that more are faster. (df-pn: Nagai 2002; many workers over one table:
-/// Kaneko 2010.)
-pub fn search<R: Threads + Wait + Sync, G: Gate, T: Stop + Drop>(
-    rt: &R,
-    alloc: Global,
-    problem: &Problem,
-    settings: &Settings,
-    gate: &G,
-    stops: &mut Vec<T>,
-) -> Result<SearchEnd, AllocError>
-    // There is a stop for each worker.
-    requires stops { settings.now.workers ≤ length stops.old.items }
-    // It ended as the search of one worker does, or as that of a crew.
-    ensures end { IfOk result (IsSearchEnd problem.now.position (settings_in settings.now)
-        (map T.signal stops.old.items) (map T.signal stops.new.items)) }
-    // A note that solves it is valid, holds on every path, is about the problem's position and for
-    // its attacker.
-    ensures solution { IfOk result (IsSolution problem.now.position) }
-    // Stops are polled, and nothing else; those beyond the workers' are as they were.
-    ensures polled { ArePolled settings.now.workers
-        (map T.signal stops.old.items) (map T.signal stops.new.items) }
-{
-    if settings.workers == 1 {
-        return search_by_one(alloc, problem, settings, gate, stops);
-    }
-    match problem.attacker() {
-        Side::Black => {
-            search_as::<BlackJob, WhiteJob, R, G, T>(rt, alloc, problem, settings, gate, stops)
-        }
-        Side::White => {
-            search_as::<WhiteJob, BlackJob, R, G, T>(rt, alloc, problem, settings, gate, stops)
-        }
-    }
 }
