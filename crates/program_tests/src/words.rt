@@ -19,7 +19,7 @@ use tsume_words::{Format, ProblemForm, Watch, WordsEnd};
 // Of the commands over many problems the seed, the count and the expansions; or the settings,
 // whether `--rest` stands, `told` where `--certificates` does, `until` the deadline, and `by` the
 // threads.
-static ASKED: [(&str, &str); 76] = [
+static ASKED: [(&str, &str); 77] = [
     ("solve", "solve 1 1000000 1000000000 65536 64 false"),
     ("solve --rest", "solve 1 1000000 1000000000 65536 64 true"),
     (
@@ -226,10 +226,11 @@ static ASKED: [(&str, &str); 76] = [
     ("record", "record"),
     ("record -- -a.cert", "record of -a.cert"),
     ("upgrade a.cert", "upgrade of a.cert"),
+    ("usi", "usi"),
 ];
 
 // A line that is refused, and how its text begins.
-static REFUSED: [(&str, &str); 46] = [
+static REFUSED: [(&str, &str); 47] = [
     ("solve --rows 16 --shards 32", "more shards than rows"),
     ("", "Solves tsume-shogi problems"),
     ("dance", "error: unrecognized subcommand 'dance'"),
@@ -250,6 +251,7 @@ static REFUSED: [(&str, &str); 46] = [
     ("check --kif", "error: unexpected argument '--kif' found"),
     ("record --kif", "error: unexpected argument '--kif' found"),
     ("upgrade a b", "error: unexpected argument 'b' found"),
+    ("usi a", "error: unexpected argument 'a' found"),
     ("solution a b", "error: unexpected argument 'b' found"),
     (
         "check --rows 16",
@@ -382,7 +384,7 @@ static REFUSED: [(&str, &str); 46] = [
 ];
 
 // A request for help or for the version, and a part of its text.
-static HELPED: [(&str, &str); 39] = [
+static HELPED: [(&str, &str); 40] = [
     ("--version", "tsume 0.1.0\n"),
     ("-V --help", "tsume 0.1.0\n"),
     ("--help", "Usage: tsume <COMMAND>\n"),
@@ -441,6 +443,7 @@ static HELPED: [(&str, &str); 39] = [
     ("help check", "Usage: tsume check [OPTIONS] [FILE]\n"),
     ("help record", "Usage: tsume record [FILE]\n"),
     ("help upgrade", "Usage: tsume upgrade [FILE]\n"),
+    ("help usi", "Usage: tsume usi\n"),
     ("solution -h", "Usage: tsume solution [FILE]\n"),
     (
         "check --help",
@@ -511,6 +514,7 @@ fn command_text(alloc: Global, command: &Command) -> Result<String, AllocError> 
         Command::Solution(_) => format!(in alloc; "solution"),
         Command::Record(_) => format!(in alloc; "record"),
         Command::Upgrade(_) => format!(in alloc; "upgrade"),
+        Command::Usi(_) => format!(in alloc; "usi"),
     }
 }
 

@@ -33,7 +33,10 @@ cook_given o rows given is = elim (subst (λ (q : Option (Text × List Row)). Is
                 | inl record_command ↦ let no = record_command.0 in absurd (cc)
                 | inr more ↦ elim more [
                   | inl upgrade ↦ let no = upgrade.0 in absurd (cc)
-                  | inr more ↦ absurd more
+                  | inr more ↦ elim more [
+                    | inl session ↦ let no = session.0 in absurd (cc)
+                    | inr more ↦ absurd more
+                  ]
                 ]
               ]
             ]

@@ -32,7 +32,7 @@ pub record IsFit (line : App) : Type 0 where
 
 -- in the order of the help, whose own command is the last
 pub fit : IsFit tsume_line
-unfolding tsume_line Rattle.cmd_solve.specs.Line.search_line Rattle.cmd_shortest.specs.Line.shortest_line Rattle.cmd_check.specs.Line.check_line Rattle.cmd_survey.specs.Line.survey_line Rattle.cmd_collection.specs.Line.collection_line Rattle.cmd_solution.specs.Line.solution_line Rattle.cmd_record.specs.Line.record_line Rattle.cmd_upgrade.specs.Line.upgrade_line clap_on_literals
+unfolding tsume_line Rattle.cmd_solve.specs.Line.search_line Rattle.cmd_shortest.specs.Line.shortest_line Rattle.cmd_check.specs.Line.check_line Rattle.cmd_survey.specs.Line.survey_line Rattle.cmd_collection.specs.Line.collection_line Rattle.cmd_solution.specs.Line.solution_line Rattle.cmd_record.specs.Line.record_line Rattle.cmd_upgrade.specs.Line.upgrade_line Rattle.cmd_usi.specs.Line.usi_line clap_on_literals
 fit = record {
   simple = refl;
   alone = refl;
@@ -47,6 +47,7 @@ fit = record {
       and (λ word answers other words e. inr (inr (inr (inr (inr (inr (inl (refl, Rattle.cmd_solution.proofs.Offered.solution_is_given words e))))))))
       and (λ word answers other words e. inr (inr (inr (inr (inr (inr (inr (inl (refl, Rattle.cmd_record.proofs.Offered.record_is_given words e)))))))))
       and (λ word answers other words e. inr (inr (inr (inr (inr (inr (inr (inr (inl (refl, Rattle.cmd_upgrade.proofs.Offered.upgrade_is_given words e))))))))))
+      and (λ word answers other words e. inr (inr (inr (inr (inr (inr (inr (inr (inr (inl (refl, Rattle.cmd_usi.proofs.Offered.usi_is_given words e)))))))))))
       and (λ word answers other words e. absurd (help_alone word answers other))
       and tt;
 }

@@ -13,6 +13,7 @@ use Rattle.cmd_collection.specs as collection
 use Rattle.cmd_solution.specs as solution
 use Rattle.cmd_record.specs as record_command
 use Rattle.cmd_upgrade.specs as upgrade
+use Rattle.cmd_usi.specs as session
 use Rattle.program_words.specs.declared.command.Command.{Command}
 use Rattle.program_words.specs.declared.command.Command.TheVariants as asks
 
@@ -27,6 +28,7 @@ pub data CommandView : Type 0 where
   to_judge : CommandView
   to_record : CommandView
   to_upgrade : CommandView
+  to_usi : CommandView
 
 -- What a command is asked.
 abbrev pub command_view : Command → CommandView
@@ -39,6 +41,7 @@ command_view (asks.Collection asked) = to_collect (collection.Asked.collect_in a
 command_view (asks.Solution asked) = to_judge
 command_view (asks.Record asked) = to_record
 command_view (asks.Upgrade asked) = to_upgrade
+command_view (asks.Usi asked) = to_usi
 
 -- The numbers of the search that is asked for, where the words give them: they are tested.
 abbrev pub numbers_of : CommandView → Option SettingsView
@@ -78,6 +81,7 @@ command name words view others = record {
 abbrev pub commands : Offer
 commands =
     let more = nothing_more in
+    let more = command (codes "usi") session.Words.usi_words (λ asked. to_usi) more in
     let more = command (codes "upgrade") upgrade.Words.upgrade_words (λ asked. to_upgrade) more in
     let more = command (codes "record") record_command.Words.record_words (λ asked. to_record) more in
     let more = command (codes "solution") solution.Words.solution_words (λ asked. to_judge) more in

@@ -22,6 +22,8 @@ pub enum Command {
     Record(cmd_record::Record),
     /// Write the certificate that is read in version 2.
     Upgrade(cmd_upgrade::Upgrade),
+    /// Serve a USI mate session, whose lines are read one after the other.
+    Usi(cmd_usi::Usi),
 }
 
 /// All that the words ask for.

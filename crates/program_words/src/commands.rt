@@ -26,6 +26,7 @@ macro_rules! with_each_command {
             "solution" Solution cmd_solution::JudgeSolution,
             "record" Record cmd_record::Record,
             "upgrade" Upgrade cmd_upgrade::Upgrade,
+            "usi" Usi cmd_usi::Usi,
         )
     };
 }

@@ -3,7 +3,7 @@ use Rattle.std.specs.Prelude.{◌≡◌, ◌⊎◌, true, false, List, Option, S
 use Rattle.std.specs.Global.{Global}
 use Rattle.clap.specs.Words.{Text as Word}
 use Rattle.program_words.specs.Commands.{CommandView}
-use Rattle.program_words.specs.Commands.CommandView.{to_solve, to_shortest, to_cook, to_check, to_survey, to_collect, to_judge, to_record, to_upgrade}
+use Rattle.program_words.specs.Commands.CommandView.{to_solve, to_shortest, to_cook, to_check, to_survey, to_collect, to_judge, to_record, to_upgrade, to_usi}
 use Rattle.program_words.specs.Meaning.{IsRefusalOf, MayAskForHelp}
 use Rattle.app_texts.specs.declared.fault.ProblemFault.{ProblemFault}
 use Rattle.one_run.specs.declared.written.Written.TheVariants.{Whole, NoMemory as HelpNoMemory}
@@ -21,6 +21,7 @@ use Rattle.cmd_collection.specs.Headline.{IsCollectionRun}
 use Rattle.cmd_record.specs.Headline.{IsRecordRun}
 use Rattle.cmd_upgrade.specs.Headline.{IsUpgradeRun}
 use Rattle.cmd_solution.specs.Headline.{IsSolutionRun}
+use Rattle.cmd_usi.specs.Headline.{IsUsiRun}
 use Rattle.tsume_app.specs.declared.ended.Ended.{Ended}
 use Rattle.tsume_app.specs.declared.ended.Ended.TheVariants as ends
 use Rattle.tsume_app.specs.declared.ended.Refusal.{Refusal}
@@ -88,6 +89,7 @@ IsKept (ends.Record ended) (Some to_record) words stops source sink =
     IsRecordRun source sink ended × AreUnused stops
 IsKept (ends.Upgrade ended) (Some to_upgrade) words stops source sink =
     IsUpgradeRun source sink ended × AreUnused stops
+IsKept (ends.Usi talked) (Some to_usi) words stops source sink = IsUsiRun stops source sink talked
 IsKept (ends.Help ended) None words stops source sink =
     MayAskForHelp words × IsStatedRun help_meaning sink ended × IsUnasked stops source
 IsKept (ends.Refused refusal) view words stops source sink =

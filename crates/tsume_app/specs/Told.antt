@@ -24,6 +24,7 @@ use Rattle.shortest_text.specs.FaultText.{shortest_fault_text}
 use Rattle.cmd_record.specs.Text.{answer_status, fault_text}
 use Rattle.cmd_upgrade.specs.Text as upgrade
 use Rattle.cmd_solution.specs.Text.{verdict_status}
+use Rattle.cmd_usi.specs.Text.{talk_status, talk_telling}
 use Rattle.kif_moves.specs.FaultText.{moves_fault_text}
 use Rattle.tsume_app.specs.declared.ended.Ended.{Ended}
 use Rattle.tsume_app.specs.declared.ended.Ended.TheVariants as ends
@@ -91,6 +92,7 @@ left_by (ends.Collection ended) = by_reading counts_status (λ fault. []) (λ fa
 left_by (ends.Solution ended) = by_reading verdict_status moves_fault_text MayFollowMoves ended
 left_by (ends.Record ended) = by_reading answer_status fault_text (λ fault. IsPlain) ended
 left_by (ends.Upgrade ended) = by_reading upgrade.answer_status certificate_fault_text (λ fault. IsPlain) ended
+left_by (ends.Usi talked) = record { status = talk_status talked.end; telling = talk_telling talked.end }
 left_by (ends.Help ended) = by_writing (λ text. 0) ended
 left_by (ends.Refused refusal) = by_refusing refusal
 

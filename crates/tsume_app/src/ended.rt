@@ -80,6 +80,8 @@ pub enum Ended {
     Record(one_run::Ended<cmd_record::RecordAnswer, cmd_record::RecordFault>),
     /// As `upgrade`.
     Upgrade(one_run::Ended<cmd_upgrade::UpgradeAnswer, cert_text::CertFault>),
+    /// As `usi`.
+    Usi(cmd_usi::Talked),
     /// With help, or with the version, as clap made it.
     Help(Written<String>),
     /// No command was begun.
@@ -100,6 +102,7 @@ macro_rules! with_ending {
             Ended::Solution($ending) => $then,
             Ended::Record($ending) => $then,
             Ended::Upgrade($ending) => $then,
+            Ended::Usi($ending) => $then,
             Ended::Help($ending) => $then,
             Ended::Refused($ending) => $then,
         }
@@ -147,7 +150,7 @@ impl Refusal {
 
 impl Ended {
     /// The exit status: 0 for a verdict, an accepted certificate or bound, a survey, a solution, a
-    /// record, a report or help, 1 where a search gave up, 7 where a certificate or a bound is
+    /// record, a report, a session that was over, or help, 1 where a search gave up, 7 where a certificate or a bound is
     /// refused; of a collection 3 where a line is no problem, else 1 where a search gave up, else
     /// 0; 2 where the words are refused, 3 where the input is, 4 where the source failed, 5 where
     /// the sink failed, 6 for want of memory.

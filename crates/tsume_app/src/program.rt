@@ -30,6 +30,7 @@ use cmd_solution::solution;
 use cmd_solve::solve;
 use cmd_survey::survey;
 use cmd_upgrade::upgrade;
+use cmd_usi::usi;
 use one_run::{Written, write};
 use problem_answers::problem_laws;
 use program_words::{Command, WordsRead};
@@ -137,6 +138,7 @@ fn command_ended<
         Command::Solution(asked) => Ended::Solution(solution(alloc, asked, source, sink)),
         Command::Record(asked) => Ended::Record(record(alloc, asked, source, sink)),
         Command::Upgrade(asked) => Ended::Upgrade(upgrade(alloc, asked, source, sink)),
+        Command::Usi(_) => Ended::Usi(usi(rt, source, sink, gate, stops)),
         Command::Collection(asked) => {
             Ended::Collection(collection(rt, alloc, asked, source, sink, gate))
         }
@@ -291,7 +293,9 @@ pub(crate) fn tells_accepted(words: &WordsRead) -> bool {
 /// over threads, and writes how many are mates, have none, or were given up. `collection` reads a
 /// text with a problem in each line, and writes for each, in order, that it is a mate, with a main
 /// line, that it is none, that it was given up, or what its fault is, perhaps with certificates,
-/// and the counts behind the last; a faulty line doesn't end the run.
+/// and the counts behind the last; a faulty line doesn't end the run. `usi` serves a mate session of
+/// the USI protocol: it takes a line of the source, does and writes what the session does at it,
+/// and takes the next.
 ///
 /// Everything else ends with a named fault and its cause: more than
 /// [`MOST_PROBLEM_BYTES`](problem_lines::MOST_PROBLEM_BYTES) of a problem,
@@ -299,14 +303,14 @@ pub(crate) fn tells_accepted(words: &WordsRead) -> bool {
 /// [`MOST_CERTIFICATE_BYTES`](crate::MOST_CERTIFICATE_BYTES) of a certificate; a text that is no
 /// problem or no certificate, with its first fault; a source or a sink whose count of faults rose;
 /// want of memory. The whole text is made before the first write, but for a collection, whose
-/// reports are written one by one. `solve`, `shortest` and `cook` pass the gate for visits of
+/// reports are written one by one, and a session. `solve`, `shortest` and `cook` pass the gate for visits of
 /// positions, as the worker that visits it (no clause says it), and no other command does. Where
 /// the words ask for it, `collection` tells the gate which lines are decided, and its deadlines go
 /// by the gate's clock, with stops of its own. The stops, one for each worker that there may be,
 /// are armed once, with the deadline that the words give or with none, when `solve` or `cook` has
 /// accepted its problem, and before that they aren't used; then each worker polls the one at its
-/// place. `shortest` uses the first alone in the same way. Only `solve` and `cook` with several
-/// workers wait, for them: who asks for another command may call it in its own crate, without the
+/// place. `shortest` uses the first alone in the same way, and `usi` all of them for each problem that
+/// it solves. Only `solve`, `cook` and `usi` with several workers wait, for them: who asks for another command may call it in its own crate, without the
 /// handle for waiting. (The tsume rule; USI protocol: `checkmate`.)
 pub fn run<
     R: Threads + Wait + AllocGlobal + Sync,
@@ -317,8 +321,8 @@ pub fn run<
 >(rt: &R, words: WordsRead, source: &mut S, sink: &mut K, gate: &G, stops: &mut Vec<T>) -> Ended
     requires { length stops.old.items ≡ MOST_WORKERS }
     // Whatever command ended the run is the one that the words asked for, and it kept all that it
-    // promises, clause by clause: see `solve`, `shortest`, `cook`, `check`, `survey` and
-    // `collection` of their crates.
+    // promises, clause by clause: see `solve`, `shortest`, `cook`, `check`, `survey`,
+    // `collection` and `usi` of their crates.
     // Where none was begun, the words asked for none, and help was written, where they may ask for
     // it, or they are refused with the cause; or they gave a problem that is none; or memory was
     // wanted. Nothing was read then, and no stop used.

@@ -1,0 +1,3 @@
+-- Lemmas of lines.
+pub mod Taken
+pub mod Offered

@@ -1,0 +1,2 @@
+-- This project's.
+pub mod Lines

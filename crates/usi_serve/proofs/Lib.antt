@@ -1,0 +1,4 @@
+-- Lemmas of serving.
+pub mod Acts
+pub mod Over
+pub mod Offered

@@ -1,0 +1,4 @@
+-- This project's.
+pub mod Reply
+pub mod Served
+pub mod Inside
