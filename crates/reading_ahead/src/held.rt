@@ -1,5 +1,5 @@
 // The bytes that were read and not yet fetched by the queue.
-ghost use Rattle.std.specs.Prelude.{◌≡◌, ◌-◌, ◌≤◌, ◌++◌, [], length, take, min, None, IfOk, OnErr, vec_len};
+ghost use Rattle.std.specs.Prelude.{◌≡◌, ◌↔◌, ◌-◌, ◌≤◌, ◌++◌, [], length, take, min, Some, None, IsTrue, IfOk, OnErr, vec_len};
 
 use std::alloc::{AllocError, Global};
 use std::{io, mem};
@@ -39,13 +39,17 @@ impl Held {
         })
     }
 
-    /// Whether there is room for a byte.
-    pub fn is_full(&self) -> bool {
+    /// Whether there is no room for a byte.
+    pub fn is_full(&self) -> bool
+        ensures { IsTrue result ↔ (length (waiting self.now) ≡ most_of self.now) }
+    {
         self.bytes.len() == self.most
     }
 
-    /// Whether there is something to fetch, bytes or an end.
-    pub fn is_idle(&self) -> bool {
+    /// Whether there is nothing to fetch, neither bytes nor an end.
+    pub fn is_idle(&self) -> bool
+        ensures { IsTrue result ↔ ((waiting self.now ≡ []) × (end_of self.now ≡ None)) }
+    {
         self.bytes.is_empty() && self.end.is_none()
     }
 
@@ -59,6 +63,8 @@ impl Held {
     /// Reading ended.
     pub fn finish(&mut self, end: End)
         ensures waiting { waiting self.new ≡ waiting self.old }
+        ensures most { most_of self.new ≡ most_of self.old }
+        ensures end { end_of self.new ≡ Some end }
     {
         self.end = Some(end);
     }

@@ -1,5 +1,5 @@
 // The queue of what a thread reads ahead, as a source.
-ghost use Rattle.std.specs.Prelude.{◌≡◌, ◌-◌, ◌^◌, ◌≤◌, None, length, take, IfOk, OnOk, OnErr, vec_len};
+ghost use Rattle.std.specs.Prelude.{◌≡◌, ◌-◌, ◌^◌, ◌<◌, ◌≤◌, ◌++◌, [], None, length, take, drop, IfOk, OnOk, OnErr, vec_len};
 ghost use Rattle.tsume_io.specs.Faults.{Rose, one_more};
 ghost use Rattle.reading_ahead.specs.Handing.{IsOfOneLine};
 
@@ -32,7 +32,7 @@ pub struct Queue<W: Wait> {
 }
 
 impl<W: Wait + Drop> Queue<W> {
-    ghost use Rattle.reading_ahead.specs.Queue.{queue_faults};
+    ghost use Rattle.reading_ahead.specs.Queue.{fetched, queue_faults};
 
     // Nothing was handed on yet. What is fetched at a time is of so many bytes at most. Errors: want
     // of memory alone.
@@ -43,7 +43,8 @@ impl<W: Wait + Drop> Queue<W> {
         hearing: &Arc<Hearing>,
         most: usize,
     ) -> Result<Queue<W>, AllocError>
-        ensures { IfOk result (λ queue. queue_faults queue ≡ 0) }
+        ensures faults { IfOk result (λ queue. queue_faults queue ≡ 0) }
+        ensures fetched { IfOk result (λ queue. fetched queue ≡ []) }
     {
         Ok(Queue {
             rt,
@@ -68,23 +69,37 @@ impl<W: Wait + Drop> Queue<W> {
     }
 }
 
+// What stands behind so many bytes.
+fn behind(bytes: &[u8], at: usize) -> &[u8]
+    requires { at ≤ length bytes.now }
+    ensures { result.now ≡ drop at bytes.now }
+{
+    &bytes[at..]
+}
+
+// Settles what was heard of these bytes, which are handed on next.
+fn settle(bytes: &[u8], line: &mut Line, hearing: &Hearing) {
+    for byte in bytes {
+        if line.see(*byte) == Said::Stop {
+            hearing.stop_was_handed_on();
+        }
+    }
+}
+
 impl<W: Wait + Drop> Queue<W> {
-    ghost use Rattle.reading_ahead.specs.Queue.{queue_faults};
+    ghost use Rattle.reading_ahead.specs.Queue.{fetched, queue_faults};
 
     // Hands on what there is of the front's first line, and notes what that says.
     fn hand_on(&mut self, into: &mut [u8]) -> usize
         ensures within { result ≤ length into.new }
         ensures line { IsOfOneLine (take result into.new) }
+        ensures in_order { fetched self.old ≡ take result into.new ++ fetched self.new }
         ensures faults { queue_faults self.new ≡ queue_faults self.old }
     {
-        let from = &self.front[self.at..];
+        let from = behind(&self.front, self.at);
         let count = handed_on(from, into.len());
         into[..count].copy_from_slice(&from[..count]);
-        for byte in &from[..count] {
-            if self.line.see(*byte) == Said::Stop {
-                self.hearing.stop_was_handed_on();
-            }
-        }
+        settle(&from[..count], &mut self.line, &self.hearing);
         self.at += count;
         count
     }
@@ -118,7 +133,7 @@ impl<W: Wait + Drop> Queue<W> {
 }
 
 impl<W: Wait + Drop> Source for Queue<W> {
-    ghost use Rattle.reading_ahead.specs.Queue.{queue_faults};
+    ghost use Rattle.reading_ahead.specs.Queue.{fetched, queue_faults};
 
     ghost left = { λ _. None };
 
@@ -136,8 +151,11 @@ impl<W: Wait + Drop> Source for Queue<W> {
         // By one each time.
         ensures raised { OnErr result (queue_faults self.new ≡ one_more (queue_faults self.old)) }
 
-        // No bytes of two lines.
+        // No bytes of two lines, and of what was fetched the next ones. Where nothing was left of
+        // that, what comes is trusted.
         ensures line { IfOk result (λ n. IsOfOneLine (take n into.new)) }
+        ensures in_order { 0 < length (fetched self.old)
+            → IfOk result (λ n. fetched self.old ≡ take n into.new ++ fetched self.new) }
     {
         if into.is_empty() {
             return Ok(0);
