@@ -1,5 +1,4 @@
 // A reader and a clock of the tests' own.
-ghost use Rattle.std.specs.Prelude.{◌≡◌};
 ghost use Rattle.edge_tests.specs.Given.{shown_last, times_asked};
 
 use search_gate::Clock;

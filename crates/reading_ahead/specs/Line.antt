@@ -13,8 +13,8 @@ quit_word = codes "quit"
 abbrev pub IsWord : List ℕ → List ℕ → Type 0
 IsWord word line = (line ≡ word) ⊎ (line ≡ word ++ 13 ∷ [])
 
--- A line, as far as it came, with one byte more; it is none once it is longer than five bytes, since
--- no such line is heard.
+-- A line, as far as it came, with one byte more; it is none once it is longer than five bytes,
+-- since no such line is heard.
 abbrev pub longer : Option (List ℕ) → ℕ → Option (List ℕ)
 longer None byte = None
 longer (Some bytes) byte = if nat_lt (length bytes) 5 then Some (bytes ++ byte ∷ []) else None

@@ -33,9 +33,9 @@ fn shared<T: Drop>(alloc: Global, value: T) -> Result<Arc<T>, AllocError> {
 }
 
 /// Starts a thread that reads this reader ahead, and answers the queue of what it reads. The queue
-/// takes all its memory now and holds `most` bytes at most; where it is full, the thread waits, with
-/// those of its last read in hand, 64 KiB at most. The thread ends behind the reader's end or its
-/// first failure, and keeps no process from ending while it waits or reads. The moment at which
+/// takes all its memory now and holds `most` bytes at most; where it is full, the thread waits,
+/// with those of its last read in hand, 64 KiB at most. The thread ends behind the reader's end or
+/// its first failure, and keeps no process from ending while it waits or reads. The moment at which
 /// `quit` or the end was read is told by `clock`.
 pub fn read_ahead<
     R: Threads + Wait + Copy + Send + 'static,

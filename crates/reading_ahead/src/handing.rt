@@ -1,5 +1,4 @@
 // What is handed on of the bytes that were read.
-ghost use Rattle.std.specs.Prelude.{◌≡◌, ◌<◌, ◌≤◌, ◌-◌, length, take};
 ghost use Rattle.reading_ahead.specs.Handing.{IsFrontOf};
 
 // How many bytes of the front are handed on, where there is place for so many.

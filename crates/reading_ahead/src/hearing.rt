@@ -79,7 +79,7 @@ pub struct Listener {
 
 impl Listener {
     // A listener that heard nothing yet. Errors: want of memory alone.
-    pub fn new(hearing: &Arc<Hearing>) -> Result<Listener, AllocError> {
+    pub(crate) fn new(hearing: &Arc<Hearing>) -> Result<Listener, AllocError> {
         Ok(Listener {
             hearing: Arc::try_clone(hearing)?,
             heard: Heard {

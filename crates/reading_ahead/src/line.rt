@@ -1,5 +1,5 @@
 // Which lines say `stop` or `quit`.
-ghost use Rattle.std.specs.Prelude.{◌≡◌, ◌↔◌, Some, [], IsTrue, codes};
+ghost use Rattle.std.specs.Prelude.{◌≡◌, ◌↔◌, Some, [], IsTrue};
 ghost use Rattle.reading_ahead.specs.Line.{IsWord, IsSaidAt, line_after, stop_word, quit_word};
 
 use arrayvec::ArrayVec;

@@ -1,6 +1,5 @@
 // What the reading thread and the queue share. It is trusted: no clause follows bytes through a
 // lock. What each side does to what the lock keeps is proved of `Held`.
-ghost use Rattle.std.specs.Prelude.{◌≡◌};
 
 use crate::held::{End, Held};
 use std::alloc::{AllocError, Global};

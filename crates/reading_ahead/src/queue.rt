@@ -1,5 +1,5 @@
 // The queue of what a thread reads ahead, as a source.
-ghost use Rattle.std.specs.Prelude.{◌≡◌, ◌-◌, ◌^◌, ◌<◌, ◌≤◌, ◌++◌, [], None, length, take, drop, IfOk, OnOk, OnErr, vec_len};
+ghost use Rattle.std.specs.Prelude.{◌≡◌, ◌-◌, ◌^◌, ◌<◌, ◌≤◌, ◌++◌, [], None, true, false, is_some, length, take, drop, IfOk, OnOk, OnErr, vec_len};
 ghost use Rattle.tsume_io.specs.Faults.{Rose, one_more};
 ghost use Rattle.reading_ahead.specs.Handing.{IsOfOneLine};
 
@@ -32,11 +32,11 @@ pub struct Queue<W: Wait> {
 }
 
 impl<W: Wait + Drop> Queue<W> {
-    ghost use Rattle.reading_ahead.specs.Queue.{fetched, queue_faults};
+    ghost use Rattle.reading_ahead.specs.Queue.{fetched, has_reason, queue_faults};
 
-    // Nothing was handed on yet. What is fetched at a time is of so many bytes at most. Errors: want
-    // of memory alone.
-    pub fn new(
+    // Nothing was handed on yet. What is fetched at a time is of so many bytes at most. Errors:
+    // want of memory alone.
+    pub(crate) fn new(
         rt: W,
         alloc: Global,
         passage: &Arc<Passage>,
@@ -45,6 +45,7 @@ impl<W: Wait + Drop> Queue<W> {
     ) -> Result<Queue<W>, AllocError>
         ensures faults { IfOk result (λ queue. queue_faults queue ≡ 0) }
         ensures fetched { IfOk result (λ queue. fetched queue ≡ []) }
+        ensures reason { IfOk result (λ queue. has_reason queue ≡ false) }
     {
         Ok(Queue {
             rt,
@@ -64,7 +65,9 @@ impl<W: Wait + Drop> Queue<W> {
     }
 
     /// Why the thread's reader failed; none where no read of the queue failed yet.
-    pub fn reason(&self) -> Option<io::Error> {
+    pub fn reason(&self) -> Option<io::Error>
+        ensures { is_some result ≡ has_reason self.now }
+    {
         self.reason
     }
 }
@@ -87,13 +90,14 @@ fn settle(bytes: &[u8], line: &mut Line, hearing: &Hearing) {
 }
 
 impl<W: Wait + Drop> Queue<W> {
-    ghost use Rattle.reading_ahead.specs.Queue.{fetched, queue_faults};
+    ghost use Rattle.reading_ahead.specs.Queue.{fetched, has_reason, queue_faults};
 
     // Hands on what there is of the front's first line, and notes what that says.
     fn hand_on(&mut self, into: &mut [u8]) -> usize
         ensures within { result ≤ length into.new }
         ensures line { IsOfOneLine (take result into.new) }
         ensures in_order { fetched self.old ≡ take result into.new ++ fetched self.new }
+        ensures reason { has_reason self.new ≡ has_reason self.old }
         ensures faults { queue_faults self.new ≡ queue_faults self.old }
     {
         let from = behind(&self.front, self.at);
@@ -106,6 +110,7 @@ impl<W: Wait + Drop> Queue<W> {
 
     // All was handed on: a line that lacks its line feed has ended too.
     fn end_line(&mut self)
+        ensures reason { has_reason self.new ≡ has_reason self.old }
         ensures faults { queue_faults self.new ≡ queue_faults self.old }
     {
         if self.line.said() == Said::Stop {
@@ -117,6 +122,8 @@ impl<W: Wait + Drop> Queue<W> {
     // What a read answers where no more comes.
     fn ended(&mut self, end: End) -> Result<usize, Failed>
         ensures none { IfOk result (λ n. n ≡ 0) }
+        ensures told { OnErr result (has_reason self.new ≡ true) }
+        ensures untold { OnOk result (has_reason self.new ≡ has_reason self.old) }
         ensures counted { OnOk result (queue_faults self.new ≡ queue_faults self.old) }
         ensures raised { OnErr result (queue_faults self.new ≡ one_more (queue_faults self.old)) }
     {
@@ -133,7 +140,7 @@ impl<W: Wait + Drop> Queue<W> {
 }
 
 impl<W: Wait + Drop> Source for Queue<W> {
-    ghost use Rattle.reading_ahead.specs.Queue.{fetched, queue_faults};
+    ghost use Rattle.reading_ahead.specs.Queue.{fetched, has_reason, queue_faults};
 
     ghost left = { λ _. None };
 
@@ -148,7 +155,9 @@ impl<W: Wait + Drop> Source for Queue<W> {
         ensures counted { OnOk result (queue_faults self.new ≡ queue_faults self.old) }
         ensures never_falls { queue_faults self.old ≤ queue_faults self.new }
 
-        // By one each time.
+        // By one each time, and the reason is told from then on.
+        ensures told { OnErr result (has_reason self.new ≡ true) }
+        ensures untold { OnOk result (has_reason self.new ≡ has_reason self.old) }
         ensures raised { OnErr result (queue_faults self.new ≡ one_more (queue_faults self.old)) }
 
         // No bytes of two lines, and of what was fetched the next ones. Where nothing was left of

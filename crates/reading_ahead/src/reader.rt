@@ -1,5 +1,4 @@
 // The thread that reads ahead.
-ghost use Rattle.std.specs.Prelude.{◌≡◌};
 
 use crate::hearing::Hearing;
 use crate::held::End;
