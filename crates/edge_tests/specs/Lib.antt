@@ -1,0 +1,2 @@
+-- What the tests' own clock tells.
+pub mod Given

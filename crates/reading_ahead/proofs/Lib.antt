@@ -1,0 +1,2 @@
+-- This crate's lemmas.
+mod Handed
