@@ -1,7 +1,10 @@
 -- This project's.
 pub mod Answer
 pub mod Asked
+pub mod FaultText
 pub mod Headline
+pub mod Inside
+pub mod Line
 pub mod Meaning
 pub mod Text
 pub mod Words

@@ -1,16 +1,17 @@
 // What `cook` is asked, and what it is as a command.
-use crate::{CookAnswer, report_text};
-use app_texts::ProblemFault;
+use crate::{CookAnswer, CookFault, answer_text};
 use cmd_solve::Solve;
 use one_run::Command;
 use problem_lines::MOST_PROBLEM_BYTES;
 use std::alloc::{AllocError, Global};
 
-/// What `cook` is asked: what `solve` is, of each of its searches.
-#[derive(Clone, Copy, Debug, PartialEq, Eq)]
+/// What `cook` is asked: what `solve` is, of each of its searches; and perhaps a line of moves.
+#[derive(Debug, Drop)]
 pub struct Cook {
     /// The numbers of each search, the form of the problem, and how the searches are watched.
     pub solve: Solve,
+    /// The line along which it is reported, as the words have it; none where the problem alone is.
+    pub line: Option<String>,
 }
 
 impl Command for Cook {
@@ -19,7 +20,7 @@ impl Command for Cook {
 
     type Answer = CookAnswer;
 
-    type Fault = ProblemFault;
+    type Fault = CookFault;
 
     ghost meaning = { λ asked. cook_meaning (cook_in asked) };
 
@@ -28,6 +29,6 @@ impl Command for Cook {
     }
 
     fn text(&self, alloc: Global, answer: &CookAnswer) -> Result<Vec<u8>, AllocError> {
-        report_text(alloc, &answer.report)
+        answer_text(alloc, answer)
     }
 }

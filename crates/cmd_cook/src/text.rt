@@ -1,16 +1,20 @@
-// The text of a report. Each part is appended to the one text.
-ghost use Rattle.std.specs.Prelude.{◌≡◌, ◌++◌, ◌∷◌, OnOk, IfOk, codes, length};
+// The text of an answer. Each part is appended to the one text.
+ghost use Rattle.std.specs.Prelude.{◌≡◌, ◌<◌, ◌^◌, ◌++◌, ◌∷◌, OnOk, IfOk, codes, length, take};
 ghost use Rattle.std.specs.Fmt.{decimal};
 ghost use Rattle.std.specs.List.{flat_map};
+ghost use Rattle.usi_text.specs.Lines.{spaced_move};
 ghost use Rattle.usi_text.specs.MoveText.{move_text};
 ghost use Rattle.cert_text.specs.Entries.{line};
 ghost use Rattle.cert_text.specs.Text.{entries_text};
 ghost use Rattle.cook_report.specs.Report.{word_of};
-ghost use Rattle.cmd_cook.specs.Text.{line_text, listed_text, report_text, version_text, word_text};
+ghost use Rattle.cook_line.specs.Stages.{word_along};
+ghost use Rattle.cmd_cook.specs.Text.{along_text, answer_text, line_text, listed_text, report_text, stage_text, stages_text, version_text, word_text};
 
+use crate::{CookAnswer, ToldLine};
 use app_texts::append_cause;
 use board_core::Move;
 use cert_text::{CertificateOf, Entry, append_number};
+use cook_line::{Stage, line_word};
 use cook_report::{Line, Report, Word};
 use hand_dominance::Version;
 use std::alloc::{AllocError, Global};
@@ -114,6 +118,73 @@ fn append_first_line(out: &mut Vec<u8>, report: &Report) -> Result<(), AllocErro
     Ok(())
 }
 
+fn append_report(out: &mut Vec<u8>, report: &Report) -> Result<(), AllocError>
+    ensures { OnOk result (out.new.items ≡ out.old.items ++ report_text report.now) }
+{
+    append_first_line(out, report)?;
+    append_lines(out, report.lines())?;
+    out.extend_from_slice(b"end\n")?;
+    Ok(())
+}
+
+// So many of the moves, from the first on; all where there are no more.
+fn first_moves(moves: &[Move], count: usize) -> &[Move]
+    ensures { result.now ≡ take count moves.now }
+{
+    if count < moves.len() {
+        &moves[..count]
+    } else {
+        moves
+    }
+}
+
+fn append_moves(out: &mut Vec<u8>, moves: &[Move]) -> Result<(), AllocError>
+    ensures { OnOk result (out.new.items ≡ out.old.items ++ flat_map spaced_move moves.now) }
+{
+    for by in moves {
+        append_move(out, b" ", *by)?;
+    }
+    Ok(())
+}
+
+fn append_stage(
+    out: &mut Vec<u8>,
+    moves: &[Move],
+    turn: usize,
+    stage: &Stage,
+) -> Result<(), AllocError>
+    requires { turn < 2 ^ 63 }
+    ensures { OnOk result (out.new.items ≡ out.old.items ++ stage_text moves.now turn stage.now) }
+{
+    out.extend_from_slice(b"at ")?;
+    append_number(out, turn as u64 + 1)?;
+    append_moves(out, first_moves(moves, 2 * turn))?;
+    out.push(b'\n')?;
+    append_report(out, &stage.report)
+}
+
+fn append_stages(out: &mut Vec<u8>, moves: &[Move], stages: &[Stage]) -> Result<(), AllocError>
+    ensures { OnOk result (out.new.items ≡ out.old.items ++ stages_text moves.now 0 stages.now) }
+{
+    for (turn, stage) in stages.iter().enumerate() {
+        append_stage(out, moves, turn, stage)?;
+    }
+    Ok(())
+}
+
+fn append_last_line(out: &mut Vec<u8>, stages: &[Stage]) -> Result<(), AllocError>
+    ensures { OnOk result (out.new.items ≡ out.old.items
+        ++ line (codes "line " ++ word_text (word_along stages.now)
+        ++ 32 ∷ decimal (length stages.now))) }
+{
+    out.extend_from_slice(b"line ")?;
+    out.extend_from_slice(text_of_word(line_word(stages)))?;
+    out.push(b' ')?;
+    append_number(out, stages.len() as u64)?;
+    out.push(b'\n')?;
+    Ok(())
+}
+
 /// The whole text of a report: the line `cook WORD K`, with its word and how many first checks
 /// there are; for each a line `check M mate V N`, `check M escape A V N` or `check M unknown C`,
 /// and behind the first two the N entries that show it, of version V, in the form of a
@@ -122,8 +193,31 @@ pub fn report_text(alloc: Global, report: &Report) -> Result<Vec<u8>, AllocError
     ensures { IfOk result (λ text. text.items ≡ report_text report.now) }
 {
     let mut text = Vec::new(alloc);
-    append_first_line(&mut text, report)?;
-    append_lines(&mut text, report.lines())?;
-    text.extend_from_slice(b"end\n")?;
+    append_report(&mut text, report)?;
     Ok(text)
+}
+
+/// The whole text of what is told along a line: for each report the line `at K`, with its number
+/// from 1 and the moves of the line before it, a space before each, and its text; and the line
+/// `line WORD P`, with the line's word and how many reports there are. Errors: want of memory
+/// alone.
+pub fn along_text(alloc: Global, told: &ToldLine) -> Result<Vec<u8>, AllocError>
+    ensures { IfOk result (λ text. text.items
+        ≡ along_text told.now.moves.items told.now.stages.items) }
+{
+    let mut text = Vec::new(alloc);
+    append_stages(&mut text, &told.moves, &told.stages)?;
+    append_last_line(&mut text, &told.stages)?;
+    Ok(text)
+}
+
+/// The whole text of an answer: of a report, or of what is told along a line. Errors: want of
+/// memory alone.
+pub fn answer_text(alloc: Global, answer: &CookAnswer) -> Result<Vec<u8>, AllocError>
+    ensures { IfOk result (λ text. text.items ≡ answer_text answer.now) }
+{
+    match answer {
+        CookAnswer::Report(told) => report_text(alloc, &told.report),
+        CookAnswer::Lines(told) => along_text(alloc, told),
+    }
 }

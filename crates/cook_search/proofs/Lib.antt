@@ -3,3 +3,4 @@ pub mod Searches
 pub mod Walking
 pub mod Mated
 pub mod Checks
+pub mod Offered

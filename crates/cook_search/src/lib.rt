@@ -14,5 +14,6 @@ mod onlooker;
 mod reporting;
 
 pub use ground::Ground;
+pub use lines::behind;
 pub use onlooker::CheckOnlooker;
 pub use reporting::cook;

@@ -42,9 +42,9 @@ fn first_open(opened: Option<FirstOpen>, evasion: Move, cause: Cause) -> Option<
     }
 }
 
-// The problem behind a check and an evasion to it: the attacker is to move again, and the defender
-// has left the check.
-fn behind(problem: &Problem, check: Move, evasion: Move) -> Problem
+/// The problem behind a check and an evasion to it: the attacker is to move again, and the defender
+/// has left the check. Takes no memory.
+pub fn behind(problem: &Problem, check: Move, evasion: Move) -> Problem
     requires check { IsCheck problem.now.position.side problem.now.position check }
     requires evasion { IsEvasion problem.now.position.side
         (after problem.now.position check) evasion }

@@ -14,7 +14,7 @@ use std::process::Abort;
 use std::test::Fail;
 
 // The knight mates with the gold; after the silver the king goes up.
-const PROBLEM: &str = "8k/6S2/8N/7G1/9/9/9/9/9 b -";
+pub(crate) const PROBLEM: &str = "8k/6S2/8N/7G1/9/9/9/9/9 b -";
 
 const MATED: &str =
     "certificate 1 mate 1\nproblem 8k/6S2/8N/7G1/9/9/9/9/9 b -\n1 2d2c 7+N1/6S1k/9/7G1/9/9/9/9/9 b -\nend\n";
@@ -108,7 +108,7 @@ fn line_of(rt: &impl Abort, alloc: Global, letter: char) -> Result<Line, Fail> {
     })
 }
 
-fn report_of(rt: &impl Abort, alloc: Global, letters: &str) -> Result<Report, Fail> {
+pub(crate) fn report_of(rt: &impl Abort, alloc: Global, letters: &str) -> Result<Report, Fail> {
     let mut lines = Vec::new(alloc);
     for letter in letters.chars() {
         lines.push(line_of(rt, alloc, letter)?)?;

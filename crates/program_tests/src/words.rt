@@ -103,6 +103,10 @@ static ASKED: [(&str, &str); 77] = [
         "cook --workers 2 --rest --kif --deadline 7 --progress a.kif",
         "cook 2 1000000 1000000000 65536 64 true kif until 7 telling of a.kif",
     ),
+    (
+        "cook --line G*5b_5a4a --rest",
+        "cook 1 1000000 1000000000 65536 64 true along G*5b 5a4a",
+    ),
     ("check", "check"),
     ("check --workers 3", "check by 3"),
     ("check --problem 4k4/9 --workers 2", "check 4k4/9 by 2"),
@@ -440,6 +444,10 @@ static HELPED: [(&str, &str); 40] = [
     ),
     ("help cook", "Usage: tsume cook [OPTIONS] [FILE]\n"),
     ("cook -h", "sound, exactly one first check mates"),
+    (
+        "cook --help",
+        "\n      --line <MOVES>    Report at each check along these moves of a solution:\n",
+    ),
     ("help check", "Usage: tsume check [OPTIONS] [FILE]\n"),
     ("help record", "Usage: tsume record [FILE]\n"),
     ("help upgrade", "Usage: tsume upgrade [FILE]\n"),
@@ -506,7 +514,7 @@ static HIDDEN: [&str; 2] = ["--workers", "--shards"];
 fn command_text(alloc: Global, command: &Command) -> Result<String, AllocError> {
     match command {
         Command::Solve(asked) => search_text(alloc, "solve", asked),
-        Command::Cook(Cook { solve }) => search_text(alloc, "cook", solve),
+        Command::Cook(asked) => cook_text(alloc, asked),
         Command::Shortest(asked) => shortest_text(alloc, asked),
         Command::Check(asked) => check_text(alloc, asked),
         Command::Survey(asked) => survey_text(alloc, asked),
@@ -530,6 +538,14 @@ fn search_text(alloc: Global, name: &str, asked: &Solve) -> Result<String, Alloc
     let form = form_text(alloc, asked.form)?;
     let search = format!(in alloc; "{name} {workers} {expansions} {room} {rows} {shards} {form}")?;
     watched_text(alloc, search, asked.watch)
+}
+
+fn cook_text(alloc: Global, asked: &Cook) -> Result<String, AllocError> {
+    let cook = search_text(alloc, "cook", &asked.solve)?;
+    match &asked.line {
+        Some(line) => format!(in alloc; "{cook} along {line}"),
+        None => Ok(cook),
+    }
 }
 
 fn shortest_text(alloc: Global, asked: &Shortest) -> Result<String, AllocError> {

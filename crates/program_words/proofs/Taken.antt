@@ -32,7 +32,7 @@ pub record IsFit (line : App) : Type 0 where
 
 -- in the order of the help, whose own command is the last
 pub fit : IsFit tsume_line
-unfolding tsume_line Rattle.cmd_solve.specs.Line.search_line Rattle.cmd_shortest.specs.Line.shortest_line Rattle.cmd_check.specs.Line.check_line Rattle.cmd_survey.specs.Line.survey_line Rattle.cmd_collection.specs.Line.collection_line Rattle.cmd_solution.specs.Line.solution_line Rattle.cmd_record.specs.Line.record_line Rattle.cmd_upgrade.specs.Line.upgrade_line Rattle.cmd_usi.specs.Line.usi_line clap_on_literals
+unfolding tsume_line Rattle.cmd_solve.specs.Line.search_line Rattle.cmd_shortest.specs.Line.shortest_line Rattle.cmd_cook.specs.Line.cook_line Rattle.cmd_check.specs.Line.check_line Rattle.cmd_survey.specs.Line.survey_line Rattle.cmd_collection.specs.Line.collection_line Rattle.cmd_solution.specs.Line.solution_line Rattle.cmd_record.specs.Line.record_line Rattle.cmd_upgrade.specs.Line.upgrade_line Rattle.cmd_usi.specs.Line.usi_line clap_on_literals
 fit = record {
   simple = refl;
   alone = refl;

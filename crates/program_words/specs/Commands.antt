@@ -21,7 +21,7 @@ use Rattle.program_words.specs.declared.command.Command.TheVariants as asks
 pub data CommandView : Type 0 where
   to_solve : solve.Meaning.SolveView → CommandView
   to_shortest : shortest.Asked.ShortestView → CommandView
-  to_cook : solve.Meaning.SolveView → CommandView
+  to_cook : cook.Asked.CookView → CommandView
   to_check : check.Words.CheckView → CommandView
   to_survey : survey.Words.SurveyView → CommandView
   to_collect : collection.Words.CollectView → CommandView
@@ -46,7 +46,7 @@ command_view (asks.Usi asked) = to_usi
 -- The numbers of the search that is asked for, where the words give them: they are tested.
 abbrev pub numbers_of : CommandView → Option SettingsView
 numbers_of (to_solve asked) = Some asked.settings
-numbers_of (to_cook asked) = Some asked.settings
+numbers_of (to_cook asked) = Some asked.solve.settings
 numbers_of (to_collect asked) = Some asked.settings
 numbers_of other = None
 

@@ -5,7 +5,8 @@
 pub enum Command {
     /// Solve the problem that is read.
     Solve(cmd_solve::Solve),
-    /// Tell of each first check of the problem that is read whether it mates.
+    /// Tell of each first check of the problem that is read whether it mates, or of those along a
+    /// line from it.
     Cook(cmd_cook::Cook),
     /// Look for the shortest mate of the problem that is read.
     Shortest(cmd_shortest::Shortest),

@@ -19,6 +19,7 @@ use Rattle.run_telling.specs.Telling.{Telling, BeginsAsTold, MayFollowMoves, May
 use Rattle.cmd_collection.specs.Counts.{counts_status}
 use Rattle.cmd_shortest.specs.Text.{answer_status as shortest_status}
 use Rattle.cmd_bound.specs.Text.{bound_status}
+use Rattle.cmd_cook.specs.FaultText.{MayFollowCook, cook_fault_text}
 use Rattle.cmd_cook.specs.Text.{answer_status as cook_status}
 use Rattle.shortest_text.specs.FaultText.{shortest_fault_text}
 use Rattle.cmd_record.specs.Text.{answer_status, fault_text}
@@ -40,7 +41,7 @@ use Rattle.tsume_app.specs.Run.{IsKept, GivesFault, GivesHelp, WantsMemory}
 -- asked for.
 abbrev pub limit_told : CommandView → Option ℕ
 limit_told (to_solve asked) = if asked.watch.progress then Some asked.settings.expansions else None
-limit_told (to_cook asked) = if asked.watch.progress then Some asked.settings.expansions else None
+limit_told (to_cook asked) = if asked.solve.watch.progress then Some asked.solve.settings.expansions else None
 limit_told (to_shortest asked) = if asked.watch.progress then Some asked.expansions else None
 limit_told other = None
 
@@ -84,7 +85,7 @@ by_refusing refusal = record { status = refusal_status refusal; telling = refusa
 abbrev pub left_by : Ended → Left
 left_by (ends.Solve ended) = by_reading solution_status problem_fault_text MayFollowProblem ended
 left_by (ends.Shortest ended) = by_reading shortest_status problem_fault_text MayFollowProblem ended
-left_by (ends.Cook ended) = by_reading cook_status problem_fault_text MayFollowProblem ended
+left_by (ends.Cook ended) = by_reading cook_status cook_fault_text MayFollowCook ended
 left_by (ends.Check ended) = by_reading judgement_status certificate_fault_text (λ fault. IsPlain) ended
 left_by (ends.Bound ended) = by_reading bound_status shortest_fault_text (λ fault. IsPlain) ended
 left_by (ends.Survey ended) = by_writing (λ summary. 0) ended

@@ -65,7 +65,7 @@ pub enum Ended {
     /// As `shortest`.
     Shortest(one_run::Ended<cmd_shortest::ShortestAnswer, ProblemFault>),
     /// As `cook`.
-    Cook(one_run::Ended<cmd_cook::CookAnswer, ProblemFault>),
+    Cook(one_run::Ended<cmd_cook::CookAnswer, cmd_cook::CookFault>),
     /// As `check`.
     Check(one_run::Ended<app_texts::Judgement, cert_text::CertFault>),
     /// As `check` where it is asked for a bound.

@@ -281,7 +281,8 @@ pub(crate) fn tells_accepted(words: &WordsRead) -> bool {
 /// that it is unknown, and why. `shortest` reads a problem likewise, and writes how many moves its
 /// shortest mate takes, with the certificate and a bound, which `check --bound` reads, or that
 /// there is none up to a limit, or that it is unknown. `cook` reads a problem likewise, and writes
-/// of each first check whether it mates, with what shows it, and one word for all. `check` reads a
+/// of each first check whether it mates, with what shows it, and one word for all; with `--line` it
+/// does so at each turn of the attacker along these moves, and a word for the line. `check` reads a
 /// certificate, perhaps behind the line of the USI answer, and writes whether it is valid for its
 /// own problem, or for the one that `--problem` gives (SFEN), or the first reason why it isn't; a
 /// certificate of another problem isn't valid for it. With `--bound` it reads a mate's certificate
@@ -307,11 +308,12 @@ pub(crate) fn tells_accepted(words: &WordsRead) -> bool {
 /// positions, as the worker that visits it (no clause says it), and no other command does. Where
 /// the words ask for it, `collection` tells the gate which lines are decided, and its deadlines go
 /// by the gate's clock, with stops of its own. The stops, one for each worker that there may be,
-/// are armed once, with the deadline that the words give or with none, when `solve` or `cook` has
-/// accepted its problem, and before that they aren't used; then each worker polls the one at its
-/// place. `shortest` uses the first alone in the same way, and `usi` all of them for each problem that
-/// it solves. Only `solve`, `cook` and `usi` with several workers wait, for them: who asks for another command may call it in its own crate, without the
-/// handle for waiting. (The tsume rule; USI protocol: `checkmate`.)
+/// are armed once, with the deadline that the words give or with none, when `solve` has accepted
+/// its problem, or `cook` its problem and line, and before that they aren't used; then each worker
+/// polls the one at its place. `shortest` uses the first alone in the same way, and `usi` all of
+/// them for each problem that it solves. Only `solve`, `cook` and `usi` with several workers wait,
+/// for them: who asks for another command may call it in its own crate, without the handle for
+/// waiting. (The tsume rule; USI protocol: `checkmate`.)
 pub fn run<
     R: Threads + Wait + AllocGlobal + Sync,
     S: Source,

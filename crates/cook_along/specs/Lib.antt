@@ -1,0 +1,3 @@
+-- This project's.
+pub mod Found
+pub mod Inside
