@@ -95,6 +95,8 @@ pub(crate) fn decide<R: Threads + Wait + AllocGlobal + Sync, G: Gate, T: Stop + 
 {
     let (settings, gate) = (ground.settings, ground.gate);
     let stops = &mut means.stops;
-    let end = means.tables.search(ground.rt, position, settings, gate, stops)?;
+    let end = means
+        .tables
+        .search(ground.rt, position, settings, gate, stops)?;
     found_by(ground.rt.alloc(), position, end, &mut means.crews)
 }

@@ -5,8 +5,11 @@ ghost use Rattle.search_limits.specs.declared.settings.TheConstants.{MOST_WORKER
 use crate::same::same;
 use cmd_usi::{TalkEnd, usi};
 use search_gate::{MemStop, OpenGate};
+use search_limits::MOST_WORKERS;
 use std::alloc::{AllocError, Global};
+use std::sync::Wait;
 use std::test::Fail;
+use std::thread::Threads;
 use tsume_io::{MemSink, MemSource};
 
 // A stop for each worker that there may be; the first signals at its poll of this number, 0 for
@@ -15,7 +18,7 @@ fn stops_at(alloc: Global, poll: u64) -> Result<Vec<MemStop>, AllocError>
     ensures { IfOk result (λ stops. MOST_WORKERS ≤ length stops.items) }
 {
     let mut stops = Vec::new(alloc);
-    for worker in 0..64 {
+    for worker in 0..MOST_WORKERS {
         let at = if worker == 0 { poll } else { 0 };
         stops.push(MemStop::new(vec![in alloc; at]?))?;
     }
@@ -27,8 +30,8 @@ type Seen = (TalkEnd, usize, String);
 
 // A session over a text that comes in such pieces, whose sink fails at its call of this number, and
 // whose first stop signals at its poll of this number, 0 for none.
-fn seen_of(
-    rt: &HostRuntime,
+fn seen_of<R: Threads + Wait + AllocGlobal + Sync>(
+    rt: &R,
     text: &str,
     piece: usize,
     write: u64,

@@ -268,6 +268,14 @@ pub(crate) fn tells_accepted(words: &WordsRead) -> bool {
     }
 }
 
+/// Whether the words ask for a session. No clause depends on it.
+pub(crate) fn asks_for_session(words: &WordsRead) -> bool {
+    match words.reading() {
+        Ok(asked) => matches!(&asked.command, Command::Usi(_)),
+        Err(_) => false,
+    }
+}
+
 /// Runs the program on the words of the command line, those behind the program's name, which were
 /// read ([`WordsRead::new`](program_words::WordsRead::new)). What they ask for is what clap says of
 /// them, and three tests after it; words that are refused end the run before anything is read. So

@@ -9,13 +9,15 @@ use crate::ended::{Ended, Refusal};
 use crate::exit::Exit;
 use crate::front::Front;
 use crate::pipe::Pipe;
-use crate::program::{named_file, run, tells_accepted, told_limit};
+use crate::program::{asks_for_session, named_file, run, tells_accepted, told_limit};
 use crate::progress::{Clearing, Progress};
 use cmd_collection::Onlooker;
 use cmd_cook::CheckOnlooker;
 use cmd_shortest::LengthOnlooker;
 use explanations::{Trouble, explain};
+use input_lines::MOST_INPUT_BYTES;
 use program_words::WordsRead;
+use reading_ahead::{HeardStop, Queue, read_ahead};
 use search_gate::{DeadlineStop, Gate, Stop};
 use search_limits::MOST_WORKERS;
 use std::alloc::{AllocError, Global};
@@ -278,10 +280,8 @@ fn stops_by<R: Clock + AllocGlobal + Sync>(
 fn run_on_file<
     R: io::Input + Print + Eprint + Files + Clock + AllocGlobal + Threads + Wait + Sync,
     W: io::Write + Drop,
->(rt: &R, words: Vec<String>, errors: W) -> u8 {
+>(rt: &R, words: WordsRead, is_collection: bool, errors: W) -> u8 {
     let alloc = rt.alloc();
-    let is_collection = are_for(&words, "collection");
-    let words = WordsRead::new(alloc, words);
     let Ok(file) = named_file(alloc, &words) else {
         return fail(alloc, Refusal::NoMemory, errors);
     };
@@ -318,6 +318,94 @@ fn run_on_file<
     status
 }
 
+// The most bytes that are read ahead of a session.
+const MOST_AHEAD: usize = MOST_INPUT_BYTES;
+
+// A stop for each worker that there may be, by the system's clock, that hears what is read ahead of
+// a session.
+fn heard_stops<R: Clock + Wait + AllocGlobal + Copy + Drop + Send + Sync + 'static>(
+    rt: &R,
+    queue: &Queue<R>,
+) -> Result<Vec<HeardStop<StdClock<R>>>, AllocError>
+    ensures { IfOk result (λ stops. vec_len stops ≡ MOST_WORKERS) }
+{
+    let mut stops = Vec::new(rt.alloc());
+    for _worker in 0..MOST_WORKERS {
+        stops.push(HeardStop::new(StdClock::new(*rt), queue.listener()?))?;
+    }
+    Ok(stops)
+}
+
+// The program over a session, whose input is read ahead on a thread. What comes back is the exit
+// status.
+fn run_on_session<
+    R: io::Input
+        + Print
+        + Eprint
+        + Clock
+        + AllocGlobal
+        + Threads
+        + Wait
+        + Copy
+        + Drop
+        + Send
+        + Sync
+        + 'static,
+    W: io::Write + Drop,
+>(rt: &R, words: WordsRead, errors: W) -> u8
+where
+    R::Reader: Send + 'static,
+{
+    let alloc = rt.alloc();
+    let clock = StdClock::new(*rt);
+    let Ok(queue) = read_ahead(*rt, alloc, rt.reader(), clock, MOST_AHEAD) else {
+        return fail(alloc, Refusal::NoMemory, errors);
+    };
+    let Ok(mut stops) = heard_stops(rt, &queue) else {
+        return fail(alloc, Refusal::NoMemory, errors);
+    };
+    let progress = Progress::new(rt, None);
+    let mut streams = Streams {
+        source: queue,
+        sink: StdSink::new(Clearing::new(&progress, io::writer(rt))),
+        errors: StdSink::new(Clearing::new(&progress, errors)),
+    };
+    let status = run_and_tell(rt, words, &mut streams, &progress, &progress, &mut stops);
+    let Streams { source, errors, .. } = &mut streams;
+    if let Some(reason) = source.reason() {
+        tell_reason(alloc, &None, reason, errors);
+    }
+    status
+}
+
+// The program over the words. What comes back is the exit status.
+fn run_on_words<
+    R: io::Input
+        + Print
+        + Eprint
+        + Files
+        + Clock
+        + AllocGlobal
+        + Threads
+        + Wait
+        + Copy
+        + Drop
+        + Send
+        + Sync
+        + 'static,
+    W: io::Write + Drop,
+>(rt: &R, words: Vec<String>, errors: W) -> u8
+where
+    R::Reader: Send + 'static,
+{
+    let is_collection = are_for(&words, "collection");
+    let words = WordsRead::new(rt.alloc(), words);
+    if asks_for_session(&words) {
+        return run_on_session(rt, words, errors);
+    }
+    run_on_file(rt, words, is_collection, errors)
+}
+
 /// The program over the words of the command line, the file that they name or the standard input,
 /// the standard output, and a writer for what the user is told: see [`named_file`] and
 /// [`run_and_tell`]. Words that are no UTF-8 are refused. Where reading failed, a second line tells
@@ -328,14 +416,32 @@ fn run_on_file<
 /// length is asked about, once its first search has ended, of `cook` which check is searched. Of a
 /// collection a line tells so, about once a second, how many problems are decided; and behind the
 /// answer of `check` one tells the problem that was accepted. Where the text of a collection with a
-/// fault begins as a record does, the user is told so once. What comes back ends the process with
-/// the exit status.
+/// fault begins as a record does, the user is told so once. The input of `usi` is read ahead on a
+/// thread: a search hears a line `stop` that the session hasn't come to, and one without a time
+/// ends a second after `quit` or the end of the input; where that thread can't be made, the session
+/// doesn't begin, as for want of memory. What comes back ends the process with the exit status.
 pub fn start<
-    R: Env + io::Input + Print + Eprint + Files + Clock + AllocGlobal + Threads + Wait + Sync,
+    R: Env
+        + io::Input
+        + Print
+        + Eprint
+        + Files
+        + Clock
+        + AllocGlobal
+        + Threads
+        + Wait
+        + Copy
+        + Drop
+        + Send
+        + Sync
+        + 'static,
     W: io::Write + Drop,
->(rt: &R, errors: W) -> Exit {
+>(rt: &R, errors: W) -> Exit
+where
+    R::Reader: Send + 'static,
+{
     let status = match words(rt) {
-        Ok(words) => run_on_file(rt, words, errors),
+        Ok(words) => run_on_words(rt, words, errors),
         Err(error) => fail(rt.alloc(), refusal_of(&error), errors),
     };
     Exit { status }
