@@ -319,9 +319,9 @@ impl<J: Job + Send + Sync, K: Job + Send + Sync> Kept<J, K> {
     }
 }
 
-/// Searches a problem with one worker, as the settings say, which polls the first stop: [`search`](crate::search)
-/// without threads, which takes no lock and waits for nobody. Takes the table's memory at once:
-/// about 1 KB a row. Errors: want of memory alone.
+/// Searches a problem with one worker, as the settings say, which polls the first stop:
+/// [`search`](crate::search) without threads, which takes no lock and waits for nobody. Takes the
+/// table's memory at once: about 1 KB a row. Errors: want of memory alone.
 pub fn search_by_one<G: Gate, T: Stop>(
     alloc: Global,
     problem: &Problem,

@@ -51,7 +51,13 @@ fn any_pieces_make_the_same_lines(rt: HostRuntime) -> Result<(), Fail> {
 #[test]
 fn a_read_that_fails_is_told_behind_whole_lines(rt: HostRuntime) -> Result<(), Fail> {
     let alloc = rt.alloc();
-    for (call, wanted) in [(1, " Fault"), (3, "[ab] Fault"), (9, "[ab][c] over")] {
+    let rows = [
+        (1, " Fault"),
+        (2, "[ab] Fault"),
+        (3, "[ab][c] Fault"),
+        (9, "[ab][c] over"),
+    ];
+    for (call, wanted) in rows {
         let found = lines_of(alloc, b"ab\nc\n", 3, vec![in alloc; call]?)?;
         same(&rt, call, found.as_str(), wanted);
     }

@@ -302,8 +302,8 @@ pub(crate) fn asks_for_session(words: &WordsRead) -> bool {
 /// over threads, and writes how many are mates, have none, or were given up. `collection` reads a
 /// text with a problem in each line, and writes for each, in order, that it is a mate, with a main
 /// line, that it is none, that it was given up, or what its fault is, perhaps with certificates,
-/// and the counts behind the last; a faulty line doesn't end the run. `usi` serves a mate session of
-/// the USI protocol: it takes a line of the source, does and writes what the session does at it,
+/// and the counts behind the last; a faulty line doesn't end the run. `usi` serves a mate session
+/// of the USI protocol: it takes a line of the source, does and writes what the session does at it,
 /// and takes the next.
 ///
 /// Everything else ends with a named fault and its cause: more than
@@ -312,16 +312,16 @@ pub(crate) fn asks_for_session(words: &WordsRead) -> bool {
 /// [`MOST_CERTIFICATE_BYTES`](crate::MOST_CERTIFICATE_BYTES) of a certificate; a text that is no
 /// problem or no certificate, with its first fault; a source or a sink whose count of faults rose;
 /// want of memory. The whole text is made before the first write, but for a collection, whose
-/// reports are written one by one, and a session. `solve`, `shortest` and `cook` pass the gate for visits of
-/// positions, as the worker that visits it (no clause says it), and no other command does. Where
-/// the words ask for it, `collection` tells the gate which lines are decided, and its deadlines go
-/// by the gate's clock, with stops of its own. The stops, one for each worker that there may be,
-/// are armed once, with the deadline that the words give or with none, when `solve` has accepted
-/// its problem, or `cook` its problem and line, and before that they aren't used; then each worker
-/// polls the one at its place. `shortest` uses the first alone in the same way, and `usi` all of
-/// them for each problem that it solves. Only `solve`, `cook` and `usi` with several workers wait,
-/// for them: who asks for another command may call it in its own crate, without the handle for
-/// waiting. (The tsume rule; USI protocol: `checkmate`.)
+/// reports are written one by one, and a session. `solve`, `shortest`, `cook` and `usi` pass the
+/// gate for visits of positions, as the worker that visits it (no clause says it), and no other
+/// command does. Where the words ask for it, `collection` tells the gate which lines are decided,
+/// and its deadlines go by the gate's clock, with stops of its own. The stops, one for each worker
+/// that there may be, are armed once, with the deadline that the words give or with none, when
+/// `solve` has accepted its problem, or `cook` its problem and line, and before that they aren't
+/// used; then each worker polls the one at its place. `shortest` uses the first alone in the same
+/// way, and `usi` all of them for each problem that it solves. Only `solve`, `cook` and `usi` with
+/// several workers wait, for them: who asks for another command may call it in its own crate,
+/// without the handle for waiting. (The tsume rule; USI protocol: `checkmate`.)
 pub fn run<
     R: Threads + Wait + AllocGlobal + Sync,
     S: Source,

@@ -18,9 +18,9 @@ reply_line (Mate c moves) = line (mate_text moves)
 reply_line (NoMate c) = line nomate_text
 reply_line (Unknown cause crew) = line timeout_text
 
--- A reply is one to a problem with these settings and this time: that was asked, and its solution is
--- true of the problem. Each stop was armed once for the time, or for none, before any was polled,
--- and only the workers' were.
+-- A reply is one to a problem with these settings and this time: that was asked, and its solution
+-- is true of the problem. Each stop was armed once for the time, or for none, before any was
+-- polled, and only the workers' were.
 pub record IsReplyTo (p : Board) (s : SettingsView) (limit : Option ℕ) (stops : Signals) (reply : Reply) : Type 0 where
   pub problem : reply.asked.problem.position ≡ p
   pub settings : settings_in reply.asked.settings ≡ s
