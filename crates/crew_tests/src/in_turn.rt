@@ -176,7 +176,7 @@ fn drawn_in_world(
 }
 
 // Searches the problem of a row by two workers in turn, and has a world of two do the same.
-fn take_turns<R: Threads + Wait + Abort + Sync>(
+fn take_turns<R: Threads + Wait + AllocGlobal + Abort + Sync>(
     rt: &R,
     alloc: Global,
     row: u64,

@@ -1,10 +1,10 @@
 //! Tests of the edge of a session: what a thread reads ahead, what is handed on of it, and when a
 //! stop hears it.
 //!
-//! They call public calls alone. Without tests this crate is empty.
+//! They call public calls alone. Without tests this crate has their reader and their clock, whose
+//! definitions stand in specs/.
 #![tactic(auto)]
 
-#[cfg(test)]
 mod given;
 #[cfg(test)]
 mod handed_on;

@@ -22,18 +22,20 @@ one_more a b c first byte p q = record {
 }
 
 -- a line and its line feed were given
-pub whole_line : (before after : Place) (line : List ℕ) → HasNoFeed line → length line ≤ MOST_LINE_BYTES → Gave before after (line ++ 10 ∷ []) → IsLineGiven before after line
-whole_line before after line no_feed within gave = record {
+pub whole_line : (before after : Place) (line : List ℕ) → HasNoFeed line → length line ≤ MOST_LINE_BYTES → after.given ≤ MOST_INPUT_BYTES → Gave before after (line ++ 10 ∷ []) → IsLineGiven before after line
+whole_line before after line no_feed within few gave = record {
   is_line = record { no_feed = no_feed; within = within };
+  within = few;
   bytes = line ++ 10 ∷ [];
   for_line = inl refl;
   gave = gave;
 }
 
 -- a last line was given
-pub last_line : (before after : Place) (line : List ℕ) → HasNoFeed line → length line ≤ MOST_LINE_BYTES → line ≢ [] → IsOver after → Gave before after line → IsLineGiven before after line
-last_line before after line no_feed within some over gave = record {
+pub last_line : (before after : Place) (line : List ℕ) → HasNoFeed line → length line ≤ MOST_LINE_BYTES → after.given ≤ MOST_INPUT_BYTES → line ≢ [] → IsOver after → Gave before after line → IsLineGiven before after line
+last_line before after line no_feed within few some over gave = record {
   is_line = record { no_feed = no_feed; within = within };
+  within = few;
   bytes = line;
   for_line = inr (refl, some, over);
   gave = gave;

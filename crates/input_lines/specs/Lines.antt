@@ -64,9 +64,10 @@ pub record HasMore (place : Place) : Type 0 where
 abbrev pub IsGivenFor : List ℕ → Place → List ℕ → Type 0
 IsGivenFor line after bytes = (bytes ≡ line ++ 10 ∷ []) ⊎ ((bytes ≡ line) × (line ≢ []) × IsOver after)
 
--- A line was given.
+-- A line was given, and no more bytes so far than an input may have.
 pub record IsLineGiven (before after : Place) (line : List ℕ) : Type 0 where
   pub is_line : IsLine line
+  pub within : after.given ≤ MOST_INPUT_BYTES
   pub bytes : List ℕ
   pub for_line : IsGivenFor line after bytes
   pub gave : Gave before after bytes

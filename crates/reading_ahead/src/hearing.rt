@@ -1,7 +1,8 @@
 // What is heard of the input ahead: two words that the reading thread writes, the queue settles
 // and each stop looks at.
 ghost use Rattle.std.specs.Prelude.{◌≡◌, None, false};
-ghost use Rattle.reading_ahead.specs.Hearing.{heard_by};
+ghost use Rattle.search_gate.specs.Stop.{one_more};
+ghost use Rattle.reading_ahead.specs.Hearing.{asks_of, heard_by};
 
 use std::alloc::AllocError;
 use std::sync::Arc;
@@ -69,12 +70,14 @@ impl Hearing {
     }
 }
 
-/// Tells what is heard of the input that is read ahead. It is trusted: a clause says of an answer
-/// no more than that it was the last.
+/// Tells what is heard of the input that is read ahead. It is trusted: clauses say of an answer no
+/// more than that it was the last, and how often it was asked.
 #[derive(Drop)]
 pub struct Listener {
     hearing: Arc<Hearing>,
     heard: Heard,
+    // How often it was asked, up to 2^64 - 1.
+    asks: u64,
 }
 
 impl Listener {
@@ -86,14 +89,17 @@ impl Listener {
                 stop_waits: false,
                 left_at: None,
             },
+            asks: 0,
         })
     }
 
     /// What was heard by now. It reads one atomic, and a second one where `quit` or the end was
     /// read. It takes no memory and waits for nobody.
     pub fn listen(&mut self) -> Heard
-        ensures { result ≡ heard_by self.new }
+        ensures heard { result ≡ heard_by self.new }
+        ensures asked { asks_of self.new ≡ one_more (asks_of self.old) }
     {
+        self.asks = self.asks.saturating_add(1);
         self.heard = self.hearing.heard();
         self.heard
     }

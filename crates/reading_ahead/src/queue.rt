@@ -1,5 +1,5 @@
 // The queue of what a thread reads ahead, as a source.
-ghost use Rattle.std.specs.Prelude.{◌≡◌, ◌-◌, ◌^◌, ◌<◌, ◌≤◌, ◌++◌, [], None, true, false, is_some, length, take, drop, IfOk, OnOk, OnErr, vec_len};
+ghost use Rattle.std.specs.Prelude.{◌≡◌, ◌-◌, ◌^◌, ◌<◌, ◌≤◌, ◌++◌, [], None, true, false, is_some, length, take, drop, IfOk, IsOkAnd, OnOk, OnErr, vec_len};
 ghost use Rattle.tsume_io.specs.Faults.{Rose, one_more};
 ghost use Rattle.reading_ahead.specs.Handing.{IsOfOneLine};
 
@@ -95,6 +95,7 @@ impl<W: Wait + Drop> Queue<W> {
     // Hands on what there is of the front's first line, and notes what that says.
     fn hand_on(&mut self, into: &mut [u8]) -> usize
         ensures within { result ≤ length into.new }
+        ensures some { 0 < length (fetched self.old) → 0 < length into.new → 0 < result }
         ensures line { IsOfOneLine (take result into.new) }
         ensures in_order { fetched self.old ≡ take result into.new ++ fetched self.new }
         ensures reason { has_reason self.new ≡ has_reason self.old }
@@ -165,6 +166,10 @@ impl<W: Wait + Drop> Source for Queue<W> {
         ensures line { IfOk result (λ n. IsOfOneLine (take n into.new)) }
         ensures in_order { 0 < length (fetched self.old)
             → IfOk result (λ n. fetched self.old ≡ take n into.new ++ fetched self.new) }
+
+        // Where something is left of what was fetched, a read doesn't fail, and gives a byte.
+        ensures some { 0 < length (fetched self.old) → 0 < length into.new
+            → IsOkAnd result (λ n. 0 < n) }
     {
         if into.is_empty() {
             return Ok(0);

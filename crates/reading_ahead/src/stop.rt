@@ -1,9 +1,9 @@
 // The stop that hears what is read ahead.
 ghost use Rattle.std.specs.Prelude.{◌≡◌, ◌↔◌, IsTrue, None};
-ghost use Rattle.search_gate.specs.Stop.{armed_with, polled};
+ghost use Rattle.search_gate.specs.Stop.{armed_with, one_more, polled};
 ghost use Rattle.search_gate.specs.Deadline.{asked_for, end_after};
 ghost use Rattle.reading_ahead.specs.Ends.{IsToStop, asked_at, clock_of, end_in_force, end_of, heard_signal, listener_of};
-ghost use Rattle.reading_ahead.specs.Hearing.{heard_by};
+ghost use Rattle.reading_ahead.specs.Hearing.{asks_of, heard_by};
 
 use crate::hearing::Listener;
 use search_gate::{Clock, Stop};
@@ -90,8 +90,10 @@ impl<C: Clock + Drop> Stop for HeardStop<C> {
     fn poll(&mut self) -> bool
         // As each stop.
         ensures polled { heard_signal self.new ≡ polled (heard_signal self.old) result }
-        // As this one alone: it signals exactly where what it hears at this poll, or its end, says
-        // so.
+        // As this one alone: it listens once, and signals exactly where what it hears then, or its
+        // end, says so.
+        ensures heard { asks_of (listener_of self.new)
+            ≡ one_more (asks_of (listener_of self.old)) }
         ensures stops { IsTrue result ↔ IsToStop (heard_by (listener_of self.new))
             (end_of self.old) (C.answered (clock_of self.new)) }
         ensures end { end_of self.new ≡ end_of self.old }

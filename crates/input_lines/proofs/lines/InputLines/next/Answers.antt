@@ -20,7 +20,7 @@ returns-then-byte-eq-LINE_FEED-clause-line g c =
     let line = c.loop-line.line.items in
     let so_far = c.loop-line.invariant in
     let byte = byte_given between after c.in-Some.byte c.in_ok-byte.field-0 c.in-Some.is c.in_ok-byte.ensures.byte in
-    whole_line before after line so_far.no_feed (search rules)
+    whole_line before after line so_far.no_feed (search rules) c.next_byte.ensures.within
     (subst (λ (b : ℕ). Gave before after (line ++ b ∷ [])) c.if-byte-eq-LINE_FEED.true (one_more before between after line c.in-Some.byte so_far.gave byte))
 
 -- The line has as many bytes as it may, and the next is no line feed.
