@@ -19,7 +19,7 @@ use tsume_words::{Format, ProblemForm, Watch, WordsEnd};
 // Of the commands over many problems the seed, the count and the expansions; or the settings,
 // whether `--rest` stands, `told` where `--certificates` does, `until` the deadline, and `by` the
 // threads.
-static ASKED: [(&str, &str); 77] = [
+static ASKED: [(&str, &str); 78] = [
     ("solve", "solve 1 1000000 1000000000 65536 64 false"),
     ("solve --rest", "solve 1 1000000 1000000000 65536 64 true"),
     (
@@ -388,7 +388,7 @@ static REFUSED: [(&str, &str); 47] = [
 ];
 
 // A request for help or for the version, and a part of its text.
-static HELPED: [(&str, &str); 40] = [
+static HELPED: [(&str, &str); 41] = [
     ("--version", "tsume 0.1.0\n"),
     ("-V --help", "tsume 0.1.0\n"),
     ("--help", "Usage: tsume <COMMAND>\n"),
