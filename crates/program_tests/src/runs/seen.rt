@@ -55,6 +55,7 @@ fn answer_and_input(ended: &Ended) -> (bool, usize) {
         Ended::Solution(ended) => own(ended),
         Ended::Record(ended) => own(ended),
         Ended::Upgrade(ended) => own(ended),
+        Ended::Usi(_) => (true, 0),
         Ended::Help(ended) => own_written(ended),
         Ended::Refused(_) => (false, 0),
     }
