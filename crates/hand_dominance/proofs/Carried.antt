@@ -144,7 +144,7 @@ at_most zero n = inl (omega arith)
 at_most (suc m) zero = inr (λ h. omega (arith, h))
 at_most (suc m) (suc n) = elim (at_most m n) [ inl low ↦ inl (omega (arith, low)) | inr high ↦ inr (λ h. high (omega (arith, h))) ]
 
-can_fit : (by hand : List ℕ) → Fits by hand ⊎ (Fits by hand → ⊥)
+pub can_fit : (by hand : List ℕ) → Fits by hand ⊎ (Fits by hand → ⊥)
 can_fit [] [] = inl (record {})
 can_fit [] (h ∷ hand) = inr (λ f. f)
 can_fit (b ∷ by) [] = inr (λ f. f)
@@ -153,7 +153,7 @@ can_fit (b ∷ by) (h ∷ hand) = elim (at_most b h) [
   | inr high ↦ inr (λ f. high f.0)
 ]
 
-abbrev put_if : {A : Type 0} → A ⊎ (A → ⊥) → Board → List Board → List Board
+abbrev pub put_if : {A : Type 0} → A ⊎ (A → ⊥) → Board → List Board → List Board
 put_if (inl is) b s = b ∷ s
 put_if (inr isnt) b s = s
 
@@ -166,11 +166,11 @@ put_later : {A : Type 0} (c : A ⊎ (A → ⊥)) (b q : Board) (s : List Board) 
 put_later (inl is) b q s h = later b s q h
 put_later (inr isnt) b q s h = h
 
-put_first : {A : Type 0} (c : A ⊎ (A → ⊥)) (b : Board) (s : List Board) → A → Contains (put_if c b s) b
+pub put_first : {A : Type 0} (c : A ⊎ (A → ⊥)) (b : Board) (s : List Board) → A → Contains (put_if c b s) b
 put_first (inl is) b s a = first b s
 put_first (inr isnt) b s a = absurd (isnt a)
 
-put_cases : {A : Type 0} (c : A ⊎ (A → ⊥)) (b q : Board) (s : List Board) → Contains (put_if c b s) q → (A × (b ≡ q)) ⊎ Contains s q
+pub put_cases : {A : Type 0} (c : A ⊎ (A → ⊥)) (b q : Board) (s : List Board) → Contains (put_if c b s) q → (A × (b ≡ q)) ⊎ Contains s q
 put_cases (inl is) b q s h = elim (in_front b s q h) [ inl e ↦ inl (is, e) | inr there ↦ inr there ]
 put_cases (inr isnt) b q s h = inr h
 
@@ -260,11 +260,11 @@ evade_down attacker less more b black white s e = record {
 
 -- 5. A POSITION THAT DOMINATES ANOTHER.
 
-hand_long : (b : Board) (side : Side) → IsKept b → length (hand_of b side) ≡ 7
+pub hand_long : (b : Board) (side : Side) → IsKept b → length (hand_of b side) ≡ 7
 hand_long b Black k = k.black
 hand_long b White k = k.white
 
-fits_hands : (low high : List ℕ) → length low ≡ 7 → length high ≡ 7 → ((kind : Kind) → hand_count low kind ≤ hand_count high kind) → Fits low high
+pub fits_hands : (low high : List ℕ) → length low ≡ 7 → length high ≡ 7 → ((kind : Kind) → hand_count low kind ≤ hand_count high kind) → Fits low high
 fits_hands low high of_low of_high most = fits_by low high (of_low ∙ sym of_high) (λ i below.
     let k = kind_at i (omega (arith, below, of_low)) in
     subst (λ (place : ℕ). get_or low place 0 ≤ get_or high place 0) k.1 (most k.0))

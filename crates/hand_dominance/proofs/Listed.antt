@@ -8,7 +8,7 @@ use Rattle.board_core.specs.Kept.{IsKept}
 use Rattle.shogi_rules.specs.Rules.{after}
 use Rattle.shogi_rules.specs.Tsume.{IsCheck, IsEvasion}
 use Rattle.shogi_rules.proofs.Offered.{kept_after}
-use Rattle.mate_def.specs.Mate.{after_both, RankAtMost, Escapes}
+use Rattle.mate_def.specs.Mate.{after_both, RankAtMost, HasEvasionTo, Escapes}
 use Rattle.mate_facts.specs.declared.entry.MateEntry.{MateEntry}
 use Rattle.hand_dominance.specs.declared.version.Version.{Version}
 use Rattle.hand_dominance.specs.declared.version.Version.TheVariants.{One, Two}
@@ -135,38 +135,45 @@ escapes attacker s position closed inside = (
 
 -- the evasion that answers a check at the position above answers it below, and leads below what it
 -- led to
-pub none_below : (version : Version) (attacker : Side) (s : List Board) → AreKept s → AreClosed version s attacker → (n : ℕ) (position : Board)
-    → IsKept position → IsCovered Two s attacker position → RankAtMost attacker n position → ⊥
-none_below version attacker s all closed zero position kept low h = h
-none_below version attacker s all closed (suc n) position kept low h =
+pub answered_below : (version : Version) (attacker : Side) (s : List Board) → AreKept s → AreClosed version s attacker → (position : Board)
+    → IsKept position → IsCovered Two s attacker position → (check : Move) → IsCheck attacker position check
+    → HasEvasionTo attacker (λ q. IsKept q × IsCovered Two s attacker q) position check
+answered_below version attacker s all closed position kept low check checks =
     let b = low.listed in
     let less = less_in attacker b position in
     let more = more_in attacker b position in
     let begun = shifted_under attacker b position (all b low.inside) kept low.covers in
     let as_handed = same_board b position low.covers.cells low.covers.turn in
-    let is = subst (λ (it : Board). IsCheck attacker it h.0) as_handed h.1 in
-    let mid = after b h.0 in
+    let is = subst (λ (it : Board). IsCheck attacker it check) as_handed checks in
+    let mid = after b check in
     let at = handed b position.black position.white in
-    let down = after at h.0 in
-    let e = closed.held b low.inside h.0 (check_up attacker less more b position.black position.white h.0 begun is) in
-    let same = after_handed b position.black position.white h.0 in
-    let between = shifted_check attacker less more b position.black position.white h.0 begun is in
+    let down = after at check in
+    let e = closed.held b low.inside check (check_up attacker less more b position.black position.white check begun is) in
+    let same = after_handed b position.black position.white check in
+    let between = shifted_check attacker less more b position.black position.white check begun is in
     let last = shifted_evasion attacker less more mid down.black down.white e.evasion between e.is_evasion in
     let ends = after (handed mid down.black down.white) e.evasion in
-    let whole : after_both position h.0 e.evasion ≡ handed (after mid e.evasion) ends.black ends.white =
-    ap (λ (it : Board). after_both it h.0 e.evasion) as_handed
+    let whole : after_both position check e.evasion ≡ handed (after mid e.evasion) ends.black ends.white =
+    ap (λ (it : Board). after_both it check e.evasion) as_handed
     ∙ (ap (λ (it : Board). after it e.evasion) same ∙ after_handed mid down.black down.white e.evasion) in
-    let answers : IsEvasion attacker (after position h.0) e.evasion =
-    subst (λ (it : Board). IsEvasion attacker (after it h.0) e.evasion) (sym as_handed)
+    let answers : IsEvasion attacker (after position check) e.evasion =
+    subst (λ (it : Board). IsEvasion attacker (after it check) e.evasion) (sym as_handed)
     (subst (λ (it : Board). IsEvasion attacker it e.evasion) (sym same)
     (evasion_down attacker less more mid down.black down.white e.evasion between e.is_evasion)) in
-    let under : Dominates attacker (after mid e.evasion) (after_both position h.0 e.evasion) =
+    let under : Dominates attacker (after mid e.evasion) (after_both position check e.evasion) =
     subst (Dominates attacker (after mid e.evasion)) (sym whole)
     (above_shifted attacker less more (after mid e.evasion) ends.black ends.white last) in
-    none_below version attacker s all closed n (after_both position h.0 e.evasion) (both_kept attacker position h.0 e.evasion kept h.1 answers)
-    (record {
+    let covered : IsCovered Two s attacker (after_both position check e.evasion) = record {
       listed = e.leads.listed;
       inside = e.leads.inside;
-      covers = above_too attacker e.leads.listed (after mid e.evasion) (after_both position h.0 e.evasion)
+      covers = above_too attacker e.leads.listed (after mid e.evasion) (after_both position check e.evasion)
           (dominates version attacker e.leads.listed (after mid e.evasion) e.leads.covers) under;
-    }) (h.2 e.evasion answers)
+    } in
+    record { evasion = e.evasion; is_evasion = answers; leads = (both_kept attacker position check e.evasion kept checks answers, covered) }
+
+pub none_below : (version : Version) (attacker : Side) (s : List Board) → AreKept s → AreClosed version s attacker → (n : ℕ) (position : Board)
+    → IsKept position → IsCovered Two s attacker position → RankAtMost attacker n position → ⊥
+none_below version attacker s all closed zero position kept low h = h
+none_below version attacker s all closed (suc n) position kept low h =
+    let e = answered_below version attacker s all closed position kept low h.0 h.1 in
+    none_below version attacker s all closed n (after_both position h.0 e.evasion) e.leads.0 e.leads.1 (h.2 e.evasion e.is_evasion)

@@ -104,6 +104,12 @@ NoMateWhereCovered = (version : Version) (attacker : Side) (s : List Board) (pos
 abbrev pub EscapesWhereListed : Type 0
 EscapesWhereListed = (attacker : Side) (s : List Board) (position : Board) → AreClosed One s attacker → Contains s position → Escapes attacker position
 
+-- A law: where positions are closed, the defender escapes from each (that keeps what every position
+-- keeps) that one of them covers.
+abbrev pub EscapesWhereCovered : Type 0
+EscapesWhereCovered = (version : Version) (attacker : Side) (s : List Board) (position : Board) → AreKept s → AreClosed version s attacker
+    → IsKept position → IsCovered version s attacker position → Escapes attacker position
+
 -- A law: a position that is held in version 1 is held in each.
 abbrev pub HeldStays : Type 0
 HeldStays = (version : Version) (attacker : Side) (s : List Board) (b : Board) → IsHeld One s attacker b → IsHeld version s attacker b

@@ -13,7 +13,7 @@
 mod by_key;
 mod version;
 
-ghost use Rattle.hand_dominance.specs.BorneOut.{BorneOutAbove, BorneOutStays, CoversStays, EscapesWhereListed, HeldStays, NoMateWhereCovered, RanksWhereCovered};
+ghost use Rattle.hand_dominance.specs.BorneOut.{BorneOutAbove, BorneOutStays, CoversStays, EscapesWhereCovered, EscapesWhereListed, HeldStays, NoMateWhereCovered, RanksWhereCovered};
 ghost use Rattle.hand_dominance.specs.Dominance.{DominanceGoesOn, EachDominatesItself, EscapesCarryDown, EvasionsCarryDown, EvasionsServeBelow, MatedCarryUp, MatesCarryUp};
 
 pub use by_key::{board_of, key_dominates, key_laws};
@@ -50,6 +50,8 @@ pub fn listing_laws()
     ensures none { NoMateWhereCovered }
     // From a listed position of an escape of version 1 the defender escapes.
     ensures escapes { EscapesWhereListed }
+    // And in both versions he does from each that a listed one covers.
+    ensures escapes_covered { EscapesWhereCovered }
     // What is said in version 1 is so in each version.
     ensures covers { CoversStays }
     ensures borne_out { BorneOutStays }

@@ -1,5 +1,6 @@
 use Rattle.hand_dominance.proofs.Listed.{rank_above, none_below, dominates, borne_out_stays, held_stays, covers_stay, escapes}
 use Rattle.hand_dominance.proofs.Above.{borne_out_above}
+use Rattle.hand_dominance.proofs.Covering.{escapes_covered}
 use Rattle.hand_dominance.proofs.listing_laws.Goals as goal
 
 pub returns-clause-ranks : goal.returns-clause-ranks
@@ -15,6 +16,9 @@ returns-clause-none c = λ version attacker s position all closed kept low mate.
 
 pub returns-clause-escapes : goal.returns-clause-escapes
 returns-clause-escapes c = escapes
+
+pub returns-clause-escapes_covered : goal.returns-clause-escapes_covered
+returns-clause-escapes_covered c = escapes_covered
 
 pub returns-clause-covers : goal.returns-clause-covers
 returns-clause-covers c = covers_stay
