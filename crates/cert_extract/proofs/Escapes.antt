@@ -14,18 +14,24 @@ use Rattle.shogi_rules.specs.Tsume.{IsCheck, IsProblem}
 use Rattle.mate_def.specs.Mate.{HasEvasionTo}
 use Rattle.mate_facts.specs.Entries.{AreApart}
 use Rattle.hand_dominance.specs.declared.version.Version.{Version}
+use Rattle.hand_dominance.specs.declared.version.Version.TheVariants.{One}
 use Rattle.hand_dominance.specs.BorneOut.{Covers, IsCovered}
 use Rattle.cert_order.specs.Entries.{AreEscapeEntries}
+use Rattle.notes.specs.declared.rule.Rule.{Rule}
+use Rattle.notes.specs.declared.rule.Rule.TheVariants.{EscapeLeaf}
 use Rattle.notes.specs.declared.rule.Conclusion.TheVariants.{Escape}
 use Rattle.position_places.specs.declared.places.Places.{Places}
 use Rattle.position_places.specs.Places.{ArePlacesOf, IsWith, IsPlaceOrNext}
 use Rattle.list_laws.proofs.Standing.{contained}
-use Rattle.notes.specs.Derivation.{Derivation, position_of, tag_of}
+use Rattle.notes.specs.Derivation.{Derivation, IsNoLeaf, attacker_of, position_of, rule_of, tag_of}
+use Rattle.notes.specs.Sets.{AreEscapes}
 use Rattle.notes.proofs.Offered.{valid_kept}
 use Rattle.cert_extract.specs.Tree.{two_under}
+use Rattle.cert_extract.specs.Beside.{IsBeside}
 use Rattle.cert_extract.specs.Extracted.{IsEscapeFrom}
+use Rattle.cert_extract.specs.Listing.{HasPutAll}
 use Rattle.cert_extract.proofs.Trees.{in_reverse, of_reverse}
-use Rattle.cert_extract.proofs.Rules.{IsPending, EscapesDown, escapes_down, problem_at}
+use Rattle.cert_extract.proofs.Rules.{IsPending, EscapesDown, escapes_down, problem_at, held_in, leaf_fits}
 
 -- the position of a note that is yet to be walked covers this one
 abbrev pub IsAhead : Version → Side → List Derivation → Board → Type 0
@@ -106,9 +112,6 @@ module _ (version : Version) (p : Board) (top : Derivation) (positions : List Bo
   here_pending : IsPending version Escape p.side top note
   here_pending = walk.notes note (Contains-push rest note)
 
-  down : EscapesDown version p.side top note
-  down = escapes_down version p.side top note here_pending
-
   abbrev more : List Board
   more = positions ++ position_of note ∷ []
 
@@ -123,11 +126,11 @@ module _ (version : Version) (p : Board) (top : Derivation) (positions : List Bo
   key_listed key (inl own) = (position_of note, Contains-push positions (position_of note), own)
   key_listed key (inr held) = let found = walk.tags note key (Contains-push rest note) held in (found.0, is_more found.0 found.1, found.2)
 
-  listed_more : (b : Board) → Contains more b → IsListed p.side top b
-  listed_more b c = elim (Contains-push_cases positions (position_of note) b c) [
+  pub next_listed : (b : Board) → Contains more b → IsListed p.side top b
+  next_listed b c = elim (Contains-push_cases positions (position_of note) b c) [
     | inl before ↦ walk.listed b before
     | inr same ↦ subst (IsListed p.side top) same (record {
-      from = record { note = note; within = here_pending.within; own = here_pending.own; about = refl; concludes = here_pending.concludes };
+      from = record { note = note; within = here_pending.within; own = here_pending.own; tells = inl refl; concludes = here_pending.concludes };
       kept = valid_kept note here_pending.valid;
       is_problem = problem_at version Escape p.side top note here_pending;
       turn = here_pending.turn;
@@ -137,43 +140,102 @@ module _ (version : Version) (p : Board) (top : Derivation) (positions : List Bo
   go_on : (q : Board) → IsMetOrAhead version p.side positions (rest ++ note ∷ []) q → IsMetOrAhead version p.side more ahead q
   go_on = still version p.side positions more rest ahead note is_more (λ n c. Contains-append_left rest (reverse (two_under note)) n c) (Contains-push positions (position_of note))
 
-  own_ways : (check : Move) → IsCheck p.side (position_of note) check → HasEvasionTo p.side (IsMetOrAhead version p.side more ahead) (position_of note) check
-  own_ways check is =
-      let way = down.ways check is in
+  module _ (no_leaf : IsNoLeaf (rule_of note)) where
+    down : EscapesDown version p.side top note
+    down = escapes_down version p.side top note here_pending no_leaf
+
+    own_ways : (check : Move) → IsCheck p.side (position_of note) check → HasEvasionTo p.side (IsMetOrAhead version p.side more ahead) (position_of note) check
+    own_ways check is =
+        let way = down.ways check is in
+        record {
+          evasion = way.evasion;
+          is_evasion = way.is_evasion;
+          leads = elim way.leads [
+            | inl on ↦ inr (on.next, Contains-append_right rest (reverse (two_under note)) on.next (in_reverse (two_under note) on.next on.under), on.covers)
+            | inr back ↦
+                let found = key_listed back.key back.held in
+                let same = back.of_no_other found.0 (next_listed found.0 found.1).kept (sym found.2) in
+                inl (record { listed = back.back; inside = subst (Contains more) same found.1; covers = back.covers })
+          ];
+        }
+
+    -- the note's position isn't listed yet: it is, and what is two steps under it is ahead
+    pub escape_walked : IsEscapeWalk version p top more ahead
+    escape_walked = record {
+      start = go_on p walk.start;
+      ways = λ b check c is. elim (Contains-push_cases positions (position_of note) b c) [
+        | inl before ↦ still_way p.side b check _ _ go_on (walk.ways b check before is)
+        | inr same ↦
+            subst (λ (a : Board). HasEvasionTo p.side (IsMetOrAhead version p.side more ahead) a check) same
+            (own_ways check (subst (λ (a : Board). IsCheck p.side a check) (sym same) is))
+      ];
+      notes = λ n c. elim (Contains-append_cases rest (reverse (two_under note)) n c) [
+        | inl before ↦ walk.notes n (Contains-append_left rest (note ∷ []) n before)
+        | inr new ↦ down.next n (of_reverse (two_under note) n new)
+      ];
+      tags = λ n key c held. elim (Contains-append_cases rest (reverse (two_under note)) n c) [
+        | inl before ↦
+            let found = walk.tags n key (Contains-append_left rest (note ∷ []) n before) held in
+            (found.0, is_more found.0 found.1, found.2)
+        | inr new ↦ key_listed key (down.tags n key (of_reverse (two_under note) n new) held)
+      ];
+      listed = next_listed;
+    }
+
+-- a leaf, and the positions that it stands among
+pub record IsLeafAmong (note : Derivation) (set : List Board) : Type 0 where
+  pub version : Version
+  pub leaf : rule_of note ≡ EscapeLeaf version
+  pub are : AreEscapes version (attacker_of note) set
+  pub listed : Contains set (position_of note)
+
+module _ (version : Version) (p : Board) (top : Derivation) (positions : List Board) (rest : List Derivation) (note : Derivation)
+    (walk : IsEscapeWalk version p top positions (rest ++ note ∷ [])) (set : List Board) (is : IsLeafAmong note set) where
+  leaf_pending : IsPending version Escape p.side top note
+  leaf_pending = walk.notes note (Contains-push rest note)
+
+  set_are : AreEscapes is.version p.side set
+  set_are = subst (λ (side : Side). AreEscapes is.version side set) leaf_pending.same_attacker is.are
+
+  fits : version ≡ One → is.version ≡ One
+  fits = leaf_fits note (EscapeLeaf is.version) version is.version leaf_pending.valid is.leaf (λ other. refl) leaf_pending.fits
+
+  pub set_listed : (b : Board) → Contains set b → IsListed p.side top b
+  set_listed b inside =
+      let problem = set_are.problems b inside in
       record {
-        evasion = way.evasion;
-        is_evasion = way.is_evasion;
-        leads = elim way.leads [
-          | inl on ↦ inr (on.next, Contains-append_right rest (reverse (two_under note)) on.next (in_reverse (two_under note) on.next on.under), on.covers)
-          | inr back ↦
-              let found = key_listed back.key back.held in
-              let same = back.of_no_other found.0 (listed_more found.0 found.1).kept (sym found.2) in
-              inl (record { listed = back.back; inside = subst (Contains more) same found.1; covers = back.covers })
-        ];
+        from = record {
+          note = note;
+          within = leaf_pending.within;
+          own = leaf_pending.own;
+          tells = inr (subst (λ (rule : Rule). IsBeside rule (attacker_of note) (position_of note) b) (sym is.leaf)
+              (record { among = record { positions = set; are = is.are; listed = is.listed }; listed = inside }));
+          concludes = leaf_pending.concludes;
+        };
+        kept = set_are.kept b inside;
+        is_problem = problem.is_problem;
+        turn = problem.turn;
       }
 
-  -- the note's position isn't listed yet: it is, and what is two steps under it is ahead
-  pub escape_walked : IsEscapeWalk version p top more ahead
-  escape_walked = record {
-    start = go_on p walk.start;
-    ways = λ b check c is. elim (Contains-push_cases positions (position_of note) b c) [
-      | inl before ↦ still_way p.side b check _ _ go_on (walk.ways b check before is)
-      | inr same ↦
-          subst (λ (a : Board). HasEvasionTo p.side (IsMetOrAhead version p.side more ahead) a check) same
-          (own_ways check (subst (λ (a : Board). IsCheck p.side a check) (sym same) is))
-    ];
-    notes = λ n c. elim (Contains-append_cases rest (reverse (two_under note)) n c) [
-      | inl before ↦ walk.notes n (Contains-append_left rest (note ∷ []) n before)
-      | inr new ↦ down.next n (of_reverse (two_under note) n new)
-    ];
-    tags = λ n key c held. elim (Contains-append_cases rest (reverse (two_under note)) n c) [
-      | inl before ↦
-          let found = walk.tags n key (Contains-append_left rest (note ∷ []) n before) held in
-          (found.0, is_more found.0 found.1, found.2)
-      | inr new ↦ key_listed key (down.tags n key (of_reverse (two_under note) n new) held)
-    ];
-    listed = listed_more;
-  }
+  -- its set is listed now
+  pub leaf_walked : (new : List Board) → HasPutAll set positions new → IsEscapeWalk version p top new rest
+  leaf_walked new has =
+      let here = has.all (position_of note) is.listed in
+      let go = still version p.side positions new rest rest note has.grown.stay (λ n c. c) here in
+      record {
+        start = go p walk.start;
+        ways = λ b check c it. elim (has.grown.of b c) [
+          | inl before ↦ still_way p.side b check _ _ go (walk.ways b check before it)
+          | inr inside ↦
+              still_way p.side b check _ _ (λ q covered. inl (record { listed = covered.listed; inside = has.all covered.listed covered.inside; covers = covered.covers }))
+              (held_in version is.version p.side set b fits (set_are.closed.held b inside) check it)
+        ];
+        notes = λ n c. walk.notes n (Contains-append_left rest (note ∷ []) n c);
+        tags = λ n key c held.
+            let found = walk.tags n key (Contains-append_left rest (note ∷ []) n c) held in
+            (found.0, has.grown.stay found.0 found.1, found.2);
+        listed = λ b c. elim (has.grown.of b c) [ inl before ↦ walk.listed b before | inr inside ↦ set_listed b inside ];
+      }
 
 none_ahead : (version : Version) (attacker : Side) (positions : List Board) (q : Board) → IsMetOrAhead version attacker positions [] q
     → IsCovered version positions attacker q
@@ -242,20 +304,30 @@ module _ {A : Type 0} (v : A → Derivation) where
       subst (λ (bs : List Board). IsEscapeWalk version p (v x) bs (map v pending)) (sym unlisted)
       (subst (IsEscapeWalk version p (v x) []) (sym (first_pending pending none x empty is)) (escape_begun version p (v x) h covers closed))
 
+  pub next_pending : (version : Version) (p : Board) (top : Derivation) (positions : List Board) (pending rest : List A) (next : A)
+      → pending ≡ rest ++ next ∷ [] → IsEscapeWalk version p top positions (map v pending) → IsPending version Escape p.side top (v next)
+  next_pending version p top positions pending rest next is walk =
+      walk.notes (v next) (subst (λ (ns : List Derivation). Contains ns (v next)) (sym (popped pending rest next is)) (Contains-push (map v rest) (v next)))
+
   pub escape_on : (version : Version) (p : Board) (top : Derivation) (positions longer : List Board) (pending rest new : List A) (next : A) (r : Board)
       → pending ≡ rest ++ next ∷ [] → map v new ≡ map v rest ++ reverse (two_under (v next)) → r ≡ position_of (v next) → longer ≡ positions ++ r ∷ []
-      → IsEscapeWalk version p top positions (map v pending) → IsEscapeWalk version p top longer (map v new)
-  escape_on version p top positions longer pending rest new next r is pushed same listed walk =
+      → IsNoLeaf (rule_of (v next)) → IsEscapeWalk version p top positions (map v pending) → IsEscapeWalk version p top longer (map v new)
+  escape_on version p top positions longer pending rest new next r is pushed same listed no_leaf walk =
       subst (λ (bs : List Board). IsEscapeWalk version p top bs (map v new)) (sym (listed ∙ ap (λ (b : Board). positions ++ b ∷ []) same))
       (subst (IsEscapeWalk version p top (positions ++ position_of (v next) ∷ [])) (sym pushed)
-      (escape_walked version p top positions (map v rest) (v next) (subst (IsEscapeWalk version p top positions) (popped pending rest next is) walk)))
+      (escape_walked version p top positions (map v rest) (v next) (subst (IsEscapeWalk version p top positions) (popped pending rest next is) walk) no_leaf))
 
-  pub escape_past : (version : Version) (p : Board) (top : Derivation) (positions : List Board) (pending rest : List A) (next : A) (q : Board) (place : ℕ)
-      → pending ≡ rest ++ next ∷ [] → q ≡ position_of (v next) → slice_get positions place ≡ Some q
+  pub escape_past : (version : Version) (p : Board) (top : Derivation) (positions : List Board) (pending rest : List A) (next : A)
+      → pending ≡ rest ++ next ∷ [] → Contains positions (position_of (v next))
       → IsEscapeWalk version p top positions (map v pending) → IsEscapeWalk version p top positions (map v rest)
-  escape_past version p top positions pending rest next q place is same at walk =
-      escape_met version p top positions (map v rest) (v next) (subst (IsEscapeWalk version p top positions) (popped pending rest next is) walk)
-      (subst (Contains positions) same (contained positions place q at))
+  escape_past version p top positions pending rest next is here walk =
+      escape_met version p top positions (map v rest) (v next) (subst (IsEscapeWalk version p top positions) (popped pending rest next is) walk) here
+
+  pub escape_leaf_on : (version : Version) (p : Board) (top : Derivation) (positions new set : List Board) (pending rest : List A) (next : A)
+      → pending ≡ rest ++ next ∷ [] → IsLeafAmong (v next) set → HasPutAll set positions new → IsEscapeWalk version p top positions (map v pending)
+      → IsEscapeWalk version p top new (map v rest)
+  escape_leaf_on version p top positions new set pending rest next is leaf has walk =
+      leaf_walked version p top positions (map v rest) (v next) (subst (IsEscapeWalk version p top positions) (popped pending rest next is) walk) set leaf new has
 
   pub escape_done : (version : Version) (p : Board) (top : Derivation) (positions : List Board) (pending : List A) → length pending ≡ 0
       → IsEscapeWalk version p top positions (map v pending) → AreApart positions → AreEscapeEntries version p positions

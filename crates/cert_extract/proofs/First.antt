@@ -52,10 +52,10 @@ module _ (note first : Derivation) (is : first ≡ source_of note) (valid : IsVa
 
   -- what comes from its tree comes from the note's
   pub mate_from : (entry : MateEntry) → IsMateFrom first entry → IsMateFrom note entry
-  mate_from entry h = record { note = h.note; within = in_note h.note h.within; about = h.about; by = h.by; high = h.high }
+  mate_from entry h = record { note = h.note; within = in_note h.note h.within; says = h.says }
 
   pub escape_from : (b : Board) → IsEscapeFrom first b → IsEscapeFrom note b
-  escape_from b h = record { note = h.note; within = in_note h.note h.within; own = h.own; about = h.about; concludes = h.concludes }
+  escape_from b h = record { note = h.note; within = in_note h.note h.within; own = h.own; tells = h.tells; concludes = h.concludes }
 
   walk_from : (walked : List Derivation) → IsWalk first walked → IsWalk note walked
   walk_from walked walk before rest n e =
@@ -74,12 +74,13 @@ module _ (note first : Derivation) (is : first ≡ source_of note) (valid : IsVa
     walked = h.walked;
     walk = walk_from h.walked h.walk;
     positions = h.positions;
-    same = h.same;
+    told = h.told;
+    own = h.own;
     apart = h.apart;
     more = h.more;
     from = λ b c.
         let met = h.from b c in
-        record { note = met.note; within = in_note met.note met.within; about = met.about; concludes = met.concludes ∙ same_conclusion; turn = met.turn };
+        record { note = met.note; within = in_note met.note met.within; tells = met.tells; concludes = met.concludes ∙ same_conclusion; turn = met.turn };
   }
 
   end_from : (most : ℕ) (p : Board) (end : ExtractEnd) → IsEndFor most p first end → IsEndFor most p note end

@@ -6,5 +6,7 @@ pub mod Escapes
 pub mod Texts
 pub mod Mates
 pub mod Counts
+pub mod Grown
+pub mod Knowing
 pub mod Walked
 pub mod First

@@ -10,28 +10,30 @@ use Rattle.board_core.specs.declared.moves.Move.{Move}
 use Rattle.board_core.specs.Board.{Board}
 use Rattle.board_core.specs.Kept.{IsKept}
 use Rattle.board_core.specs.Text.{HasText}
-use Rattle.list_laws.proofs.Standing.{contained}
+use Rattle.list_laws.proofs.Standing.{at_place, contained, contains_map}
 use Rattle.shogi_rules.specs.Rules.{after}
 use Rattle.shogi_rules.specs.Tsume.{IsCheck, IsEvasion, IsProblem}
 use Rattle.mate_def.specs.Mate.{after_both}
 use Rattle.mate_facts.specs.declared.entry.MateEntry.{MateEntry}
-use Rattle.mate_facts.specs.Entries.{AreApart, positions_of}
+use Rattle.mate_facts.specs.Entries.{AreApart, IsListedWith, positions_of}
 use Rattle.hand_dominance.specs.declared.version.Version.{Version}
 use Rattle.hand_dominance.specs.declared.version.Version.TheVariants.{One}
 use Rattle.hand_dominance.specs.BorneOut.{Covers, CoversListed, CoversLower}
 use Rattle.cert_order.specs.Entries.{AreMateEntries}
-use Rattle.notes.specs.declared.rule.Rule.TheVariants.{MateBy}
+use Rattle.notes.specs.declared.rule.Rule.TheVariants.{MateBy, MateLeaf}
 use Rattle.notes.specs.declared.rule.Conclusion.TheVariants.{Mate}
-use Rattle.notes.specs.Derivation.{Derivation, position_of, rule_of, height_of}
+use Rattle.notes.specs.Derivation.{Derivation, IsNoLeaf, attacker_of, position_of, rule_of, height_of}
+use Rattle.notes.specs.Sets.{AreMates}
 use Rattle.notes.proofs.Offered.{valid_kept}
 use Rattle.cert_extract.specs.Tree.{two_under}
 use Rattle.cert_extract.specs.Extracted.{IsMateFrom}
+use Rattle.cert_extract.specs.Listing.{StandsBelow, IsLowerThanListed, StayListed, HasListed, IsWanted, HasListedLeaf, HasMetLeaf}
 use Rattle.cert_extract.proofs.Trees.{in_reverse, of_reverse}
-use Rattle.cert_extract.proofs.Rules.{IsPending, MatesDown, mates_down, problem_at}
+use Rattle.cert_extract.proofs.Rules.{IsPending, MatesDown, mates_down, problem_at, borne_in, leaf_fits, leaf_high}
 use Rattle.position_places.specs.declared.places.Places.{Places}
 use Rattle.position_places.specs.Places.{ArePlacesOf, IsPlaceOrNext}
 use Rattle.shogi_rules.specs.Laws.{LegalBoardMoves}
-use Rattle.cert_extract.proofs.Escapes.{none_in, Adds, is_old, placed_new, placed_old, first_pending, popped}
+use Rattle.cert_extract.proofs.Escapes.{none_in, Adds, is_new, is_old, placed_new, placed_old, first_pending, popped}
 use Rattle.cert_extract.proofs.Texts.{check_has_text}
 
 -- 1. Lists in which one item is put in another's place
@@ -115,6 +117,13 @@ mate_begun version p top h covers = record {
 -- each position that is listed below a rank still is
 abbrev pub StayBelow : Side → List MateEntry → List MateEntry → Type 0
 StayBelow attacker entries more = (rank : ℕ) (b : Board) → CoversLower One entries attacker rank b → CoversLower One more attacker rank b
+
+stay_below : (attacker : Side) (entries more : List MateEntry) → StayListed entries more → StayBelow attacker entries more
+stay_below attacker entries more stay rank b l =
+    let found = stay l.entry.at l.entry.rank.number (record { entry = l.entry; listed = l.listed; same = refl; low = omega arith }) in
+    let low = found.low in
+    let under = l.lower in
+    record { entry = found.entry; listed = found.listed; covers = l.covers ∙ sym found.same; lower = omega (arith, low, under) }
 
 -- so is what covers it, in each version
 lower_stays : (version : Version) (attacker : Side) (entries more : List MateEntry) → StayBelow attacker entries more → (rank : ℕ) (q : Board)
@@ -217,13 +226,13 @@ module _ (version : Version) (p : Board) (top : Derivation) (entries : List Mate
   here_pending : IsPending version Mate p.side top note
   here_pending = walk.notes note (Contains-push rest note)
 
-  down : MatesDown version p.side top note
-  down = mates_down version p.side top note here_pending
-
   abbrev ahead : List Derivation
   ahead = rest ++ reverse (two_under note)
 
   module _ (entry : MateEntry) (is : IsEntryOf note entry) (goes : LegalBoardMoves) where
+    down : MatesDown version p.side top note
+    down = mates_down version p.side top note here_pending (subst IsNoLeaf (sym is.by) tt)
+
     its_check : IsCheck p.side entry.at entry.by
     its_check =
         subst (λ (b : Board). IsCheck p.side b entry.by) (sym is.about)
@@ -231,7 +240,7 @@ module _ (version : Version) (p : Board) (top : Derivation) (entries : List Mate
 
     pub its_listed : IsListedMate p.side top entry
     its_listed = record {
-      from = record { note = note; within = here_pending.within; about = sym is.about; by = is.by; high = is.high };
+      from = record { note = note; within = here_pending.within; says = inl (record { about = sym is.about; by = is.by; high = is.high }) };
       kept = subst IsKept (sym is.about) (valid_kept note here_pending.valid);
       is_problem = subst IsProblem (sym is.about) (problem_at version Mate p.side top note here_pending);
       turn = ap (λ (b : Board). b.side) is.about ∙ here_pending.turn;
@@ -257,11 +266,12 @@ module _ (version : Version) (p : Board) (top : Derivation) (entries : List Mate
     }
 
     -- the entry is listed now, each other one was, and ranks have only fallen
-    pub mate_walked : (more : List MateEntry) → StayBelow p.side entries more → Contains more entry
-        → ((other : MateEntry) → Contains more other → Contains entries other ⊎ (entry ≡ other)) → IsMateWalk version p top more ahead
-    mate_walked more stay there of =
+    pub mate_walked : (more : List MateEntry) → HasListed entries entry more → IsMateWalk version p top more ahead
+    mate_walked more has =
+        let stay = stay_below p.side entries more has.stay in
+        let of = has.of in
         let here : StandsFor more note =
-        record { entry = entry; listed = there; same = is.about; low = (let high = is.high in omega (arith, high)) } in
+        record { entry = entry; listed = has.there; same = is.about; low = (let high = is.high in omega (arith, high)) } in
         let kept = λ (n : Derivation) (c : Contains rest n). Contains-append_left rest (reverse (two_under note)) n c in
         let go = still_below version p.side entries more rest ahead note stay kept here in
         record {
@@ -280,36 +290,182 @@ module _ (version : Version) (p : Board) (top : Derivation) (entries : List Mate
           ];
         }
 
--- 3. How the entries change
+-- 3. A leaf
 
--- an entry is put behind the others
-pub pushed_below : (attacker : Side) (entries : List MateEntry) (entry : MateEntry) → StayBelow attacker entries (entries ++ entry ∷ [])
-pushed_below attacker entries entry rank b l = record {
-  entry = l.entry;
-  listed = Contains-append_left entries (entry ∷ []) l.entry l.listed;
-  covers = l.covers;
-  lower = l.lower;
-}
+-- the note is a leaf of this rank, and stands among these entries
+pub record IsLeafWith (note : Derivation) (set : List MateEntry) (rank : ℕ) : Type 0 where
+  pub version : Version
+  pub leaf : rule_of note ≡ MateLeaf version rank
+  pub are : AreMates version (attacker_of note) set
+  pub listed : IsListedWith set rank (position_of note)
+
+-- it wants its own entry
+pub own_wanted : (note : Derivation) (set : List MateEntry) (rank : ℕ) (is : IsLeafWith note set rank) → IsWanted set (position_of note) rank is.listed.entry
+own_wanted note set rank is = record { inside = is.listed.listed; low = inr (is.listed.has_rank, is.listed.same) }
+
+pub wanted_low : (set : List MateEntry) (b : Board) (rank : ℕ) (entry : MateEntry) → IsWanted set b rank entry → entry.rank.number ≤ rank
+wanted_low set b rank entry wanted = elim wanted.low [ inl less ↦ omega (arith, less) | inr same ↦ let e = same.0 in omega (arith, e) ]
+
+module _ (version : Version) (p : Board) (top : Derivation) (entries : List MateEntry) (rest : List Derivation) (note : Derivation)
+    (walk : IsMateWalk version p top entries (rest ++ note ∷ [])) (set : List MateEntry) (rank : ℕ) (is : IsLeafWith note set rank)
+    (goes : LegalBoardMoves) where
+  leaf_pending : IsPending version Mate p.side top note
+  leaf_pending = walk.notes note (Contains-push rest note)
+
+  set_are : AreMates is.version p.side set
+  set_are = subst (λ (side : Side). AreMates is.version side set) leaf_pending.same_attacker is.are
+
+  fits : version ≡ One → is.version ≡ One
+  fits = leaf_fits note (MateLeaf is.version rank) version is.version leaf_pending.valid is.leaf (λ other. refl) leaf_pending.fits
+
+  high : height_of note ≡ 2 * rank
+  high = leaf_high note is.version rank leaf_pending.valid is.leaf
+
+  pub wanted_listed : (entry : MateEntry) → IsWanted set (position_of note) rank entry → IsListedMate p.side top entry
+  wanted_listed entry wanted =
+      let borne = set_are.borne_out entry wanted.inside in
+      let problem = set_are.problems entry wanted.inside in
+      record {
+        from = record {
+          note = note;
+          within = leaf_pending.within;
+          says = inr (record {
+            version = is.version;
+            rank = rank;
+            leaf = is.leaf;
+            beside = record {
+              among = record { entries = set; are = is.are; listed = is.listed };
+              listed = wanted.inside;
+              low = wanted_low set (position_of note) rank entry wanted;
+            };
+          });
+        };
+        kept = borne.0;
+        is_problem = problem.is_problem;
+        turn = problem.turn;
+        has_text = check_has_text goes p.side entry.at entry.by borne.0 borne.1.check;
+      }
+
+  -- what bears it out is wanted too
+  wanted_borne : (more : List MateEntry)
+      → ((other : MateEntry) → IsWanted set (position_of note) rank other → StandsBelow more other.at other.rank.number) → (entry : MateEntry)
+      → IsWanted set (position_of note) rank entry → IsBorne version p.side more rest entry
+  wanted_borne more all entry wanted =
+      let borne = borne_in version is.version p.side set entry fits (set_are.borne_out entry wanted.inside).1 in
+      record {
+        check = borne.check;
+        evasions = λ evasion it.
+            let under = borne.evasions evasion it in
+            let less = under.lower in
+            let low = wanted_low set (position_of note) rank entry wanted in
+            let found = all under.entry (record { inside = under.listed; low = inl (omega (arith, less, low)) }) in
+            let below = found.low in
+            inl (record {
+              entry = found.entry;
+              listed = found.listed;
+              covers = subst (Covers version p.side (after_both entry.at entry.by evasion)) (sym found.same) under.covers;
+              lower = omega (arith, below, less);
+            });
+      }
+
+  -- all that it lists is listed now
+  pub leaf_stands : (more : List MateEntry) → HasListedLeaf set (position_of note) rank entries more → StandsFor more note
+  leaf_stands more has =
+      let own = is.listed in
+      let found = has.all own.entry (own_wanted note set rank is) in
+      let low = found.low in
+      let same = own.has_rank in
+      record { entry = found.entry; listed = found.listed; same = found.same ∙ own.same; low = omega (arith, low, same, high) }
+
+  pub leaf_walked : (more : List MateEntry) → HasListedLeaf set (position_of note) rank entries more → IsMateWalk version p top more rest
+  leaf_walked more has =
+      let here = leaf_stands more has in
+      let stay = stay_below p.side entries more has.grown.stay in
+      let go = still_below version p.side entries more rest rest note stay (λ n c. c) here in
+      record {
+        start = still_start version p.side entries more rest rest note p stay (λ n c. c) here walk.start;
+        borne = λ other c. elim (has.grown.of other c) [
+          | inl before ↦ still_borne version p.side entries more (rest ++ note ∷ []) rest go other (walk.borne other before)
+          | inr wanted ↦ wanted_borne more has.all other wanted
+        ];
+        notes = λ n c. walk.notes n (Contains-append_left rest (note ∷ []) n c);
+        listed = λ other c. elim (has.grown.of other c) [ inl before ↦ walk.listed other before | inr wanted ↦ wanted_listed other wanted ];
+      }
+
+  -- its position is listed with no greater rank: it isn't walked
+  pub leaf_met : StandsBelow entries (position_of note) rank → IsMateWalk version p top entries rest
+  leaf_met below =
+      let low = below.low in
+      mate_met version p top entries rest note walk below.entry below.listed below.same (omega (arith, low, high))
+
+-- 4. How the entries change
 
 pub positions_pushed : (entries : List MateEntry) (entry : MateEntry) → positions_of (entries ++ entry ∷ []) ≡ positions_of entries ++ entry.at ∷ []
 positions_pushed [] entry = refl
 positions_pushed (first ∷ entries) entry = let more = positions_pushed entries entry in λ i. first.at ∷ more i
 
+-- a position that isn't listed is listed with no rank
+pub not_listed : (entries : List MateEntry) (b : Board) (rank : ℕ) → (¬ Contains (positions_of entries) b) → IsLowerThanListed entries b rank
+not_listed entries b rank new entry c same = absurd (new (subst (Contains (positions_of entries)) same (contains_map (λ (e : MateEntry). e.at) entries entry c)))
+
+-- an entry is put behind the others
+pub pushed_listed : (entries : List MateEntry) (entry : MateEntry) → (¬ Contains (positions_of entries) entry.at)
+    → HasListed entries entry (entries ++ entry ∷ [])
+pushed_listed entries entry new = record {
+  lower = not_listed entries entry.at entry.rank.number new;
+  stay = λ b rank below. record {
+    entry = below.entry;
+    listed = Contains-append_left entries (entry ∷ []) below.entry below.listed;
+    same = below.same;
+    low = below.low;
+  };
+  of = λ other c. Contains-push_cases entries entry other c;
+  there = Contains-push entries entry;
+}
+
+-- no two entries are about the same position
+one_entry : (entries : List MateEntry) (place : ℕ) (old entry : MateEntry) → AreApart (positions_of entries) → slice_get entries place ≡ Some old
+    → Contains entries entry → entry.at ≡ old.at → old ≡ entry
+one_entry entries place old entry apart at c same =
+    let f : MateEntry → Board = λ e. e.at in
+    let here = slice_get-map f entries place ∙ ap (option_map f) at in
+    let there = slice_get-map f entries c.0 ∙ ap (option_map f) (at_place entries entry c) in
+    let one = apart place c.0 old.at here (there ∙ ap (λ (b : Board). Some b) same) in
+    same_Some old entry (sym at ∙ (ap (slice_get entries) one ∙ at_place entries entry c))
+
+-- what is listed there has the rank of the entry at the place
+pub rank_there : (entries : List MateEntry) (place : ℕ) (old : MateEntry) (b : Board) (rank : ℕ) → AreApart (positions_of entries)
+    → slice_get entries place ≡ Some old → old.at ≡ b → rank < old.rank.number → IsLowerThanListed entries b rank
+rank_there entries place old b rank apart at about less entry c same =
+    let is = one_entry entries place old entry apart at c (same ∙ sym about) in
+    let its = ap (λ (e : MateEntry). e.rank.number) is in
+    omega (arith, less, its)
+
 -- an entry takes the place of one of the same position and greater rank
-pub set_below : (attacker : Side) (entries : List MateEntry) (k : ℕ) (old entry : MateEntry) → slice_get entries k ≡ Some old → entry.at ≡ old.at
-    → entry.rank.number < old.rank.number → StayBelow attacker entries (set entries k entry)
-set_below attacker entries k old entry at about low rank b l = elim (set_keeps entries k old entry l.entry at l.listed) [
-  | inl there ↦ record { entry = l.entry; listed = there; covers = l.covers; lower = l.lower }
-  | inr same ↦
-      let was : old.rank.number ≡ l.entry.rank.number = ap (λ (e : MateEntry). e.rank.number) same in
-      let less = l.lower in
-      record {
-        entry = entry;
-        listed = set_here entries k old entry at;
-        covers = l.covers ∙ (ap (λ (e : MateEntry). e.at) (sym same) ∙ sym about);
-        lower = omega (arith, low, was, less);
-      }
-]
+pub set_listed : (entries : List MateEntry) (place : ℕ) (old entry : MateEntry) → AreApart (positions_of entries) → slice_get entries place ≡ Some old
+    → old.at ≡ entry.at → entry.rank.number < old.rank.number → HasListed entries entry (set entries place entry)
+set_listed entries place old entry apart at about less = record {
+  lower = rank_there entries place old entry.at entry.rank.number apart at about less;
+  stay = λ b rank below. elim (set_keeps entries place old entry below.entry at below.listed) [
+    | inl there ↦ record { entry = below.entry; listed = there; same = below.same; low = below.low }
+    | inr same ↦
+        let was : old.rank.number ≡ below.entry.rank.number = ap (λ (e : MateEntry). e.rank.number) same in
+        let low = below.low in
+        record {
+          entry = entry;
+          listed = set_here entries place old entry at;
+          same = sym about ∙ (ap (λ (e : MateEntry). e.at) same ∙ below.same);
+          low = omega (arith, less, was, low);
+        }
+  ];
+  of = λ other c. set_cases entries place entry other c;
+  there = set_here entries place old entry at;
+}
+
+-- it is listed with no greater rank
+pub stands_there : (entries : List MateEntry) (place : ℕ) (old : MateEntry) (b : Board) (rank : ℕ) → slice_get entries place ≡ Some old → old.at ≡ b
+    → old.rank.number ≤ rank → StandsBelow entries b rank
+stands_there entries place old b rank at about low = record { entry = old; listed = contained entries place old at; same = about; low = low }
 
 -- an entry of a place that isn't behind all others
 pub within_entries : (entries : List MateEntry) (q : Board) (place : ℕ) → IsPlaceOrNext (positions_of entries) q place → place ≢ length entries
@@ -329,6 +485,21 @@ old_entry entries q place old at differs is =
     let mapped = slice_get-map (λ (e : MateEntry). e.at) entries place ∙ ap (option_map (λ (e : MateEntry). e.at)) here in
     (here, same_Some old.at q (sym mapped ∙ there))
 
+-- a position of a place behind all others isn't listed
+pub new_entry : (entries : List MateEntry) (q : Board) (place : ℕ) → IsPlaceOrNext (positions_of entries) q place → place ≡ length entries
+    → ¬ Contains (positions_of entries) q
+new_entry entries q place at last =
+    let many = length-map entries (λ (e : MateEntry). e.at) in
+    is_new (positions_of entries) q place at (last ∙ sym many)
+
+-- the entry at the place where a position stands
+pub found_entry : (entries : List MateEntry) (q : Board) (place : ℕ) (old : MateEntry) → slice_get (positions_of entries) place ≡ Some q
+    → old ≡ get_or entries place old → (slice_get entries place ≡ Some old) × (old.at ≡ q)
+found_entry entries q place old there is =
+    let many = length-map entries (λ (e : MateEntry). e.at) in
+    let inside = slice_get_within (positions_of entries) place q there in
+    old_entry entries q place old (inl there) (λ same. omega (arith, many, inside, same)) is
+
 pub entries_placed_new : (old new : Places) (entry : MateEntry) (entries longer : List MateEntry) (place : ℕ) → ArePlacesOf old (positions_of entries)
     → Adds old entry.at new → IsPlaceOrNext (positions_of entries) entry.at place → place ≡ length entries → longer ≡ entries ++ entry ∷ []
     → ArePlacesOf new (positions_of longer)
@@ -347,7 +518,7 @@ pub positions_set : (entries : List MateEntry) (place : ℕ) (old entry : MateEn
     → positions_of (set entries place entry) ≡ positions_of entries
 positions_set entries place old entry at same = map-set (λ (e : MateEntry). e.at) entries place old entry at (sym same)
 
--- 4. Nothing is ahead
+-- 5. Nothing is ahead
 
 listed_alone : (version : Version) (attacker : Side) (entries : List MateEntry) (rank : ℕ) (q : Board) → IsBelow version attacker entries [] rank q
     → CoversLower version entries attacker rank q
@@ -372,7 +543,7 @@ mate_ended version p top entries walk apart = record {
   apart = apart;
 }
 
--- 5. The stack of notes, as references
+-- 6. The stack of notes, as references
 
 module _ {A : Type 0} (v : A → Derivation) where
   pub mate_at_first : (version : Version) (p : Board) (entries : List MateEntry) (pending none : List A) (x : A) → entries ≡ [] → none ≡ [] → pending ≡ none ++ x ∷ []
@@ -386,28 +557,28 @@ module _ {A : Type 0} (v : A → Derivation) where
     pub at_next : IsMateWalk version p top entries (map v rest ++ v next ∷ [])
     at_next = subst (IsMateWalk version p top entries) (popped v pending rest next is) walk
 
-    pub mate_past : (place : ℕ) (old entry : MateEntry) → IsEntryOf (v next) entry → slice_get entries place ≡ Some old → old.at ≡ entry.at
-        → old.rank.number ≤ entry.rank.number → IsMateWalk version p top entries (map v rest)
-    mate_past place old entry its at same low =
+    pub next_pending : IsPending version Mate p.side top (v next)
+    next_pending = at_next.notes (v next) (Contains-push (map v rest) (v next))
+
+    pub mate_past : (entry : MateEntry) → IsEntryOf (v next) entry → StandsBelow entries entry.at entry.rank.number → IsMateWalk version p top entries (map v rest)
+    mate_past entry its below =
         let high = its.high in
-        mate_met version p top entries (map v rest) (v next) at_next old (contained entries place old at) (same ∙ its.about) (omega (arith, high, low))
+        let low = below.low in
+        mate_met version p top entries (map v rest) (v next) at_next below.entry below.listed (below.same ∙ its.about) (omega (arith, high, low))
 
     pub mate_on : (new : List A) (entry : MateEntry) → map v new ≡ map v rest ++ reverse (two_under (v next)) → IsEntryOf (v next) entry → LegalBoardMoves
-        → (more : List MateEntry) → more ≡ entries ++ entry ∷ [] → IsMateWalk version p top more (map v new)
-    mate_on new entry pushed its goes more listed =
-        subst (λ (es : List MateEntry). IsMateWalk version p top es (map v new)) (sym listed)
-        (subst (IsMateWalk version p top (entries ++ entry ∷ [])) (sym pushed)
-        (mate_walked version p top entries (map v rest) (v next) at_next entry its goes (entries ++ entry ∷ []) (pushed_below p.side entries entry)
-        (Contains-push entries entry) (λ other c. Contains-push_cases entries entry other c)))
+        → (more : List MateEntry) → HasListed entries entry more → IsMateWalk version p top more (map v new)
+    mate_on new entry pushed its goes more has =
+        subst (IsMateWalk version p top more) (sym pushed) (mate_walked version p top entries (map v rest) (v next) at_next entry its goes more has)
 
-    pub mate_lower : (new : List A) (entry old : MateEntry) (place : ℕ) → map v new ≡ map v rest ++ reverse (two_under (v next)) → IsEntryOf (v next) entry
-        → LegalBoardMoves → slice_get entries place ≡ Some old → old.at ≡ entry.at → entry.rank.number < old.rank.number
-        → (more : List MateEntry) → more ≡ set entries place entry → IsMateWalk version p top more (map v new)
-    mate_lower new entry old place pushed its goes at same low more listed =
-        subst (λ (es : List MateEntry). IsMateWalk version p top es (map v new)) (sym listed)
-        (subst (IsMateWalk version p top (set entries place entry)) (sym pushed)
-        (mate_walked version p top entries (map v rest) (v next) at_next entry its goes (set entries place entry) (set_below p.side entries place old entry at (sym same) low)
-        (set_here entries place old entry at) (λ other c. set_cases entries place entry other c)))
+    pub mate_leaf_on : (set : List MateEntry) (rank : ℕ) → IsLeafWith (v next) set rank → LegalBoardMoves → (more : List MateEntry)
+        → HasMetLeaf set (position_of (v next)) rank entries more → IsMateWalk version p top more (map v rest)
+    mate_leaf_on set rank is goes more met = elim met [
+      | inl has ↦ leaf_walked version p top entries (map v rest) (v next) at_next set rank is goes more has
+      | inr below ↦
+          subst (λ (es : List MateEntry). IsMateWalk version p top es (map v rest)) (sym below.1)
+          (leaf_met version p top entries (map v rest) (v next) at_next set rank is goes below.0)
+    ]
 
   pub mate_done : (version : Version) (p : Board) (top : Derivation) (entries : List MateEntry) (pending : List A) → length pending ≡ 0
       → IsMateWalk version p top entries (map v pending) → AreApart (positions_of entries) → AreMateEntries version p entries

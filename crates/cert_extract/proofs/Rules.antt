@@ -1,5 +1,5 @@
 -- What the rules give of the notes of a valid tree, by who is to move.
-use Rattle.std.proofs.Common.{◌≡◌, ◌<◌, ◌+◌, ◌⊎◌, inl, inr, zero, suc, List, [], ◌∷◌, length, Contains, arith, refl, sym, ◌∙◌, ap, subst}
+use Rattle.std.proofs.Common.{◌≡◌, ◌<◌, ◌+◌, ◌*◌, ◌⊎◌, inl, inr, ℕ, zero, suc, List, [], ◌∷◌, length, Contains, arith, refl, sym, ◌∙◌, ap, subst}
 use Rattle.std.specs.Prelude.{nat_eq}
 use Rattle.std.specs.Cmp.Lexicographic.{pointwise, bytes_decides}
 use Rattle.std.proofs.lemmas.Bool.{cases_Bool}
@@ -18,19 +18,21 @@ use Rattle.shogi_rules.specs.Tsume.{IsCheck, IsEvasion, IsProblem}
 use Rattle.shogi_rules.proofs.Offered.{after_check, after_evasion}
 use Rattle.mate_def.specs.Mate.{after_both, HasEvasionTo}
 use Rattle.hand_dominance.specs.declared.version.Version.{Version}
-use Rattle.hand_dominance.specs.declared.version.Version.TheVariants.{One}
-use Rattle.hand_dominance.specs.BorneOut.{Covers}
+use Rattle.hand_dominance.specs.declared.version.Version.TheVariants.{One, Two}
+use Rattle.hand_dominance.specs.BorneOut.{Covers, IsBorneOut, IsHeld}
+use Rattle.hand_dominance.proofs.Listed.{borne_out_stays, held_stays}
+use Rattle.mate_facts.specs.declared.entry.MateEntry.{MateEntry}
 use Rattle.notes.specs.declared.rule.Rule.{Rule}
-use Rattle.notes.specs.declared.rule.Rule.TheVariants.{MateEnd, MateAll, MateBy, EscapeEnd, EscapeBy, EscapeRepeat, EscapeAll, Carry}
+use Rattle.notes.specs.declared.rule.Rule.TheVariants.{MateEnd, MateAll, MateBy, EscapeEnd, EscapeBy, EscapeRepeat, EscapeAll, Carry, MateLeaf, EscapeLeaf}
 use Rattle.notes.specs.declared.rule.Conclusion.{Conclusion}
 use Rattle.notes.specs.declared.rule.Conclusion.TheVariants.{Mate, Escape}
-use Rattle.notes.specs.Derivation.{Step, Derivation, derived, listed, step_of, under_of, rule_of, attacker_of, position_of, tag_of, height_of, conclusion_of, concluded, height_by, highest, source_of, version_in, IsOwn}
+use Rattle.notes.specs.Derivation.{Step, Derivation, derived, listed, step_of, under_of, rule_of, attacker_of, position_of, tag_of, height_of, conclusion_of, concluded, height_by, highest, source_of, later, version_by, version_in, version_under, IsNoLeaf, IsOwn}
 use Rattle.notes.specs.Valid.{Says, SayEach, IsValid, IsKeyAlone, meets}
 use Rattle.notes.proofs.Offered.{note_after, height_le, valid_kept}
 use Rattle.cert_extract.specs.Serving.{Serves}
 use Rattle.cert_extract.specs.Tree.{IsIn, two_under}
 use Rattle.cert_extract.proofs.Trees.{in_itself, under_in, valid_one}
-use Rattle.cert_extract.proofs.Sources.{covers_on, covers_turn, evades, source_in, IsSource, source_known, one_below, one_source, says_serves, IsTwoUnder, from_two, in_two}
+use Rattle.cert_extract.proofs.Sources.{both_one, covers_on, covers_turn, evades, source_in, IsSource, source_known, one_below, one_source, says_serves, IsTwoUnder, from_two, in_two}
 
 -- 1. Sides and lists
 
@@ -85,25 +87,36 @@ same_or_not key b T else = elim (cases_Bool (pointwise nat_eq key.0 (key_of b)))
   | inr differs ↦ inr (else (λ e. absurd (let same = (bytes_decides key.0 (key_of b)).1 e in cc)))
 ]
 
-answers_all : (rule : Rule) (s : Step) (notes : List Derivation) → IsOwnRule rule → meets rule s notes → concluded rule ≡ Escape → s.position.side ≡ s.attacker → AnswersAll s notes
-answers_all MateEnd s notes own m is at = absurd (cc)
-answers_all MateAll s notes own m is at = absurd (cc)
-answers_all (MateBy check) s notes own m is at = absurd (cc)
-answers_all EscapeEnd s notes own m is at = record {
+-- where a leaf is met the attacker is to move
+mate_leaf_turn : (version : Version) (rank : ℕ) (s : Step) (notes : List Derivation) → meets (MateLeaf version rank) s notes → s.position.side ≡ s.attacker
+mate_leaf_turn version rank s notes m =
+    let one = m.0.listed in
+    ap (λ (b : Board). b.side) (sym one.same) ∙ (m.0.are.problems one.entry one.listed).turn
+
+escape_leaf_turn : (version : Version) (s : Step) (notes : List Derivation) → meets (EscapeLeaf version) s notes → s.position.side ≡ s.attacker
+escape_leaf_turn version s notes m = (m.0.are.problems s.position m.0.listed).turn
+
+answers_all : (rule : Rule) (s : Step) (notes : List Derivation) → IsOwnRule rule → IsNoLeaf rule → meets rule s notes → concluded rule ≡ Escape → s.position.side ≡ s.attacker → AnswersAll s notes
+answers_all MateEnd s notes own no_leaf m is at = absurd (cc)
+answers_all MateAll s notes own no_leaf m is at = absurd (cc)
+answers_all (MateBy check) s notes own no_leaf m is at = absurd (cc)
+answers_all EscapeEnd s notes own no_leaf m is at = record {
   leads = λ check is_check. absurd (m.0.no_check check is_check);
   each = λ d c. absurd (none_of notes d m.1 c);
   tags = λ d key c held. absurd (none_of notes d m.1 c);
 }
-answers_all (EscapeBy evasion) s notes own m is at = absurd (other_apart s.attacker (sym m.0.mover ∙ at))
-answers_all (EscapeRepeat evasion) s notes own m is at = absurd (other_apart s.attacker (sym m.0.mover ∙ at))
-answers_all EscapeAll s notes own m is at = record {
+answers_all (EscapeBy evasion) s notes own no_leaf m is at = absurd (other_apart s.attacker (sym m.0.mover ∙ at))
+answers_all (EscapeRepeat evasion) s notes own no_leaf m is at = absurd (other_apart s.attacker (sym m.0.mover ∙ at))
+answers_all EscapeAll s notes own no_leaf m is at = record {
   leads = λ check is_check. note_after Escape s.attacker s.position m.0.checks notes check m.0.escapes (m.0.lists.complete check is_check);
   each = λ d c.
       let from = move_of Escape s.attacker s.position m.0.checks notes d m.0.escapes c in
       (after s.position from.0, from.2, after_check s.attacker s.position from.0 (m.0.lists.sound from.0 from.1));
   tags = λ d key c held. same_or_not key s.position (Contains s.tag key) (λ differs. (m.1 key).1 ((d, c, held), differs));
 }
-answers_all (Carry conclusion) s notes own m is at = absurd (own conclusion refl)
+answers_all (Carry conclusion) s notes own no_leaf m is at = absurd (own conclusion refl)
+answers_all (MateLeaf version rank) s notes own no_leaf m is at = absurd no_leaf
+answers_all (EscapeLeaf version) s notes own no_leaf m is at = absurd no_leaf
 
 leaves : (rule : Rule) (s : Step) (notes : List Derivation) → IsOwnRule rule → meets rule s notes → concluded rule ≡ Escape → s.position.side ≡ other s.attacker → Leaves s notes
 leaves MateEnd s notes own m is at = absurd (cc)
@@ -132,6 +145,8 @@ leaves EscapeAll s notes own m is at =
     let one = first_of m.0.checks m.0.some in
     absurd (other_apart s.attacker (sym at ∙ (m.0.lists.sound one.0 one.1).mover))
 leaves (Carry conclusion) s notes own m is at = absurd (own conclusion refl)
+leaves (MateLeaf version rank) s notes own m is at = absurd (cc)
+leaves (EscapeLeaf version) s notes own m is at = absurd (other_apart s.attacker (sym at ∙ escape_leaf_turn version s notes m))
 
 -- 3. A step of a mate
 
@@ -151,12 +166,12 @@ record MatedAfter (s : Step) (notes : List Derivation) : Type 0 where
   pub leads : (evasion : Move) → IsEvasion s.attacker s.position evasion → (n : Derivation) × Contains notes n × Says Mate s.attacker (after s.position evasion) n
   pub each : (n : Derivation) → Contains notes n → (q : Board) × Says Mate s.attacker q n × (q.side ≡ s.attacker)
 
-checks_by : (rule : Rule) (s : Step) (notes : List Derivation) → IsOwnRule rule → meets rule s notes → concluded rule ≡ Mate → s.position.side ≡ s.attacker → ChecksBy rule s notes
-checks_by MateEnd s notes own m is at = absurd (other_apart s.attacker (sym m.0.turn ∙ at))
-checks_by MateAll s notes own m is at =
+checks_by : (rule : Rule) (s : Step) (notes : List Derivation) → IsOwnRule rule → IsNoLeaf rule → meets rule s notes → concluded rule ≡ Mate → s.position.side ≡ s.attacker → ChecksBy rule s notes
+checks_by MateEnd s notes own no_leaf m is at = absurd (other_apart s.attacker (sym m.0.turn ∙ at))
+checks_by MateAll s notes own no_leaf m is at =
     let one = first_of m.0.evasions m.0.some in
     absurd (other_apart s.attacker (sym (m.0.lists.sound one.0 one.1).mover ∙ at))
-checks_by (MateBy check) s notes own m is at =
+checks_by (MateBy check) s notes own no_leaf m is at =
     let one = m.1 in
     record {
       check = check;
@@ -167,11 +182,13 @@ checks_by (MateBy check) s notes own m is at =
       says = one.says;
       alone = λ d c. only_of notes one.note d one.alone c;
     }
-checks_by EscapeEnd s notes own m is at = absurd (cc)
-checks_by (EscapeBy evasion) s notes own m is at = absurd (cc)
-checks_by (EscapeRepeat evasion) s notes own m is at = absurd (cc)
-checks_by EscapeAll s notes own m is at = absurd (cc)
-checks_by (Carry conclusion) s notes own m is at = absurd (own conclusion refl)
+checks_by EscapeEnd s notes own no_leaf m is at = absurd (cc)
+checks_by (EscapeBy evasion) s notes own no_leaf m is at = absurd (cc)
+checks_by (EscapeRepeat evasion) s notes own no_leaf m is at = absurd (cc)
+checks_by EscapeAll s notes own no_leaf m is at = absurd (cc)
+checks_by (Carry conclusion) s notes own no_leaf m is at = absurd (own conclusion refl)
+checks_by (MateLeaf version rank) s notes own no_leaf m is at = absurd no_leaf
+checks_by (EscapeLeaf version) s notes own no_leaf m is at = absurd no_leaf
 
 mated_after : (rule : Rule) (s : Step) (notes : List Derivation) → IsOwnRule rule → meets rule s notes → concluded rule ≡ Mate → s.position.side ≡ other s.attacker → MatedAfter s notes
 mated_after MateEnd s notes own m is at = record {
@@ -190,6 +207,8 @@ mated_after (EscapeBy evasion) s notes own m is at = absurd (cc)
 mated_after (EscapeRepeat evasion) s notes own m is at = absurd (cc)
 mated_after EscapeAll s notes own m is at = absurd (cc)
 mated_after (Carry conclusion) s notes own m is at = absurd (own conclusion refl)
+mated_after (MateLeaf version rank) s notes own m is at = absurd (other_apart s.attacker (sym at ∙ mate_leaf_turn version rank s notes m))
+mated_after (EscapeLeaf version) s notes own m is at = absurd (cc)
 
 -- 4. A note that is to be walked: one of the tree, valid, whose last step carries none, with this
 -- conclusion for the attacker, who is to move; in version 1 none is carried in its tree
@@ -242,16 +261,16 @@ pub record EscapesDown (version : Version) (attacker : Side) (top note : Derivat
   pub ways : (check : Move) → IsCheck attacker (position_of note) check
       → HasEvasionTo attacker (λ q. LeadsOn version attacker note q ⊎ LeadsBack version attacker note q) (position_of note) check
 
-answered : (note : Derivation) → IsValid note → IsOwn note → conclusion_of note ≡ Escape → (position_of note).side ≡ attacker_of note
+answered : (note : Derivation) → IsValid note → IsOwn note → IsNoLeaf (rule_of note) → conclusion_of note ≡ Escape → (position_of note).side ≡ attacker_of note
     → AnswersAll (step_of note) (under_of note)
-answered (derived s notes) v own is at = answers_all s.rule s (listed notes) own v.1.rule is at
+answered (derived s notes) v own no_leaf is at = answers_all s.rule s (listed notes) own no_leaf v.1.rule is at
 
 left : (d : Derivation) → IsValid d → IsOwn d → conclusion_of d ≡ Escape → (position_of d).side ≡ other (attacker_of d) → Leaves (step_of d) (under_of d)
 left (derived s notes) v own is at = leaves s.rule s (listed notes) own v.1.rule is at
 
-module _ (version : Version) (attacker : Side) (top note : Derivation) (h : IsPending version Escape attacker top note) where
+module _ (version : Version) (attacker : Side) (top note : Derivation) (h : IsPending version Escape attacker top note) (no_leaf : IsNoLeaf (rule_of note)) where
   all_answered : AnswersAll (step_of note) (under_of note)
-  all_answered = answered note h.valid h.own h.concludes (h.turn ∙ sym h.same_attacker)
+  all_answered = answered note h.valid h.own no_leaf h.concludes (h.turn ∙ sym h.same_attacker)
 
   -- the source of a note under it serves after the check
   module _ (d : Derivation) (c : Contains (under_of note) d) where
@@ -371,26 +390,33 @@ pub record MatesDown (version : Version) (attacker : Side) (top note : Derivatio
   pub evasions : (evasion : Move) → IsEvasion attacker (after (position_of note) check) evasion
       → LeadsToMate version attacker note (after_both (position_of note) check evasion)
 
-checked : (note : Derivation) → IsValid note → IsOwn note → conclusion_of note ≡ Mate → (position_of note).side ≡ attacker_of note
+checked : (note : Derivation) → IsValid note → IsOwn note → IsNoLeaf (rule_of note) → conclusion_of note ≡ Mate → (position_of note).side ≡ attacker_of note
     → ChecksBy (rule_of note) (step_of note) (under_of note)
-checked (derived s notes) v own is at = checks_by s.rule s (listed notes) own v.1.rule is at
+checked (derived s notes) v own no_leaf is at = checks_by s.rule s (listed notes) own no_leaf v.1.rule is at
 
 mated : (d : Derivation) → IsValid d → IsOwn d → conclusion_of d ≡ Mate → (position_of d).side ≡ other (attacker_of d)
     → MatedAfter (step_of d) (under_of d)
 mated (derived s notes) v own is at = mated_after s.rule s (listed notes) own v.1.rule is at
 
-own_height : (rule : Rule) (notes : List Derivation) → IsOwnRule rule → height_by rule notes ≡ highest notes + 1
-own_height (Carry conclusion) notes own = absurd (own conclusion refl)
-own_height rule notes own = refl
+own_height : (rule : Rule) (notes : List Derivation) → IsOwnRule rule → IsNoLeaf rule → height_by rule notes ≡ highest notes + 1
+own_height (Carry conclusion) notes own no_leaf = absurd (own conclusion refl)
+own_height (MateLeaf version rank) notes own no_leaf = absurd no_leaf
+own_height rule notes own no_leaf = refl
+
+-- nothing is under a leaf
+over_some : (rule : Rule) (s : Step) (notes : List Derivation) (next : Derivation) → meets rule s notes → Contains notes next → IsNoLeaf rule
+over_some (MateLeaf version rank) s notes next m c = absurd (none_of notes next m.1 c)
+over_some (EscapeLeaf version) s notes next m c = absurd (none_of notes next m.1 c)
+over_some rule s notes next m c = tt
 
 lower_below : (note next : Derivation) → IsValid note → IsOwn note → Contains (under_of note) next → height_of next < height_of note
 lower_below (derived s notes) next v own c =
-    let high = v.1.height ∙ own_height s.rule (listed notes) own in
+    let high = v.1.height ∙ own_height s.rule (listed notes) own (over_some s.rule s (listed notes) next v.1.rule c) in
     omega (arith, high, height_le (listed notes) next c)
 
-module _ (version : Version) (attacker : Side) (top note : Derivation) (h : IsPending version Mate attacker top note) where
+module _ (version : Version) (attacker : Side) (top note : Derivation) (h : IsPending version Mate attacker top note) (no_leaf : IsNoLeaf (rule_of note)) where
   its_check : ChecksBy (rule_of note) (step_of note) (under_of note)
-  its_check = checked note h.valid h.own h.concludes (h.turn ∙ sym h.same_attacker)
+  its_check = checked note h.valid h.own no_leaf h.concludes (h.turn ∙ sym h.same_attacker)
 
   abbrev d : Derivation
   d = its_check.note
@@ -490,10 +516,10 @@ module _ (version : Version) (attacker : Side) (top note : Derivation) (h : IsPe
 
 -- 7. What is known of a mate's note that carries none, the attacker's to move
 
--- its last step is by a check
-pub by_check : (note : Derivation) → IsValid note → IsOwn note → conclusion_of note ≡ Mate → (position_of note).side ≡ attacker_of note
+-- where it is no leaf, its last step is by a check
+pub by_check : (note : Derivation) → IsValid note → IsOwn note → IsNoLeaf (rule_of note) → conclusion_of note ≡ Mate → (position_of note).side ≡ attacker_of note
     → (check : Move) × (rule_of note ≡ MateBy check)
-by_check note v own is at = let by = checked note v own is at in (by.check, by.by)
+by_check note v own no_leaf is at = let by = checked note v own no_leaf is at in (by.check, by.by)
 
 -- a note that serves for the problem is one to be walked
 pub pending_first : (version : Version) (conclusion : Conclusion) (p : Board) (note : Derivation) → IsValid note → Serves version conclusion p.side p note
@@ -507,3 +533,37 @@ pending_first version conclusion p note valid serves turn = record {
   turn = turn;
   fits = serves.fits;
 }
+
+-- 8. A leaf that is to be walked: what it stands with, in the version of the walk
+
+-- what is borne out in the leaf's version is borne out in that of the walk
+pub borne_in : (version own : Version) (attacker : Side) (entries : List MateEntry) (entry : MateEntry) → (version ≡ One → own ≡ One)
+    → IsBorneOut own entries attacker entry → IsBorneOut version entries attacker entry
+borne_in version One attacker entries entry fits borne = borne_out_stays version attacker entries entry borne
+borne_in Two Two attacker entries entry fits borne = borne
+borne_in One Two attacker entries entry fits borne = absurd (let e = fits refl in cc)
+
+pub held_in : (version own : Version) (attacker : Side) (s : List Board) (b : Board) → (version ≡ One → own ≡ One) → IsHeld own s attacker b
+    → IsHeld version s attacker b
+held_in version One attacker s b fits held = held_stays version attacker s b held
+held_in Two Two attacker s b fits held = held
+held_in One Two attacker s b fits held = absurd (let e = fits refl in cc)
+
+pub leaf_fits : (note : Derivation) (rule : Rule) (version own : Version) → IsValid note → rule_of note ≡ rule
+    → ((rest : Version) → version_by rule rest ≡ later own rest) → (version ≡ One → version_in note ≡ One) → version ≡ One → own ≡ One
+leaf_fits (derived s notes) rule version own valid is by fits one =
+    (both_one own (version_under notes) (sym (by (version_under notes)) ∙ (ap (λ (r : Rule). version_by r (version_under notes)) (sym is) ∙ fits one))).0
+
+pub leaf_high : (note : Derivation) (own : Version) (rank : ℕ) → IsValid note → rule_of note ≡ MateLeaf own rank → height_of note ≡ 2 * rank
+leaf_high (derived s notes) own rank valid is = valid.1.height ∙ ap (λ (rule : Rule). height_by rule (listed notes)) is
+
+-- a mate that is no mate's leaf is no leaf, and so for an escape
+pub no_mate_leaf : (rule : Rule) → concluded rule ≡ Mate → ((version : Version) (rank : ℕ) → rule ≡ MateLeaf version rank → ⊥) → IsNoLeaf rule
+no_mate_leaf (MateLeaf version rank) is isnt = absurd (isnt version rank refl)
+no_mate_leaf (EscapeLeaf version) is isnt = absurd (cc)
+no_mate_leaf rule is isnt = tt
+
+pub no_escape_leaf : (rule : Rule) → concluded rule ≡ Escape → ((version : Version) → rule ≡ EscapeLeaf version → ⊥) → IsNoLeaf rule
+no_escape_leaf (MateLeaf version rank) is isnt = absurd (cc)
+no_escape_leaf (EscapeLeaf version) is isnt = absurd (isnt version refl)
+no_escape_leaf rule is isnt = tt

@@ -15,7 +15,7 @@ use Rattle.hand_dominance.specs.BorneOut.{Covers}
 use Rattle.hand_dominance.proofs.Listed.{itself, above_too}
 use Rattle.hand_dominance.proofs.Above.{serves_below}
 use Rattle.notes.specs.declared.rule.Rule.{Rule}
-use Rattle.notes.specs.declared.rule.Rule.TheVariants.{Carry}
+use Rattle.notes.specs.declared.rule.Rule.TheVariants.{Carry, MateLeaf, EscapeLeaf}
 use Rattle.notes.specs.declared.rule.Conclusion.{Conclusion}
 use Rattle.notes.specs.declared.rule.Conclusion.TheVariants.{Mate, Escape}
 use Rattle.notes.specs.Derivation.{Step, Derivation, Derivations, derived, none_under, one_under, listed, under_of, attacker_of, position_of, tag_of, height_of, conclusion_of, concluded, highest, height_by, later, version_by, version_in, version_under, source_by, source_of, steps_of, IsOwn}
@@ -182,13 +182,15 @@ own_in_one : (note : Derivation) → version_in note ≡ One → IsOwn note
 own_in_one (derived s notes) one conclusion carry =
     not_one (sym (ap (λ (rule : Rule). version_by rule (version_under notes)) carry) ∙ one)
 
-one_under_rule : (rule : Rule) (version : Version) → version_by rule version ≡ One → version ≡ One
-one_under_rule (Carry conclusion) version one = absurd (not_one one)
-one_under_rule rule version one = one
-
-both_one : (a b : Version) → later a b ≡ One → (a ≡ One) × (b ≡ One)
+pub both_one : (a b : Version) → later a b ≡ One → (a ≡ One) × (b ≡ One)
 both_one One b one = (refl, one)
 both_one Two b one = absurd (not_one one)
+
+one_under_rule : (rule : Rule) (version : Version) → version_by rule version ≡ One → version ≡ One
+one_under_rule (Carry conclusion) version one = absurd (not_one one)
+one_under_rule (MateLeaf own rank) version one = (both_one own version one).1
+one_under_rule (EscapeLeaf own) version one = (both_one own version one).1
+one_under_rule rule version one = one
 
 each_one : (notes : Derivations) (note : Derivation) → version_under notes ≡ One → Contains (listed notes) note → version_in note ≡ One
 each_one none_under note one c = absurd (let inside = c.1 in omega (arith, inside))

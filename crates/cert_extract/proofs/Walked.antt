@@ -1,28 +1,30 @@
 -- The notes that were walked: which they are, what is listed of them, and which may follow.
-use Rattle.std.proofs.Common.{◌≡◌, ◌<◌, ◌++◌, ◌⊎◌, inl, inr, ℕ, suc, List, [], ◌∷◌, length, map, set, reverse, Contains, arith, refl, sym, ◌∙◌, ap, subst}
-use Rattle.std.specs.Prelude.{Some, slice_get}
-use Rattle.std.specs.Option.{option_map}
-use Rattle.std.proofs.lemmas.List.{length-append, length-map, map_push}
-use Rattle.std.proofs.lemmas.Option.{same_Some, slice_get-map}
+use Rattle.std.proofs.Common.{◌≡◌, ◌<◌, ◌*◌, ◌++◌, ◌⊎◌, inl, inr, ℕ, List, [], ◌∷◌, length, map, set, reverse, Contains, arith, refl, sym, ◌∙◌, ap, subst}
+use Rattle.std.proofs.lemmas.List.{length-append}
 use Rattle.std.proofs.lemmas.List.Elements.{Contains-append_left, Contains-append_cases, Contains-push, Contains-push_cases}
 use Rattle.bit_boards.specs.declared.piece.Side.{Side}
 use Rattle.board_core.specs.Board.{Board}
 use Rattle.list_laws.proofs.Standing.{contained, at_place, from_map, contains_map}
 use Rattle.mate_facts.specs.declared.entry.MateEntry.{MateEntry}
 use Rattle.mate_facts.specs.Entries.{AreApart, positions_of}
-use Rattle.cert_order.specs.Entries.{HaveSame}
-use Rattle.position_places.specs.declared.places.Places.{Places}
-use Rattle.position_places.specs.Places.{ArePlacesOf, IsPlaceOrNext}
 use Rattle.shogi_rules.specs.Laws.{LegalBoardMoves}
+use Rattle.notes.specs.declared.rule.Rule.{Rule}
 use Rattle.notes.specs.declared.rule.Conclusion.TheVariants.{Mate, Escape}
 use Rattle.hand_dominance.specs.declared.version.Version.{Version}
-use Rattle.notes.specs.Derivation.{Derivation, position_of, height_of, concluded, conclusion_of, source_of}
+use Rattle.notes.specs.Derivation.{Derivation, IsNoLeaf, attacker_of, position_of, rule_of, height_of, concluded, conclusion_of, source_of}
+use Rattle.notes.specs.Valid.{IsValid}
 use Rattle.cert_extract.specs.Tree.{two_under}
 use Rattle.cert_extract.specs.Walk.{IsUnderOne, MayFollow, IsWalk}
-use Rattle.cert_extract.specs.Extracted.{IsMet, HasMoreThan}
+use Rattle.cert_extract.specs.Beside.{IsBeside, Tells}
+use Rattle.cert_extract.specs.Extracted.{IsLeafOf, IsMet, HasMoreThan, IsEndFor}
+use Rattle.cert_extract.specs.declared.ends.ExtractEnd.{ExtractEnd}
+use Rattle.cert_extract.specs.declared.ends.ExtractEnd.TheVariants.{TooMany, NoMemory}
+use Rattle.cert_extract.specs.Listing.{IsFull, IsLowerThanListed, StayListed, HasListed, IsWanted, HasListedLeaf, HasMetLeaf, IsEndAt, IsEndInLeaf, IsEndInSet, IsFullInLeaf, HasPutAll, IsFullInSet}
 use Rattle.cert_extract.proofs.Trees.{of_reverse}
-use Rattle.cert_extract.proofs.Escapes.{IsListed, IsEscapeWalk, Adds, none_in, is_new, placed_new, first_pending, popped, escape_walked}
-use Rattle.cert_extract.proofs.Mates.{IsListedMate, IsMateWalk, IsEntryOf, StandsFor, StayBelow, pushed_below, set_below, set_here, positions_pushed, positions_set, its_listed, at_next}
+use Rattle.cert_extract.proofs.Rules.{leaf_high}
+use Rattle.cert_extract.proofs.Grown.{full_behind}
+use Rattle.cert_extract.proofs.Escapes.{IsListed, IsEscapeWalk, IsLeafAmong, none_in, first_pending, popped, next_listed, set_listed}
+use Rattle.cert_extract.proofs.Mates.{IsListedMate, IsMateWalk, IsEntryOf, IsLeafWith, StandsFor, not_listed, own_wanted, wanted_low, wanted_listed, its_listed, at_next}
 
 -- 1. A walk, of which a note more is walked
 
@@ -58,20 +60,26 @@ longer_walk top walked note walk may before rest other e = elim (push_split walk
 abbrev pub AreNext : Derivation → List Derivation → List Derivation → Type 0
 AreNext top walked pending = ((walked ≡ []) × (pending ≡ top ∷ [])) ⊎ ((n : Derivation) → Contains pending n → IsUnderOne walked n)
 
--- the tree's last step carries none; the walked notes are a walk, of which what is pending goes on,
--- and their positions are those listed
+-- one of the notes tells of the position
+abbrev pub IsToldBy : List Derivation → Board → Type 0
+IsToldBy walked b = (note : Derivation) × Contains walked note × Tells note b
+
+-- the tree's last step carries none; the walked notes are a walk, of which what is pending goes on;
+-- their positions are listed, and of each listed one of them tells
 pub record AreWalked (top : Derivation) (positions : List Board) (pending walked : List Derivation) : Type 0 where
   pub source : source_of top ≡ top
   pub walk : IsWalk top walked
   pub next : AreNext top walked pending
-  pub same : HaveSame positions (map position_of walked)
+  pub told : (b : Board) → Contains positions b → IsToldBy walked b
+  pub own : (n : Derivation) → Contains walked n → Contains positions (position_of n)
 
 pub none_walked : (top : Derivation) → source_of top ≡ top → AreWalked top [] (top ∷ []) []
 none_walked top source = record {
   source = source;
   walk = λ before rest note e. absurd (no_split before rest note e);
   next = inl (refl, refl);
-  same = λ b. (λ c. c, λ c. c);
+  told = λ b c. none_in b _ c;
+  own = λ n c. none_in n _ c;
 }
 
 alone : (rest : List Derivation) (note top : Derivation) → rest ++ note ∷ [] ≡ top ∷ [] → (rest ≡ []) × (top ≡ note)
@@ -89,7 +97,8 @@ module _ (top : Derivation) (positions : List Board) (rest walked : List Derivat
       | inl first ↦ λ n c. none_in n _ (subst (λ (ns : List Derivation). Contains ns n) (alone rest note top first.1).0 c)
       | inr under ↦ λ n c. under n (Contains-append_left rest (note ∷ []) n c)
     ]);
-    same = are.same;
+    told = are.told;
+    own = are.own;
   }
 
   stands_there : ((walked ≡ []) × (source_of top ≡ note)) ⊎ IsUnderOne walked note
@@ -100,7 +109,7 @@ module _ (top : Derivation) (positions : List Board) (rest walked : List Derivat
 
   -- the position of a note that was walked is listed
   pub listed_there : (earlier : Derivation) → Contains walked earlier → Contains positions (position_of earlier)
-  listed_there earlier c = (are.same (position_of earlier)).1 (contains_map position_of walked earlier c)
+  listed_there earlier c = are.own earlier c
 
   abbrev pub IsLower : Type 0
   IsLower = (earlier : Derivation) → Contains walked earlier → position_of earlier ≡ position_of note
@@ -109,66 +118,78 @@ module _ (top : Derivation) (positions : List Board) (rest walked : List Derivat
   pub lower_where_new : (¬ Contains positions (position_of note)) → IsLower
   lower_where_new new earlier c e = absurd (new (subst (Contains positions) e (listed_there earlier c)))
 
-  -- the note is walked, and what is two steps under it is pending
-  pub one_walked : IsLower → (longer : List Board) → HaveSame longer (map position_of walked ++ position_of note ∷ [])
-      → AreWalked top longer (rest ++ reverse (two_under note)) (walked ++ note ∷ [])
-  one_walked lower longer same = record {
+  -- what was walked, with the note
+  abbrev pub more_walked : List Derivation
+  more_walked = walked ++ note ∷ []
+
+  pub walk_on : IsLower → IsWalk top more_walked
+  walk_on lower = longer_walk top walked note are.walk (record { stands = stands_there; lower = lower })
+
+  -- of what is listed now one of these tells
+  pub told_more : (longer : List Board) → ((b : Board) → Contains longer b → Contains positions b ⊎ Tells note b) → (b : Board) → Contains longer b
+      → IsToldBy more_walked b
+  told_more longer of b c = elim (of b c) [
+    | inl before ↦ let found = are.told b before in (found.0, Contains-append_left walked (note ∷ []) found.0 found.1, found.2)
+    | inr tells ↦ (note, Contains-push walked note, tells)
+  ]
+
+  own_more : (longer : List Board) → ((b : Board) → Contains positions b → Contains longer b) → (earlier : Derivation) → Contains walked earlier
+      → Contains longer (position_of earlier)
+  own_more longer stay earlier c = stay (position_of earlier) (are.own earlier c)
+
+  before_under : (n : Derivation) → Contains rest n → IsUnderOne more_walked n
+  before_under n c = elim are.next [
+    | inl first ↦ none_in n _ (subst (λ (ns : List Derivation). Contains ns n) (alone rest note top first.1).0 c)
+    | inr under ↦
+        let up = under n (Contains-append_left rest (note ∷ []) n c) in
+        (up.0, Contains-append_left walked (note ∷ []) up.0 up.1, up.2)
+  ]
+
+  -- the note is walked, and of what is two steps under it some is pending
+  pub one_walked : IsLower → (longer : List Board) → ((b : Board) → Contains positions b → Contains longer b)
+      → ((b : Board) → Contains longer b → Contains positions b ⊎ Tells note b) → Contains longer (position_of note) → (ahead : List Derivation)
+      → ((n : Derivation) → Contains ahead n → Contains rest n ⊎ Contains (two_under note) n) → AreWalked top longer ahead more_walked
+  one_walked lower longer stay of here ahead from = record {
     source = are.source;
-    walk = longer_walk top walked note are.walk (record { stands = stands_there; lower = lower });
-    next = inr (λ n c. elim (Contains-append_cases rest (reverse (two_under note)) n c) [
-      | inl before ↦ before_under n before
-      | inr new ↦ (note, Contains-push walked note, of_reverse (two_under note) n new)
-    ]);
-    same = subst (HaveSame longer) (sym (map_push position_of walked note)) same;
+    walk = walk_on lower;
+    next = inr (λ n c. elim (from n c) [ inl before ↦ before_under n before | inr new ↦ (note, Contains-push walked note, new) ]);
+    told = told_more longer of;
+    own = λ n c. elim (Contains-push_cases walked note n c) [
+      | inl before ↦ own_more longer stay n before
+      | inr same ↦ subst (λ (d : Derivation). Contains longer (position_of d)) same here
+    ];
   }
-    where
-      before_under : (n : Derivation) → Contains rest n → IsUnderOne (walked ++ note ∷ []) n
-      before_under n c = elim are.next [
-        | inl first ↦ none_in n _ (subst (λ (ns : List Derivation). Contains ns n) (alone rest note top first.1).0 c)
-        | inr under ↦
-            let up = under n (Contains-append_left rest (note ∷ []) n c) in
-            (up.0, Contains-append_left walked (note ∷ []) up.0 up.1, up.2)
-      ]
 
--- 3. The same items, with one more
+  -- the note is walked, and tells of one too many
+  pub more_met : (most : ℕ) (p : Board) → IsLower → (longer : List Board) → ((b : Board) → Contains positions b → Contains longer b)
+      → ((b : Board) → Contains longer b → Contains positions b ⊎ Tells note b) → (IsNoLeaf (rule_of note) → Contains longer (position_of note))
+      → most < length longer → AreApart longer → ((b : Board) → Contains longer b → IsMet top p.side b) → HasMoreThan most p top
+  more_met most p lower longer stay of here many apart from = record {
+    walked = more_walked;
+    walk = walk_on lower;
+    positions = longer;
+    told = told_more longer of;
+    own = λ n c no_leaf. elim (Contains-push_cases walked note n c) [
+      | inl before ↦ own_more longer stay n before
+      | inr same ↦
+          subst (λ (d : Derivation). Contains longer (position_of d)) same
+          (here (subst (λ (d : Derivation). IsNoLeaf (rule_of d)) (sym same) no_leaf))
+    ];
+    apart = apart;
+    more = many;
+    from = from;
+  }
 
-one_way : {X : Type 0} (xs ys : List X) (y x : X) → (Contains xs x → Contains ys x) → Contains (xs ++ y ∷ []) x → Contains (ys ++ y ∷ []) x
-one_way {X} xs ys y x go c = elim (Contains-push_cases xs y x c) [
-  | inl before ↦ Contains-append_left ys (y ∷ []) x (go before)
-  | inr same ↦ subst (Contains (ys ++ y ∷ [])) same (Contains-push ys y)
+-- what is pending behind a note that gave way to those two steps under it
+two_more : (rest : List Derivation) (note n : Derivation) → Contains (rest ++ reverse (two_under note)) n → Contains rest n ⊎ Contains (two_under note) n
+two_more rest note n c = elim (Contains-append_cases rest (reverse (two_under note)) n c) [
+  | inl before ↦ inl before
+  | inr new ↦ inr (of_reverse (two_under note) n new)
 ]
 
-same_pushed : {X : Type 0} (xs ys : List X) (y : X) → HaveSame xs ys → HaveSame (xs ++ y ∷ []) (ys ++ y ∷ [])
-same_pushed xs ys y same x = (λ c. one_way xs ys y x (same x).0 c, λ c. one_way ys xs y x (same x).1 c)
-
-same_again : {X : Type 0} (xs ys : List X) (y : X) → HaveSame xs ys → Contains xs y → HaveSame xs (ys ++ y ∷ [])
-same_again {X} xs ys y same there x = (
-  λ c. Contains-append_left ys (y ∷ []) x ((same x).0 c),
-  λ c. elim (Contains-push_cases ys y x c) [
-    | inl before ↦ (same x).1 before
-    | inr is ↦ subst (Contains xs) is there
-  ],
-)
-
--- 4. One note too many
-
--- as many are listed as are asked for at most, and the next note's position isn't among them
-more_met : (most : ℕ) (p : Board) (top : Derivation) (positions : List Board) (rest walked : List Derivation) (note : Derivation)
-    → AreWalked top positions (rest ++ note ∷ []) walked → (¬ Contains positions (position_of note)) → most ≡ length positions
-    → AreApart (positions ++ position_of note ∷ []) → ((b : Board) → Contains (positions ++ position_of note ∷ []) b → IsMet top p.side b)
-    → HasMoreThan most p top
-more_met most p top positions rest walked note are new full apart from =
-    let more = one_walked top positions rest walked note are (lower_where_new top positions rest walked note are new)
-    (positions ++ position_of note ∷ []) (same_pushed positions (map position_of walked) (position_of note) are.same) in
-    record {
-      walked = walked ++ note ∷ [];
-      walk = more.walk;
-      positions = positions ++ position_of note ∷ [];
-      same = more.same;
-      apart = apart;
-      more = (let long = length-append positions (position_of note ∷ []) in omega (arith, long, full));
-      from = from;
-    }
+-- one more than so many
+many_more : (most : ℕ) (positions : List Board) (b : Board) → most ≡ length positions → most < length (positions ++ b ∷ [])
+many_more most positions b full = let long = length-append positions (b ∷ []) in omega (arith, long, full)
 
 -- 5. An escape
 
@@ -180,7 +201,7 @@ met_escape : (attacker : Side) (top : Derivation) (b : Board) → conclusion_of 
 met_escape attacker top b escape listed = record {
   note = listed.from.note;
   within = listed.from.within;
-  about = listed.from.about;
+  tells = listed.from.tells;
   concludes = listed.from.concludes ∙ sym escape;
   turn = listed.turn;
 }
@@ -200,27 +221,81 @@ module _ {A : Type 0} (v : A → Derivation) where
     pub escapes_past : SomeWalked top positions (map v rest)
     escapes_past = (at_note.0, still_walked top positions (map v rest) at_note.0 (v next) at_note.1)
 
-    pub escapes_on : (longer : List Board) (new : List A) (r : Board) → map v new ≡ map v rest ++ reverse (two_under (v next)) → r ≡ position_of (v next)
-        → longer ≡ positions ++ r ∷ [] → (¬ Contains positions (position_of (v next))) → SomeWalked top longer (map v new)
-    escapes_on longer new r pushed same listed fresh =
-        subst (λ (bs : List Board). SomeWalked top bs (map v new)) (sym (listed ∙ ap (λ (b : Board). positions ++ b ∷ []) same))
-        (subst (SomeWalked top (positions ++ position_of (v next) ∷ [])) (sym pushed) (
-          at_note.0 ++ v next ∷ [],
-          one_walked top positions (map v rest) at_note.0 (v next) at_note.1
-              (lower_where_new top positions (map v rest) at_note.0 (v next) at_note.1 fresh) (positions ++ position_of (v next) ∷ [])
-              (same_pushed positions (map position_of at_note.0) (position_of (v next)) at_note.1.same),
-        ))
+    module _ (fresh : ¬ Contains positions (position_of (v next))) where
+      lower_here : IsLower top positions (map v rest) at_note.0 (v next) at_note.1
+      lower_here = lower_where_new top positions (map v rest) at_note.0 (v next) at_note.1 fresh
 
-    pub escape_too_many : (version : Version) (p q : Board) (old new : Places) (place most : ℕ) → conclusion_of top ≡ Escape → q ≡ position_of (v next)
-        → ArePlacesOf old positions → Adds old q new → IsPlaceOrNext positions q place → place ≡ length positions → place ≡ most
-        → IsEscapeWalk version p top positions (map v pending) → HasMoreThan most p top
-    escape_too_many version p q old new place most escape same known adds at last full walk =
-        let at_next = subst (IsEscapeWalk version p top positions) (popped v pending rest next is) walk in
-        let walked = escape_walked version p top positions (map v rest) (v next) at_next in
-        more_met most p top positions (map v rest) at_note.0 (v next) at_note.1
-        (subst (λ (b : Board). ¬ Contains positions b) same (is_new positions q place at last)) (sym full ∙ last)
-        (placed_new old new q (position_of (v next)) positions (positions ++ position_of (v next) ∷ []) place known adds at last (sym same) refl).apart
-        (λ b c. met_escape p.side top b escape (walked.listed b c))
+      pub escapes_on : (longer : List Board) (new : List A) → map v new ≡ map v rest ++ reverse (two_under (v next))
+          → longer ≡ positions ++ position_of (v next) ∷ [] → SomeWalked top longer (map v new)
+      escapes_on longer new pushed listed =
+          subst (λ (bs : List Board). SomeWalked top bs (map v new)) (sym listed)
+          (subst (SomeWalked top (positions ++ position_of (v next) ∷ [])) (sym pushed) (
+            at_note.0 ++ v next ∷ [],
+            one_walked top positions (map v rest) at_note.0 (v next) at_note.1 lower_here (positions ++ position_of (v next) ∷ [])
+                (λ b c. Contains-append_left positions (position_of (v next) ∷ []) b c)
+                (λ b c. elim (Contains-push_cases positions (position_of (v next)) b c) [ inl before ↦ inl before | inr same ↦ inr (inl same) ])
+                (Contains-push positions (position_of (v next))) (map v rest ++ reverse (two_under (v next))) (two_more (map v rest) (v next)),
+          ))
+
+      -- what stands beside a leaf is told by it
+      beside : (set : List Board) → IsLeafAmong (v next) set → (b : Board) → Contains set b → Tells (v next) b
+      beside set leaf b inside =
+          inr (subst (λ (rule : Rule). IsBeside rule (attacker_of (v next)) (position_of (v next)) b) (sym leaf.leaf)
+          (record { among = record { positions = set; are = leaf.are; listed = leaf.listed }; listed = inside }))
+
+      pub escapes_leaf_on : (new set : List Board) → IsLeafAmong (v next) set → HasPutAll set positions new → SomeWalked top new (map v rest)
+      escapes_leaf_on new set leaf has = (
+        at_note.0 ++ v next ∷ [],
+        one_walked top positions (map v rest) at_note.0 (v next) at_note.1 lower_here new has.grown.stay
+            (λ b c. elim (has.grown.of b c) [ inl before ↦ inl before | inr inside ↦ inr (beside set leaf b inside) ])
+            (has.all (position_of (v next)) leaf.listed) (map v rest) (λ n c. inl c),
+      )
+
+      module _ (version : Version) (p : Board) (most : ℕ) (escape : conclusion_of top ≡ Escape) (walk : IsEscapeWalk version p top positions (map v pending)) where
+        walk_at : IsEscapeWalk version p top positions (map v rest ++ v next ∷ [])
+        walk_at = subst (IsEscapeWalk version p top positions) (popped v pending rest next is) walk
+
+        pub escape_too_many : IsFull most positions (position_of (v next)) → HasMoreThan most p top
+        escape_too_many full =
+            let longer = positions ++ position_of (v next) ∷ [] in
+            more_met top positions (map v rest) at_note.0 (v next) at_note.1 most p lower_here longer
+            (λ b c. Contains-append_left positions (position_of (v next) ∷ []) b c)
+            (λ b c. elim (Contains-push_cases positions (position_of (v next)) b c) [ inl before ↦ inl before | inr same ↦ inr (inl same) ])
+            (λ no_leaf. Contains-push positions (position_of (v next))) (many_more most positions (position_of (v next)) full.full) full.apart
+            (λ b c. met_escape p.side top b escape (next_listed version p top positions (map v rest) (v next) walk_at b c))
+
+        pub escape_leaf_too_many : (set : List Board) → IsLeafAmong (v next) set → IsFullInSet most set positions → HasMoreThan most p top
+        escape_leaf_too_many set leaf full =
+            let longer = full.new ++ full.b ∷ [] in
+            let of : (b : Board) → Contains longer b → Contains positions b ⊎ Contains set b =
+            λ b c. elim (Contains-push_cases full.new full.b b c) [
+              | inl before ↦ full.grown.of b before
+              | inr same ↦ inr (subst (Contains set) same full.inside)
+            ] in
+            more_met top positions (map v rest) at_note.0 (v next) at_note.1 most p lower_here longer
+            (λ b c. Contains-append_left full.new (full.b ∷ []) b (full.grown.stay b c))
+            (λ b c. elim (of b c) [ inl before ↦ inl before | inr inside ↦ inr (beside set leaf b inside) ])
+            (λ no_leaf. absurd (subst IsNoLeaf leaf.leaf no_leaf)) (many_more most full.new full.b full.full.full) full.full.apart
+            (λ b c. met_escape p.side top b escape (elim (of b c) [
+              | inl before ↦ walk_at.listed b before
+              | inr inside ↦ set_listed version p top positions (map v rest) (v next) walk_at set leaf b inside
+            ]))
+
+module _ {A : Type 0} (v : A → Derivation) (top : Derivation) (positions : List Board) (pending rest : List A) (next : A) (is : pending ≡ rest ++ next ∷ [])
+    (some : SomeWalked top positions (map v pending)) where
+  -- what ends the listing ends the walk
+  pub escape_end : (version : Version) (p : Board) (most : ℕ) → conclusion_of top ≡ Escape → IsEscapeWalk version p top positions (map v pending)
+      → (end : ExtractEnd) → IsEndAt most positions (position_of (v next)) end → IsEndFor most p top end
+  escape_end version p most escape walk TooMany full = escape_too_many v top positions pending rest next is some full.new version p most escape walk full
+  escape_end version p most escape walk NoMemory full = tt
+
+  pub escape_leaf_end : (¬ Contains positions (position_of (v next))) → (version : Version) (p : Board) (most : ℕ) → conclusion_of top ≡ Escape
+      → IsEscapeWalk version p top positions (map v pending) → (set : List Board) → IsLeafAmong (v next) set → (mid : List Board)
+      → mid ≡ positions ++ position_of (v next) ∷ [] → (end : ExtractEnd) → IsEndInSet most set mid end → IsEndFor most p top end
+  escape_leaf_end fresh version p most escape walk set leaf mid put TooMany full =
+      escape_leaf_too_many v top positions pending rest next is some fresh version p most escape walk set leaf
+      (full_behind set most positions (position_of (v next)) mid leaf.listed put full)
+  escape_leaf_end fresh version p most escape walk set leaf mid put NoMemory full = tt
 
 -- 6. A mate
 
@@ -230,58 +305,92 @@ pub record MatesWalked (top : Derivation) (entries : List MateEntry) (pending : 
   pub low : (n : Derivation) → Contains walked n → StandsFor entries n
 
 -- ranks have only fallen
-still_low : (attacker : Side) (entries more : List MateEntry) (n : Derivation) → StayBelow attacker entries more → StandsFor entries n → StandsFor more n
-still_low attacker entries more n stay h =
-    let l = stay (suc h.entry.rank.number) h.entry.at (record { entry = h.entry; listed = h.listed; covers = refl; lower = omega arith }) in
-    let under = l.lower in
+still_low : (entries more : List MateEntry) (n : Derivation) → StayListed entries more → StandsFor entries n → StandsFor more n
+still_low entries more n stay h =
+    let found = stay h.entry.at h.entry.rank.number (record { entry = h.entry; listed = h.listed; same = refl; low = omega arith }) in
     let low = h.low in
-    record { entry = l.entry; listed = l.listed; same = sym l.covers ∙ h.same; low = omega (arith, under, low) }
+    let below = found.low in
+    record { entry = found.entry; listed = found.listed; same = found.same ∙ h.same; low = omega (arith, low, below) }
 
--- no two entries are about the same position
-one_entry : (entries : List MateEntry) (place : ℕ) (old entry : MateEntry) → AreApart (positions_of entries) → slice_get entries place ≡ Some old
-    → Contains entries entry → entry.at ≡ old.at → old ≡ entry
-one_entry entries place old entry apart at c same =
-    let f : MateEntry → Board = λ e. e.at in
-    let here = slice_get-map f entries place ∙ ap (option_map f) at in
-    let there = slice_get-map f entries c.0 ∙ ap (option_map f) (at_place entries entry c) in
-    let one = apart place c.0 old.at here (there ∙ ap (λ (b : Board). Some b) same) in
-    same_Some old entry (sym at ∙ (ap (slice_get entries) one ∙ at_place entries entry c))
+-- of what a leaf says an entry, it tells of its position
+leaf_tells : (note : Derivation) (entry : MateEntry) → IsLeafOf note entry → Tells note entry.at
+leaf_tells note entry leaf =
+    inr (subst (λ (rule : Rule). IsBeside rule (attacker_of note) (position_of note) entry.at) (sym leaf.leaf) (entry, leaf.beside, refl))
 
 met_mate : (attacker : Side) (top : Derivation) (entry : MateEntry) → conclusion_of top ≡ Mate → IsListedMate attacker top entry
     → IsMet top attacker entry.at
 met_mate attacker top entry mate listed = record {
   note = listed.from.note;
   within = listed.from.within;
-  about = listed.from.about;
-  concludes = ap concluded listed.from.by ∙ sym mate;
+  tells = elim listed.from.says [ inl step ↦ inl step.about | inr leaf ↦ leaf_tells listed.from.note entry leaf ];
+  concludes = elim listed.from.says [ inl step ↦ ap concluded step.by ∙ sym mate | inr leaf ↦ ap concluded leaf.leaf ∙ sym mate ];
   turn = listed.turn;
 }
 
+-- each listed position is met
+met_listed : (version : Version) (p : Board) (top : Derivation) (entries : List MateEntry) (pending : List Derivation)
+    → IsMateWalk version p top entries pending → conclusion_of top ≡ Mate → (b : Board) → Contains (positions_of entries) b → IsMet top p.side b
+met_listed version p top entries pending walk mate b c =
+    let found = from_map (λ (e : MateEntry). e.at) entries c.0 b (at_place (positions_of entries) b c) in
+    subst (IsMet top p.side) found.2 (met_mate p.side top found.0 mate (walk.listed found.0 (contained entries c.0 found.0 found.1)))
+
+-- the positions of what is listed now
+positions_more : (entries more : List MateEntry) (P : MateEntry → Type 0) (Q : Board → Type 0)
+    → ((entry : MateEntry) → Contains more entry → Contains entries entry ⊎ P entry) → ((entry : MateEntry) → P entry → Q entry.at) → (b : Board)
+    → Contains (positions_of more) b → Contains (positions_of entries) b ⊎ Q b
+positions_more entries more P Q of give b c =
+    let found = from_map (λ (e : MateEntry). e.at) more c.0 b (at_place (positions_of more) b c) in
+    elim (of found.0 (contained more c.0 found.0 found.1)) [
+      | inl before ↦ inl (subst (Contains (positions_of entries)) found.2 (contains_map (λ (e : MateEntry). e.at) entries found.0 before))
+      | inr new ↦ inr (subst Q found.2 (give found.0 new))
+    ]
+
+-- a position that is listed stays listed
+positions_stay : (entries more : List MateEntry) → StayListed entries more → (b : Board) → Contains (positions_of entries) b → Contains (positions_of more) b
+positions_stay entries more stay b c =
+    let found = from_map (λ (e : MateEntry). e.at) entries c.0 b (at_place (positions_of entries) b c) in
+    let still = stay b found.0.rank.number (record { entry = found.0; listed = contained entries c.0 found.0 found.1; same = found.2; low = omega arith }) in
+    subst (Contains (positions_of more)) still.same (contains_map (λ (e : MateEntry). e.at) more still.entry still.listed)
+
 module _ (top : Derivation) (entries : List MateEntry) (rest : List Derivation) (note : Derivation)
     (mates : MatesWalked top entries (rest ++ note ∷ [])) where
-  -- the note is walked, and its entry listed
-  mates_more : (attacker : Side) (entry : MateEntry) (more : List MateEntry) → IsEntryOf note entry → StayBelow attacker entries more → Contains more entry
+  -- a mate whose position is listed with a greater rank, if at all, is lower than each that was
+  -- walked there
+  mate_lower_here : (rank : ℕ) → conclusion_of note ≡ Mate → height_of note ≡ 2 * rank → IsLowerThanListed entries (position_of note) rank
       → IsLower top (positions_of entries) rest mates.walked note mates.are
-      → HaveSame (positions_of more) (map position_of mates.walked ++ position_of note ∷ []) → MatesWalked top more (rest ++ reverse (two_under note))
-  mates_more attacker entry more its stay there lower same = record {
+  mate_lower_here rank mate high lower earlier c e =
+      let found = mates.low earlier c in
+      let less = lower found.entry found.listed (found.same ∙ e) in
+      let low = found.low in
+      (mate, omega (arith, less, low, high))
+
+  -- the note is walked, and an entry stands for it
+  mates_more : (rank : ℕ) → conclusion_of note ≡ Mate → height_of note ≡ 2 * rank → IsLowerThanListed entries (position_of note) rank
+      → (more : List MateEntry) → StayListed entries more → ((b : Board) → Contains (positions_of more) b → Contains (positions_of entries) b ⊎ Tells note b)
+      → StandsFor more note → (ahead : List Derivation) → ((n : Derivation) → Contains ahead n → Contains rest n ⊎ Contains (two_under note) n)
+      → MatesWalked top more ahead
+  mates_more rank mate high lower more stay of here ahead from = record {
     walked = mates.walked ++ note ∷ [];
-    are = one_walked top (positions_of entries) rest mates.walked note mates.are lower (positions_of more) same;
+    are = one_walked top (positions_of entries) rest mates.walked note mates.are (mate_lower_here rank mate high lower) (positions_of more)
+        (positions_stay entries more stay) of
+        (subst (Contains (positions_of more)) here.same (contains_map (λ (e : MateEntry). e.at) more here.entry here.listed)) ahead from;
     low = λ n c. elim (Contains-push_cases mates.walked note n c) [
-      | inl before ↦ still_low attacker entries more n stay (mates.low n before)
-      | inr is ↦ subst (StandsFor more) is (record { entry = entry; listed = there; same = its.about; low = (let high = its.high in omega (arith, high)) })
+      | inl before ↦ still_low entries more n stay (mates.low n before)
+      | inr same ↦ subst (StandsFor more) same here
     ];
   }
 
-  -- a mate whose position is listed with a greater rank is lower than each that was walked there
-  lower_again : (place : ℕ) (old entry : MateEntry) → IsEntryOf note entry → AreApart (positions_of entries) → slice_get entries place ≡ Some old
-      → old.at ≡ entry.at → entry.rank.number < old.rank.number → IsLower top (positions_of entries) rest mates.walked note mates.are
-  lower_again place old entry its apart at same less earlier c e =
-      let found = mates.low earlier c in
-      let is = one_entry entries place old found.entry apart at found.listed (found.same ∙ (e ∙ (sym its.about ∙ sym same))) in
-      let rank : old.rank.number ≡ found.entry.rank.number = ap (λ (m : MateEntry). m.rank.number) is in
-      let low = found.low in
-      let high = its.high in
-      (ap concluded its.by, omega (arith, rank, low, high, less))
+  -- it tells of one too many
+  mates_met : (most : ℕ) (p : Board) (rank : ℕ) → conclusion_of note ≡ Mate → height_of note ≡ 2 * rank
+      → IsLowerThanListed entries (position_of note) rank → (positions : List Board) (b : Board)
+      → ((q : Board) → Contains (positions_of entries) q → Contains positions q)
+      → ((q : Board) → Contains (positions ++ b ∷ []) q → Contains (positions_of entries) q ⊎ Tells note q)
+      → (IsNoLeaf (rule_of note) → b ≡ position_of note) → IsFull most positions b
+      → ((q : Board) → Contains (positions ++ b ∷ []) q → IsMet top p.side q) → HasMoreThan most p top
+  mates_met most p rank mate high lower positions b stay of here full met =
+      more_met top (positions_of entries) rest mates.walked note mates.are most p (mate_lower_here rank mate high lower) (positions ++ b ∷ [])
+      (λ q c. Contains-append_left positions (b ∷ []) q (stay q c)) of
+      (λ no_leaf. subst (Contains (positions ++ b ∷ [])) (here no_leaf) (Contains-push positions b)) (many_more most positions b full.full) full.apart met
 
 module _ {A : Type 0} (v : A → Derivation) where
   pub mates_at_first : (entries : List MateEntry) (pending none : List A) (x : A) → entries ≡ [] → none ≡ [] → pending ≡ none ++ x ∷ []
@@ -303,55 +412,107 @@ module _ {A : Type 0} (v : A → Derivation) where
       low = at_mate.low;
     }
 
-    module _ (attacker : Side) (entry : MateEntry) (its : IsEntryOf (v next) entry) where
-      fresh : (place : ℕ) → IsPlaceOrNext (positions_of entries) entry.at place → place ≡ length entries
-          → ¬ Contains (positions_of entries) (position_of (v next))
-      fresh place at last =
-          let many = length-map entries (λ (e : MateEntry). e.at) in
-          subst (λ (b : Board). ¬ Contains (positions_of entries) b) its.about (is_new (positions_of entries) entry.at place at (last ∙ sym many))
+    module _ (entry : MateEntry) (its : IsEntryOf (v next) entry) where
+      its_lower : IsLowerThanListed entries entry.at entry.rank.number → IsLowerThanListed entries (position_of (v next)) entry.rank.number
+      its_lower lower = subst (λ (b : Board). IsLowerThanListed entries b entry.rank.number) its.about lower
 
-      pub mates_on : (more : List MateEntry) (new : List A) (place : ℕ) → map v new ≡ map v rest ++ reverse (two_under (v next))
-          → IsPlaceOrNext (positions_of entries) entry.at place → place ≡ length entries → more ≡ entries ++ entry ∷ [] → MatesWalked top more (map v new)
-      mates_on more new place pushed at last listed =
-          subst (λ (es : List MateEntry). MatesWalked top es (map v new)) (sym listed)
-          (subst (MatesWalked top (entries ++ entry ∷ [])) (sym pushed)
-          (mates_more top entries (map v rest) (v next) at_mate attacker entry (entries ++ entry ∷ []) its (pushed_below attacker entries entry) (Contains-push entries entry)
-          (lower_where_new top (positions_of entries) (map v rest) at_mate.walked (v next) at_mate.are (fresh place at last))
-          (subst (λ (bs : List Board). HaveSame bs (map position_of at_mate.walked ++ position_of (v next) ∷ []))
-          (sym (positions_pushed entries entry ∙ ap (λ (b : Board). positions_of entries ++ b ∷ []) its.about))
-          (same_pushed (positions_of entries) (map position_of at_mate.walked) (position_of (v next)) at_mate.are.same))))
+      -- of its own position a note tells
+      told_own : (b : Board) → entry.at ≡ b → Tells (v next) b
+      told_own b same = inl (sym its.about ∙ same)
 
-      pub mates_lower : (more : List MateEntry) (new : List A) (old : MateEntry) (place : ℕ) → map v new ≡ map v rest ++ reverse (two_under (v next))
-          → AreApart (positions_of entries) → slice_get entries place ≡ Some old → old.at ≡ entry.at → entry.rank.number < old.rank.number
-          → more ≡ set entries place entry → MatesWalked top more (map v new)
-      mates_lower more new old place pushed apart at same less listed =
-          subst (λ (es : List MateEntry). MatesWalked top es (map v new)) (sym listed)
-          (subst (MatesWalked top (set entries place entry)) (sym pushed)
-          (mates_more top entries (map v rest) (v next) at_mate attacker entry (set entries place entry) its (set_below attacker entries place old entry at (sym same) less)
-          (set_here entries place old entry at)
-          (lower_again top entries (map v rest) (v next) at_mate place old entry its apart at same less)
-          (subst (λ (bs : List Board). HaveSame bs (map position_of at_mate.walked ++ position_of (v next) ∷ []))
-          (sym (positions_set entries place old entry at same))
-          (same_again (positions_of entries) (map position_of at_mate.walked) (position_of (v next)) at_mate.are.same
-          (subst (Contains (positions_of entries)) (same ∙ its.about)
-          (contains_map (λ (e : MateEntry). e.at) entries old (contained entries place old at)))))))
+      pub mates_on : (more : List MateEntry) (new : List A) → map v new ≡ map v rest ++ reverse (two_under (v next)) → HasListed entries entry more
+          → MatesWalked top more (map v new)
+      mates_on more new pushed has =
+          subst (MatesWalked top more) (sym pushed)
+          (mates_more top entries (map v rest) (v next) at_mate entry.rank.number (ap concluded its.by) its.high (its_lower has.lower) more has.stay
+          (positions_more entries more (λ e. entry ≡ e) (Tells (v next)) has.of (λ e same. told_own e.at (ap (λ (it : MateEntry). it.at) same)))
+          (record { entry = entry; listed = has.there; same = its.about; low = (let high = its.high in omega (arith, high)) })
+          (map v rest ++ reverse (two_under (v next))) (two_more (map v rest) (v next)))
 
-      pub mate_too_many : (version : Version) (p : Board) (old new : Places) (place most : ℕ) → conclusion_of top ≡ Mate → LegalBoardMoves → ArePlacesOf old (positions_of entries)
-          → Adds old entry.at new → IsPlaceOrNext (positions_of entries) entry.at place → place ≡ length entries → place ≡ most
-          → IsMateWalk version p top entries (map v pending) → HasMoreThan most p top
-      mate_too_many version p old new place most mate goes known adds at last full walk =
-          let many = length-map entries (λ (e : MateEntry). e.at) in
-          let behind : place ≡ length (positions_of entries) = last ∙ sym many in
+      pub mate_too_many : (version : Version) (p : Board) (most : ℕ) → conclusion_of top ≡ Mate → LegalBoardMoves
+          → IsFull most (positions_of entries) entry.at → IsMateWalk version p top entries (map v pending) → HasMoreThan most p top
+      mate_too_many version p most mate goes full walk =
           let walked = at_next v version p top entries pending rest next is walk in
-          more_met most p top (positions_of entries) (map v rest) at_mate.walked (v next) at_mate.are (fresh place at last) (sym full ∙ behind)
-          (placed_new old new entry.at (position_of (v next)) (positions_of entries) (positions_of entries ++ position_of (v next) ∷ []) place known adds at
-          behind (sym its.about) refl).apart
-          (λ b c. elim (Contains-push_cases (positions_of entries) (position_of (v next)) b c) [
-            | inl before ↦
-                let found = from_map (λ (e : MateEntry). e.at) entries before.0 b (at_place (positions_of entries) b before) in
-                subst (IsMet top p.side) found.2
-                (met_mate p.side top found.0 mate (walk.listed found.0 (contained entries before.0 found.0 found.1)))
+          mates_met top entries (map v rest) (v next) at_mate most p entry.rank.number (ap concluded its.by) its.high
+          (its_lower (not_listed entries entry.at entry.rank.number full.new)) (positions_of entries) entry.at (λ q c. c)
+          (λ q c. elim (Contains-push_cases (positions_of entries) entry.at q c) [ inl before ↦ inl before | inr same ↦ inr (told_own q same) ])
+          (λ no_leaf. its.about) full
+          (λ q c. elim (Contains-push_cases (positions_of entries) entry.at q c) [
+            | inl before ↦ met_listed version p top entries (map v pending) walk mate q before
             | inr same ↦
-                subst (IsMet top p.side) (its.about ∙ same)
+                subst (IsMet top p.side) same
                 (met_mate p.side top entry mate (its_listed version p top entries (map v rest) (v next) walked entry its goes))
           ])
+
+    module _ (set : List MateEntry) (rank : ℕ) (leaf : IsLeafWith (v next) set rank) (valid : IsValid (v next)) where
+      concludes : conclusion_of (v next) ≡ Mate
+      concludes = ap concluded leaf.leaf
+
+      high : height_of (v next) ≡ 2 * rank
+      high = leaf_high (v next) leaf.version rank valid leaf.leaf
+
+      -- what it wants stands beside it
+      told_wanted : (entry : MateEntry) → IsWanted set (position_of (v next)) rank entry → Tells (v next) entry.at
+      told_wanted entry wanted = leaf_tells (v next) entry (record {
+        version = leaf.version;
+        rank = rank;
+        leaf = leaf.leaf;
+        beside = record {
+          among = record { entries = set; are = leaf.are; listed = leaf.listed };
+          listed = wanted.inside;
+          low = wanted_low set (position_of (v next)) rank entry wanted;
+        };
+      })
+
+      leaf_on : (more : List MateEntry) → HasListedLeaf set (position_of (v next)) rank entries more → MatesWalked top more (map v rest)
+      leaf_on more has =
+          let own = leaf.listed in
+          let found = has.all own.entry (own_wanted (v next) set rank leaf) in
+          let low = found.low in
+          let same = own.has_rank in
+          mates_more top entries (map v rest) (v next) at_mate rank concludes high has.lower more has.grown.stay
+          (positions_more entries more (IsWanted set (position_of (v next)) rank) (Tells (v next)) has.grown.of told_wanted)
+          (record { entry = found.entry; listed = found.listed; same = found.same ∙ own.same; low = omega (arith, low, same, high) })
+          (map v rest) (λ n c. inl c)
+
+      pub mates_leaf_on : (more : List MateEntry) → HasMetLeaf set (position_of (v next)) rank entries more → MatesWalked top more (map v rest)
+      mates_leaf_on more met = elim met [
+        | inl has ↦ leaf_on more has
+        | inr below ↦ subst (λ (es : List MateEntry). MatesWalked top es (map v rest)) (sym below.1) mates_past
+      ]
+
+      pub mate_leaf_too_many : (version : Version) (p : Board) (most : ℕ) → conclusion_of top ≡ Mate → LegalBoardMoves
+          → IsFullInLeaf most set (position_of (v next)) rank entries → IsMateWalk version p top entries (map v pending) → HasMoreThan most p top
+      mate_leaf_too_many version p most mate goes full walk =
+          let walked = at_next v version p top entries pending rest next is walk in
+          let of : (q : Board) → Contains (positions_of full.new ++ full.entry.at ∷ []) q
+          → Contains (positions_of entries) q ⊎ ((entry : MateEntry) × IsWanted set (position_of (v next)) rank entry × (entry.at ≡ q)) =
+          λ q c. elim (Contains-push_cases (positions_of full.new) full.entry.at q c) [
+            | inl before ↦
+                positions_more entries full.new (IsWanted set (position_of (v next)) rank)
+                (λ b. (entry : MateEntry) × IsWanted set (position_of (v next)) rank entry × (entry.at ≡ b)) full.grown.of (λ e wanted. (e, wanted, refl)) q before
+            | inr same ↦ inr (full.entry, full.wanted, same)
+          ] in
+          mates_met top entries (map v rest) (v next) at_mate most p rank concludes high full.lower (positions_of full.new) full.entry.at
+          (positions_stay entries full.new full.grown.stay)
+          (λ q c. elim (of q c) [ inl before ↦ inl before | inr new ↦ inr (subst (Tells (v next)) new.2 (told_wanted new.0 new.1)) ])
+          (λ no_leaf. absurd (subst IsNoLeaf leaf.leaf no_leaf)) full.full
+          (λ q c. elim (of q c) [
+            | inl before ↦ met_listed version p top entries (map v pending) walk mate q before
+            | inr new ↦
+                subst (IsMet top p.side) new.2
+                (met_mate p.side top new.0 mate (wanted_listed version p top entries (map v rest) (v next) walked set rank leaf goes new.0 new.1))
+          ])
+
+module _ {A : Type 0} (v : A → Derivation) (top : Derivation) (entries : List MateEntry) (pending rest : List A) (next : A) (is : pending ≡ rest ++ next ∷ [])
+    (mates : MatesWalked top entries (map v pending)) (version : Version) (p : Board) (most : ℕ) (mate : conclusion_of top ≡ Mate) (goes : LegalBoardMoves)
+    (walk : IsMateWalk version p top entries (map v pending)) where
+  pub mate_end : (entry : MateEntry) → IsEntryOf (v next) entry → (end : ExtractEnd) → IsEndAt most (positions_of entries) entry.at end
+      → IsEndFor most p top end
+  mate_end entry its TooMany full = mate_too_many v top entries pending rest next is mates entry its version p most mate goes full walk
+  mate_end entry its NoMemory full = tt
+
+  pub mate_leaf_end : (set : List MateEntry) (rank : ℕ) → IsLeafWith (v next) set rank → IsValid (v next) → (end : ExtractEnd)
+      → IsEndInLeaf most set (position_of (v next)) rank entries end → IsEndFor most p top end
+  mate_leaf_end set rank leaf valid TooMany full = mate_leaf_too_many v top entries pending rest next is mates set rank leaf valid version p most mate goes full walk
+  mate_leaf_end set rank leaf valid NoMemory full = tt

@@ -1,5 +1,5 @@
 -- What is extracted from a note's tree.
-use Rattle.std.specs.Prelude.{◌≡◌, ◌<◌, ◌*◌, ℕ, List, Contains, length, map}
+use Rattle.std.specs.Prelude.{◌≡◌, ◌<◌, ◌*◌, ◌⊎◌, ℕ, List, Contains, length}
 use Rattle.bit_boards.specs.declared.piece.Side.{Side}
 use Rattle.board_core.specs.Board.{Board}
 use Rattle.mate_facts.specs.declared.entry.MateEntry.{MateEntry}
@@ -8,14 +8,15 @@ use Rattle.cert_text.specs.declared.head.Claim.{Claim}
 use Rattle.cert_text.specs.declared.head.Claim.TheVariants as claims
 use Rattle.cert_text.specs.declared.certificate.Certificate.{Certificate}
 use Rattle.cert_text.specs.declared.certificate.Certificate.TheVariants as certificates
-use Rattle.cert_order.specs.Entries.{HaveSame}
-use Rattle.notes.specs.declared.rule.Rule.TheVariants.{MateBy}
+use Rattle.hand_dominance.specs.declared.version.Version.{Version}
+use Rattle.notes.specs.declared.rule.Rule.TheVariants.{MateBy, MateLeaf}
 use Rattle.notes.specs.declared.rule.Conclusion.{Conclusion}
 use Rattle.notes.specs.declared.rule.Conclusion.TheVariants.{Mate, Escape}
-use Rattle.notes.specs.Derivation.{Derivation, IsOwn, rule_of, position_of, height_of, conclusion_of}
+use Rattle.notes.specs.Derivation.{Derivation, IsNoLeaf, IsOwn, rule_of, attacker_of, position_of, height_of, conclusion_of}
 use Rattle.cert_extract.specs.declared.ends.ExtractEnd.{ExtractEnd}
 use Rattle.cert_extract.specs.declared.ends.ExtractEnd.TheVariants.{TooMany, NoMemory}
 use Rattle.cert_extract.specs.Tree.{IsIn}
+use Rattle.cert_extract.specs.Beside.{IsEntryBeside, Tells}
 use Rattle.cert_extract.specs.Walk.{IsWalk}
 
 -- What a certificate of a conclusion claims.
@@ -23,22 +24,33 @@ abbrev pub claim_by : Conclusion → Claim
 claim_by Mate = claims.Mate
 claim_by Escape = claims.Escape
 
--- A mate's entry comes from the tree: a note in it is about the entry's position, its last step is
--- by the entry's check, and its height is twice the entry's rank.
-pub record IsMateFrom (tree : Derivation) (entry : MateEntry) : Type 0 where
-  pub note : Derivation
-  pub within : IsIn tree note
+-- A note says an entry by a step: it is about the entry's position, its last step is by the entry's
+-- check, and its height is twice the entry's rank.
+pub record IsStepOf (note : Derivation) (entry : MateEntry) : Type 0 where
   pub about : position_of note ≡ entry.at
   pub by : rule_of note ≡ MateBy entry.by
   pub high : height_of note ≡ 2 * entry.rank.number
 
--- An escape's position comes from the tree: a note in it that carries none is about the position,
+-- A leaf says an entry: its position is listed with it, and the entry's rank isn't above the leaf's.
+pub record IsLeafOf (note : Derivation) (entry : MateEntry) : Type 0 where
+  pub version : Version
+  pub rank : ℕ
+  pub leaf : rule_of note ≡ MateLeaf version rank
+  pub beside : IsEntryBeside version (attacker_of note) rank (position_of note) entry
+
+-- A mate's entry comes from the tree: a note in it says it, by a step or as a leaf.
+pub record IsMateFrom (tree : Derivation) (entry : MateEntry) : Type 0 where
+  pub note : Derivation
+  pub within : IsIn tree note
+  pub says : IsStepOf note entry ⊎ IsLeafOf note entry
+
+-- An escape's position comes from the tree: a note in it that carries none tells of the position,
 -- and concludes an escape.
 pub record IsEscapeFrom (tree : Derivation) (b : Board) : Type 0 where
   pub note : Derivation
   pub within : IsIn tree note
   pub own : IsOwn note
-  pub about : position_of note ≡ b
+  pub tells : Tells note b
   pub concludes : conclusion_of note ≡ Escape
 
 -- Each entry of a certificate comes from the tree.
@@ -46,22 +58,23 @@ abbrev pub ComesFrom : Derivation → Certificate → Type 0
 ComesFrom tree (certificates.Mate c) = (entry : MateEntry) → Contains c.entries entry → IsMateFrom tree entry
 ComesFrom tree (certificates.Escape c) = (b : Board) → Contains c.entries b → IsEscapeFrom tree b
 
--- The position is met in the tree, with this side to move: a note in it is about the position, and
+-- The position is met in the tree, with this side to move: a note in it tells of the position, and
 -- concludes what the whole does.
 pub record IsMet (tree : Derivation) (attacker : Side) (b : Board) : Type 0 where
   pub note : Derivation
   pub within : IsIn tree note
-  pub about : position_of note ≡ b
+  pub tells : Tells note b
   pub concludes : conclusion_of note ≡ conclusion_of tree
   pub turn : b.side ≡ attacker
 
--- A walk of the tree meets more different positions of the attacker than so many: those of the
--- notes that it walks, each once.
+-- A walk of the tree meets more different positions of the attacker than so many: of each a note
+-- that it walks tells, and that of each such note is one of them, unless the note is a leaf.
 pub record HasMoreThan (most : ℕ) (problem : Board) (tree : Derivation) : Type 0 where
   pub walked : List Derivation
   pub walk : IsWalk tree walked
   pub positions : List Board
-  pub same : HaveSame positions (map position_of walked)
+  pub told : (b : Board) → Contains positions b → (note : Derivation) × Contains walked note × Tells note b
+  pub own : (note : Derivation) → Contains walked note → IsNoLeaf (rule_of note) → Contains positions (position_of note)
   pub apart : AreApart positions
   pub more : most < length positions
   pub from : (b : Board) → Contains positions b → IsMet tree problem.side b

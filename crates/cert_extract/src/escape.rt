@@ -8,17 +8,19 @@ ghost use Rattle.cert_extract.specs.Extracted.{IsEscapeFrom, IsEndFor};
 ghost use Rattle.cert_extract.specs.Serving.{Serves};
 
 use crate::ends::ExtractEnd;
+use crate::leaf::list_set;
+use crate::listing::list_position;
 use crate::steps::push_next;
 use board_core::Position;
 use hand_dominance::Version;
-use notes::Note;
+use notes::{Note, Rule};
 use position_places::Places;
 use shogi_rules::Problem;
 use std::alloc::Global;
 
 /// The attacker's positions that a walk of the tree meets of a note that serves for the problem in
-/// this version, those of carried notes left out, each once, in the order in which they are met; no
-/// more than so many.
+/// this version, those of carried notes left out, and all that stand with a leaf of it, each once,
+/// in the order in which they are met; no more than so many.
 pub(crate) fn positions(
     alloc: Global,
     problem: &Problem,
@@ -42,13 +44,12 @@ pub(crate) fn positions(
     let mut pending = Vec::new(alloc);
     pending.push(note)?;
     while let Some(next) = pending.pop() {
-        let place = places.add(next.position())?;
-        if place == positions.len() {
-            if place == most {
-                return Err(ExtractEnd::TooMany);
+        if list_position(&mut places, &mut positions, next.position(), most)? {
+            if let Rule::EscapeLeaf(_) = next.rule() {
+                list_set(&mut places, &mut positions, next.positions(), most)?;
+            } else {
+                push_next(&mut pending, next)?;
             }
-            positions.push(*next.position())?;
-            push_next(&mut pending, next)?;
         }
     }
     Ok(positions)

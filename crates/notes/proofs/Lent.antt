@@ -9,7 +9,7 @@ use Rattle.hand_dominance.proofs.Keys.{keys_tell}
 use Rattle.notes.specs.declared.rule.Conclusion.{Conclusion}
 use Rattle.notes.specs.declared.rule.Conclusion.TheVariants.{Mate, Escape}
 use Rattle.notes.specs.Derivation.{Derivation, position_of, conclusion_of}
-use Rattle.notes.specs.Valid.{CarriesTo, IsValid, MayBeCarried}
+use Rattle.notes.specs.Valid.{CarriesTo, IsValid}
 use Rattle.notes.specs.Lending.{CarriesByKey, MayBeLent, IsLentTo, LendingIsCarrying}
 use Rattle.notes.proofs.Truth.{valid_kept}
 

@@ -1,3 +1,4 @@
+mod Among
 mod Carrying
 mod Gathered
 mod Lent

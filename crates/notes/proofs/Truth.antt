@@ -17,8 +17,10 @@ use Rattle.shogi_rules.specs.Rules.{after}
 use Rattle.shogi_rules.proofs.Offered.{after_check, after_evasion}
 use Rattle.mate_def.specs.Mate.{RankAtMost, RankGrows, IsMatedWithin, Escapes, EscapesInto, EscapesIntoMore, EscapesJoined, CanEvadeTo}
 use Rattle.hand_dominance.specs.Dominance.{MatesCarryUp, MatedCarryUp, EscapesCarryDown, EvasionsCarryDown}
+use Rattle.hand_dominance.specs.declared.version.Version.{Version}
+use Rattle.hand_dominance.specs.BorneOut.{CoversStays, IsCovered, RanksWhereCovered, EscapesWhereCovered}
 use Rattle.notes.specs.declared.rule.Rule.{Rule}
-use Rattle.notes.specs.declared.rule.Rule.TheVariants.{MateEnd, MateAll, MateBy, EscapeEnd, EscapeBy, EscapeRepeat, EscapeAll, Carry}
+use Rattle.notes.specs.declared.rule.Rule.TheVariants.{MateEnd, MateAll, MateBy, EscapeEnd, EscapeBy, EscapeRepeat, EscapeAll, Carry, MateLeaf, EscapeLeaf}
 use Rattle.notes.specs.declared.rule.Conclusion.{Conclusion}
 use Rattle.notes.specs.declared.rule.Conclusion.TheVariants.{Mate, Escape}
 use Rattle.notes.specs.Derivation.{Step, Derivation, Derivations, derived, none_under, one_under, listed, rule_of, attacker_of, position_of, tag_of, height_of, conclusion_of, concluded, height_by, highest}
@@ -37,6 +39,8 @@ IsTurn (EscapeBy evasion) turn attacker = turn ≡ other attacker
 IsTurn (EscapeRepeat evasion) turn attacker = turn ≡ other attacker
 IsTurn EscapeAll turn attacker = turn ≡ attacker
 IsTurn (Carry conclusion) turn attacker = Unit {0}
+IsTurn (MateLeaf version rank) turn attacker = turn ≡ attacker
+IsTurn (EscapeLeaf version) turn attacker = turn ≡ attacker
 
 turn_met : (rule : Rule) (s : Step) (notes : List Derivation) → meets rule s notes → IsTurn rule s.position.side s.attacker
 turn_met MateEnd s notes m = m.0.turn
@@ -47,6 +51,10 @@ turn_met (EscapeBy evasion) s notes m = m.0.mover
 turn_met (EscapeRepeat evasion) s notes m = m.0.mover
 turn_met EscapeAll s notes m = let one = first_of m.0.checks m.0.some in (m.0.lists.sound one.0 one.1).mover
 turn_met (Carry conclusion) s notes m = tt
+turn_met (MateLeaf version rank) s notes m =
+    let one = m.0.listed in
+    ap (λ (b : Board). b.side) (sym one.same) ∙ (m.0.are.problems one.entry one.listed).turn
+turn_met (EscapeLeaf version) s notes m = (m.0.are.problems s.position m.0.listed).turn
 
 -- 2. What a note by a rule says, and what that is by its conclusion and the side to move
 
@@ -66,6 +74,8 @@ true_by (EscapeBy evasion) turn attacker note = IsTrueEvading note
 true_by (EscapeRepeat evasion) turn attacker note = IsTrueEvading note
 true_by EscapeAll turn attacker note = IsTrueEscape note
 true_by (Carry conclusion) turn attacker note = IsTrueCarried conclusion turn attacker note
+true_by (MateLeaf version rank) turn attacker note = IsTrueMate note
+true_by (EscapeLeaf version) turn attacker note = IsTrueEscape note
 
 mate_by_rule : (rule : Rule) (note : Derivation) (turn attacker : Side) → IsTurn rule turn attacker → true_by rule turn attacker note → concluded rule ≡ Mate
     → turn ≡ attacker → IsTrueMate note
@@ -77,6 +87,8 @@ mate_by_rule (EscapeBy evasion) note turn attacker met says is at = absurd (cc)
 mate_by_rule (EscapeRepeat evasion) note turn attacker met says is at = absurd (cc)
 mate_by_rule EscapeAll note turn attacker met says is at = absurd (cc)
 mate_by_rule (Carry conclusion) note turn attacker met says is at = says.mate is at
+mate_by_rule (MateLeaf version rank) note turn attacker met says is at = says
+mate_by_rule (EscapeLeaf version) note turn attacker met says is at = absurd (cc)
 
 mated_by_rule : (rule : Rule) (note : Derivation) (turn attacker : Side) → IsTurn rule turn attacker → true_by rule turn attacker note → concluded rule ≡ Mate
     → turn ≡ other attacker → IsTrueMated note
@@ -88,6 +100,8 @@ mated_by_rule (EscapeBy evasion) note turn attacker met says is at = absurd (cc)
 mated_by_rule (EscapeRepeat evasion) note turn attacker met says is at = absurd (cc)
 mated_by_rule EscapeAll note turn attacker met says is at = absurd (cc)
 mated_by_rule (Carry conclusion) note turn attacker met says is at = says.mated is at
+mated_by_rule (MateLeaf version rank) note turn attacker met says is at = absurd (other_apart attacker (sym at ∙ met))
+mated_by_rule (EscapeLeaf version) note turn attacker met says is at = absurd (cc)
 
 escape_by_rule : (rule : Rule) (note : Derivation) (turn attacker : Side) → IsTurn rule turn attacker → true_by rule turn attacker note → concluded rule ≡ Escape
     → turn ≡ attacker → IsTrueEscape note
@@ -99,6 +113,8 @@ escape_by_rule (EscapeBy evasion) note turn attacker met says is at = absurd (ot
 escape_by_rule (EscapeRepeat evasion) note turn attacker met says is at = absurd (other_apart attacker (sym met ∙ at))
 escape_by_rule EscapeAll note turn attacker met says is at = says
 escape_by_rule (Carry conclusion) note turn attacker met says is at = says.escape is at
+escape_by_rule (MateLeaf version rank) note turn attacker met says is at = absurd (cc)
+escape_by_rule (EscapeLeaf version) note turn attacker met says is at = says
 
 evading_by_rule : (rule : Rule) (note : Derivation) (turn attacker : Side) → IsTurn rule turn attacker → true_by rule turn attacker note → concluded rule ≡ Escape
     → turn ≡ other attacker → IsTrueEvading note
@@ -110,6 +126,8 @@ evading_by_rule (EscapeBy evasion) note turn attacker met says is at = says
 evading_by_rule (EscapeRepeat evasion) note turn attacker met says is at = says
 evading_by_rule EscapeAll note turn attacker met says is at = absurd (other_apart attacker (sym at ∙ met))
 evading_by_rule (Carry conclusion) note turn attacker met says is at = says.evading is at
+evading_by_rule (MateLeaf version rank) note turn attacker met says is at = absurd (cc)
+evading_by_rule (EscapeLeaf version) note turn attacker met says is at = absurd (other_apart attacker (sym at ∙ met))
 
 -- a valid note of which is known what its rule says
 abbrev Known : Derivation → Type 0
@@ -202,7 +220,7 @@ stand_with b tag one t kept join stand key c = elim (cases_Bool (pointwise nat_e
 -- 6. Each rule
 
 module _ (grows : RankGrows) (joins : EscapesJoined) (into : EscapesIntoMore) (mates : MatesCarryUp) (mated : MatedCarryUp) (escapes : EscapesCarryDown)
-    (evasions : EvasionsCarryDown) where
+    (evasions : EvasionsCarryDown) (stays : CoversStays) (ranks : RanksWhereCovered) (covering : EscapesWhereCovered) where
   mate_all_true : (s : Step) (ds : Derivations) → ((note : Derivation) → Contains (listed ds) note → Known note) → s.height ≡ highest (listed ds) + 1
       → meets MateAll s (listed ds) → IsTrueMated (derived s ds)
   mate_all_true s ds known high m =
@@ -269,6 +287,23 @@ module _ (grows : RankGrows) (joins : EscapesJoined) (into : EscapesIntoMore) (m
       let found = stand one.key (subst (λ (tag : List Key). Contains tag one.key) (sym one.alone) (zero, omega arith, refl)) in
       let same : found.0 ≡ after s.position evasion = one.of_no_other found.0 found.2 (sym found.3) in
       record { evasion = evasion; is_evasion = m.0; leads = inl (subst (λ (q : Board). Contains t q) same found.1) }
+
+  -- a leaf: it is as high as its rank says, and the position is borne out by the others
+  mate_leaf_true : (s : Step) (ds : Derivations) (version : Version) (rank : ℕ) → IsKept s.position → s.height ≡ 2 * rank
+      → meets (MateLeaf version rank) s (listed ds) → IsTrueMate (derived s ds)
+  mate_leaf_true s ds version rank kept high m =
+      let one = m.0.listed in
+      let covers = stays version s.attacker s.position one.entry.at (sym one.same) in
+      let within = ranks version s.attacker m.0.entries one.entry s.position m.0.are.borne_out one.listed kept covers in
+      (rank, high, subst (λ (n : ℕ). RankAtMost s.attacker n s.position) one.has_rank within)
+
+  escape_leaf_true : (s : Step) (ds : Derivations) (version : Version) → IsKept s.position → meets (EscapeLeaf version) s (listed ds)
+      → IsTrueEscape (derived s ds)
+  escape_leaf_true s ds version kept m t stand =
+      let covered : IsCovered version m.0.positions s.attacker s.position =
+      record { listed = s.position; inside = m.0.listed; covers = stays version s.attacker s.position s.position refl } in
+      let escaped = covering version s.attacker m.0.positions s.position m.0.are.kept m.0.are.closed kept covered in
+      into s.attacker s.position [] t (λ p c. absurd (let inside = c.1 in omega (arith, inside))) escaped
 
   -- the note that a step carries: it is as high, and where it concludes this it carries over
   module _ (s : Step) (ds : Derivations) (conclusion : Conclusion) (known : (note : Derivation) → Contains (listed ds) note → Known note) (kept : IsKept s.position)
@@ -348,6 +383,8 @@ module _ (grows : RankGrows) (joins : EscapesJoined) (into : EscapesIntoMore) (m
   true_step (EscapeRepeat evasion) s ds known step high m = escape_repeat_true s ds evasion m
   true_step EscapeAll s ds known step high m = escape_all_true s ds known step m
   true_step (Carry conclusion) s ds known step high m = carried_true s ds conclusion known step.kept high m
+  true_step (MateLeaf version rank) s ds known step high m = mate_leaf_true s ds version rank step.kept high m
+  true_step (EscapeLeaf version) s ds known step high m = escape_leaf_true s ds version step.kept m
 
   mutual
     known_note : (note : Derivation) → IsValid note → Known note
@@ -370,6 +407,8 @@ untagged_by (EscapeBy evasion) s notes m is = absurd (cc)
 untagged_by (EscapeRepeat evasion) s notes m is = absurd (cc)
 untagged_by EscapeAll s notes m is = absurd (cc)
 untagged_by (Carry conclusion) s notes m is = m.1
+untagged_by (MateLeaf version rank) s notes m is = m.2
+untagged_by (EscapeLeaf version) s notes m is = absurd (cc)
 
 mate_untagged : (note : Derivation) → IsValid note → conclusion_of note ≡ Mate → tag_of note ≡ []
 mate_untagged (derived s ds) v is = untagged_by s.rule s (listed ds) v.1.rule is
@@ -402,6 +441,8 @@ keys_by (EscapeRepeat evasion) s notes m under key c =
     (after s.position evasion, one.kept, sym (ap (λ (k : Key). k.0) (only one.key key alone)) ∙ one.is_key)
 keys_by EscapeAll s notes m under key c = let from = (m.1 key).0 c in under from.0.0 from.0.1 key from.0.2
 keys_by (Carry conclusion) s notes m under key c = no_keys s.tag m.1 key c
+keys_by (MateLeaf version rank) s notes m under key c = no_keys s.tag m.2 key c
+keys_by (EscapeLeaf version) s notes m under key c = no_keys s.tag m.2 key c
 
 mutual
   keys_of : (note : Derivation) → IsValid note → AreKeys (tag_of note)
@@ -414,9 +455,10 @@ mutual
 
 -- 8. All of it
 
-pub notes_are_true : RankGrows → EscapesJoined → EscapesIntoMore → MatesCarryUp → MatedCarryUp → EscapesCarryDown → EvasionsCarryDown → NotesAreTrue
-notes_are_true grows joins into mates mated escapes evasions note v =
-    let k = known_note grows joins into mates mated escapes evasions note v in
+pub notes_are_true : RankGrows → EscapesJoined → EscapesIntoMore → MatesCarryUp → MatedCarryUp → EscapesCarryDown → EvasionsCarryDown → CoversStays
+    → RanksWhereCovered → EscapesWhereCovered → NotesAreTrue
+notes_are_true grows joins into mates mated escapes evasions stays ranks covering note v =
+    let k = known_note grows joins into mates mated escapes evasions stays ranks covering note v in
     record {
       mate = λ is at. known_mate note k is at;
       mated = λ is at. known_mated note k is at;

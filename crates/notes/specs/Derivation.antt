@@ -1,12 +1,12 @@
--- What contracts see of a note: a tree of steps, each by one of the eight rules.
-use Rattle.std.specs.Prelude.{◌≡◌, ◌+◌, ℕ, max, List, [], ◌∷◌}
+-- What contracts see of a note: a tree of steps, each by one of the ten rules.
+use Rattle.std.specs.Prelude.{◌≡◌, ◌+◌, ◌*◌, ℕ, max, List, [], ◌∷◌}
 use Rattle.bit_boards.specs.declared.piece.Side.{Side}
 use Rattle.board_core.specs.declared.keys.Key.{Key}
 use Rattle.board_core.specs.Board.{Board}
 use Rattle.hand_dominance.specs.declared.version.Version.{Version}
 use Rattle.hand_dominance.specs.declared.version.Version.TheVariants.{One, Two}
 use Rattle.notes.specs.declared.rule.Rule.{Rule}
-use Rattle.notes.specs.declared.rule.Rule.TheVariants.{MateEnd, MateAll, MateBy, EscapeEnd, EscapeBy, EscapeRepeat, EscapeAll, Carry}
+use Rattle.notes.specs.declared.rule.Rule.TheVariants.{MateEnd, MateAll, MateBy, EscapeEnd, EscapeBy, EscapeRepeat, EscapeAll, Carry, MateLeaf, EscapeLeaf}
 use Rattle.notes.specs.declared.rule.Conclusion.{Conclusion}
 use Rattle.notes.specs.declared.rule.Conclusion.TheVariants.{Mate, Escape}
 
@@ -91,6 +91,14 @@ concluded (EscapeBy move) = Escape
 concluded (EscapeRepeat move) = Escape
 concluded EscapeAll = Escape
 concluded (Carry conclusion) = conclusion
+concluded (MateLeaf version rank) = Mate
+concluded (EscapeLeaf version) = Escape
+
+-- The rule is that of no leaf.
+abbrev pub IsNoLeaf : Rule → Type 0
+IsNoLeaf (MateLeaf version rank) = ⊥
+IsNoLeaf (EscapeLeaf version) = ⊥
+IsNoLeaf rule = Unit {0}
 
 -- What a note concludes.
 abbrev pub conclusion_of : Derivation → Conclusion
@@ -101,10 +109,11 @@ abbrev pub highest : List Derivation → ℕ
 highest [] = 0
 highest (note ∷ notes) = max (height_of note) (highest notes)
 
--- How high a step by this rule is over such notes: as high as the note that it carries, else one
--- more than the greatest of their heights.
+-- How high a step by this rule is over such notes: as high as the note that it carries, twice the
+-- rank of a mate's leaf, else one more than the greatest of their heights.
 abbrev pub height_by : Rule → List Derivation → ℕ
 height_by (Carry conclusion) notes = highest notes
+height_by (MateLeaf version rank) notes = 2 * rank
 height_by rule notes = highest notes + 1
 
 -- The later of two versions.
@@ -112,13 +121,16 @@ abbrev pub later : Version → Version → Version
 later One version = version
 later Two version = Two
 
--- The version of a step by this rule, over notes of such a version: 2 where it carries one.
+-- The version of a step by this rule, over notes of such a version: 2 where it carries one, or is a
+-- leaf of that version.
 abbrev pub version_by : Rule → Version → Version
 version_by (Carry conclusion) version = Two
+version_by (MateLeaf own rank) version = later own version
+version_by (EscapeLeaf own) version = later own version
 version_by rule version = version
 
 -- The version in which a certificate says what a derivation does: 2 where a step of it carries a
--- note, else 1.
+-- note or is a leaf of that version, else 1.
 abbrev mutual
   pub version_in : Derivation → Version
   version_in (derived step notes) = version_by step.rule (version_under notes)
@@ -131,6 +143,14 @@ abbrev mutual
 -- and depends on no repetition.
 abbrev pub carried : Side → Board → Derivation → Derivation
 carried attacker b note = note_over (Carry (conclusion_of note)) attacker b [] (height_of note) (note ∷ [])
+
+-- A leaf: the position is listed with this rank among the entries of a mate.
+abbrev pub mate_leaf : Version → Side → Board → ℕ → Derivation
+mate_leaf version attacker b rank = note_over (MateLeaf version rank) attacker b [] (2 * rank) []
+
+-- A leaf: the position is one of some of an escape.
+abbrev pub escape_leaf : Version → Side → Board → Derivation
+escape_leaf version attacker b = note_over (EscapeLeaf version) attacker b [] 1 []
 
 -- The note itself; where the rule carries a note, that one's source.
 abbrev pub source_by : Rule → Derivation → Derivation → Derivation

@@ -2,6 +2,9 @@
 pub mod Code
 pub mod Derivation
 pub mod Lending
+pub mod Set
+pub mod Sets
+pub mod Standing
 pub mod Steps
 pub mod Truth
 pub mod Valid

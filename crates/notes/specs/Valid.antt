@@ -14,10 +14,13 @@ use Rattle.hand_dominance.specs.declared.version.Version.{Version}
 use Rattle.hand_dominance.specs.Dominance.{Dominates}
 use Rattle.path_tags.specs.Tag.{IsRising}
 use Rattle.notes.specs.declared.rule.Rule.{Rule}
-use Rattle.notes.specs.declared.rule.Rule.TheVariants.{MateEnd, MateAll, MateBy, EscapeEnd, EscapeBy, EscapeRepeat, EscapeAll, Carry}
+use Rattle.notes.specs.declared.rule.Rule.TheVariants.{MateEnd, MateAll, MateBy, EscapeEnd, EscapeBy, EscapeRepeat, EscapeAll, Carry, MateLeaf, EscapeLeaf}
 use Rattle.notes.specs.declared.rule.Conclusion.{Conclusion}
 use Rattle.notes.specs.declared.rule.Conclusion.TheVariants.{Mate, Escape}
-use Rattle.notes.specs.Derivation.{Step, Derivation, Derivations, derived, none_under, one_under, listed, attacker_of, position_of, tag_of, conclusion_of, height_by, version_in}
+use Rattle.notes.specs.Derivation.{Step, Derivation, Derivations, derived, none_under, one_under, listed, rule_of, attacker_of, position_of, tag_of, conclusion_of, height_by, version_in}
+use Rattle.mate_facts.specs.declared.entry.MateEntry.{MateEntry}
+use Rattle.mate_facts.specs.Entries.{IsListedWith}
+use Rattle.notes.specs.Sets.{AreMates, AreEscapes, IsAmongMates, IsAmongEscapes}
 
 -- A position as play has it: the defender has a king, and the side not to move isn't in check.
 pub record IsInPlay (attacker : Side) (b : Board) : Type 0 where
@@ -112,6 +115,8 @@ meets (EscapeRepeat evasion) s notes = IsEvasion s.attacker s.position evasion �
     × IsKeyAlone s.tag (after s.position evasion)
 meets EscapeAll s notes = EscapesAfterAll s.attacker s.position notes × JoinsTags s.tag s.position notes
 meets (Carry conclusion) s notes = CarriesOne conclusion s.attacker s.position notes × (s.tag ≡ [])
+meets (MateLeaf version rank) s notes = IsAmongMates version s.attacker rank s.position × (notes ≡ []) × (s.tag ≡ [])
+meets (EscapeLeaf version) s notes = IsAmongEscapes version s.attacker s.position × (notes ≡ []) × (s.tag ≡ [])
 
 -- A step meets its rule at a position as play has it; its tag rises; its height is the one by its
 -- rule, and at most 4,096.
@@ -132,6 +137,15 @@ abbrev mutual
   AreValid none_under = Unit {0}
   AreValid (one_under note notes) = IsValid note × AreValid notes
 
--- What a note keeps: it is valid, and this is the version of a certificate that says what it does.
-abbrev pub KeepsVersion : Derivation → Version → Type 0
-KeepsVersion note version = IsValid note × (version ≡ version_in note)
+-- What a note by this rule is kept with: a leaf with the entries, or the positions, among which its
+-- position is listed; any other with none.
+abbrev pub StandsAmong : Rule → Side → Board → List MateEntry → List Board → Type 0
+StandsAmong (MateLeaf version rank) attacker b entries positions = AreMates version attacker entries × IsListedWith entries rank b × (positions ≡ [])
+StandsAmong (EscapeLeaf version) attacker b entries positions = AreEscapes version attacker positions × Contains positions b × (entries ≡ [])
+StandsAmong rule attacker b entries positions = (entries ≡ []) × (positions ≡ [])
+
+-- What a note keeps: it is valid, this is the version of a certificate that says what it does, and
+-- these are the entries, and the positions, among which it stands.
+abbrev pub Keeps : Derivation → Version → List MateEntry → List Board → Type 0
+Keeps note version entries positions = IsValid note × (version ≡ version_in note)
+    × StandsAmong (rule_of note) (attacker_of note) (position_of note) entries positions

@@ -1,4 +1,4 @@
-//! Notes: facts about positions, each a derivation that only eight rules can make, and so true for
+//! Notes: facts about positions, each a derivation that only ten rules can make, and so true for
 //! every reader.
 //!
 //! A search shares what it has found among paths. A disproof that depends on a repetition holds
@@ -9,20 +9,24 @@
 //! tree (`specs/Derivation.antt`); its type keeps that every step of it meets its rule
 //! (`specs/Valid.antt`); [`Note::laws`] says what is then true (`specs/Truth.antt`). A note that
 //! depends on no repetition may be carried to other hands ([`carry`]), and lent by keys alone
-//! ([`may_be_lent`], `specs/Lending.antt`).
+//! ([`may_be_lent`], `specs/Lending.antt`). What was found before, and listed where each entry bears
+//! out the others, is told by leaves ([`mate_leaves`], [`escape_leaves`], `specs/Sets.antt`).
 #![tactic(auto)]
 
 mod carried;
 mod escapes;
+mod leaves;
 mod lending;
 mod lists;
 mod mates;
 mod note;
 mod rule;
+mod set;
 mod words;
 
 pub use carried::carry;
 pub use escapes::{escape_all, escape_by, escape_end, escape_repeat};
+pub use leaves::{escape_leaves, mate_leaves};
 pub use lending::{lending_laws, may_be_lent};
 pub use mates::{mate_all, mate_by, mate_end};
 pub use note::{HEIGHT_LIMIT, Note, NoteEnd, note_laws};

@@ -2,7 +2,7 @@
 // their tags.
 ghost use Rattle.std.specs.Prelude.{◌≡◌, ◌+◌, ◌<◌, ◌≤◌, ◌↔◌, max, IfOk, IsErr, Err};
 ghost use Rattle.path_tags.specs.Tag.{IsRising};
-ghost use Rattle.notes.specs.Derivation.{derivations, highest, later, version_by, version_under};
+ghost use Rattle.notes.specs.Derivation.{derivations, highest, later, version_by, version_under, IsNoLeaf};
 ghost use Rattle.notes.specs.Valid.{AreValid, JoinsTags};
 ghost use Rattle.notes.specs.declared.note.NoteEnd.TheVariants.{TooHigh};
 
@@ -46,8 +46,9 @@ fn later_of(one: Version, another: Version) -> Version
     }
 }
 
-/// The version of a note by this rule over these.
+/// The version of a note by this rule, which isn't that of a leaf, over these.
 pub(crate) fn version_over(rule: Rule, notes: &[Note]) -> Version
+    requires { IsNoLeaf rule }
     ensures { result ≡ version_by rule (version_under (derivations notes.now)) }
 {
     if let Rule::Carry(_) = rule {

@@ -1,14 +1,19 @@
 // A note, and how one is made over others.
 ghost use Rattle.std.specs.Prelude.{◌≡◌, ◌+◌, ◌≤◌, ◌↔◌, [], IfOk, IsTrue};
-ghost use Rattle.notes.specs.Derivation.{derivations, step_over, note_over, height_by, conclusion_of, rule_of, attacker_of, position_of, tag_of, height_of, source_of, under_of, version_in, IsOwn};
-ghost use Rattle.notes.specs.Valid.{IsInPlay, IsValid, AreValid, meets};
+ghost use Rattle.notes.specs.Derivation.{derivations, step_over, note_over, height_by, conclusion_of, rule_of, attacker_of, position_of, tag_of, height_of, source_of, under_of, version_by, version_in, IsNoLeaf, IsOwn};
+ghost use Rattle.notes.specs.Valid.{IsInPlay, IsValid, AreValid, StandsAmong, meets};
+ghost use Rattle.notes.specs.Set.{entries_of, positions_of};
 ghost use Rattle.notes.specs.Truth.{IsTrueNote, NotesAreTrue};
+ghost use Rattle.hand_dominance.specs.declared.version.Version.TheVariants.{One};
+ghost use Rattle.notes.specs.Standing.{AreEntriesAbout, ArePositionsAbout};
 ghost use Rattle.notes.specs.declared.note.NoteEnd.TheVariants.{NoMemory};
 
 use crate::lists::version_over;
+use crate::set::Set;
 use crate::{Conclusion, Rule};
 use board_core::{Position, Side};
 use hand_dominance::Version;
+use mate_facts::MateEntry;
 use path_tags::Tag;
 use std::alloc::{AllocError, Global};
 use std::marker::Model;
@@ -39,7 +44,7 @@ impl From<AllocError> for NoteEnd {
     }
 }
 
-/// A fact about a position, with its derivation: a tree of steps, each by one of eight rules. Notes
+/// A fact about a position, with its derivation: a tree of steps, each by one of ten rules. Notes
 /// share the notes under them; another owner of one is made by [`Note::share`].
 ///
 /// It keeps that each step meets its rule, and that no height is above 4,096.
@@ -61,6 +66,8 @@ struct Node {
     attacker: Side,
     // The version of a certificate that says what the note does.
     version: Version,
+    // What a leaf's position is listed among.
+    set: Option<Arc<Set>>,
 }
 
 impl Model for Note {
@@ -68,7 +75,8 @@ impl Model for Note {
     ghost use Rattle.std.proofs.Common.{arith};
     ghost use Rattle.notes.specs.Derivation.{Derivation, note_over, steps_of};
     ghost use Rattle.notes.specs.Code.{coded_derivation};
-    ghost use Rattle.notes.specs.Valid.{KeepsVersion};
+    ghost use Rattle.notes.specs.Valid.{Keeps};
+    ghost use Rattle.notes.specs.Set.{entries_with, positions_with};
     ghost use Rattle.notes.specs.Steps.{most_le-steps};
 
     ghost Value = { Derivation };
@@ -77,7 +85,7 @@ impl Model for Note {
 
     ghost view = { λ n. note_over n.node.value.rule n.node.value.attacker n.node.value.position n.node.value.tag n.node.value.height n.node.value.under.items };
 
-    ghost invariant = { λ n. KeepsVersion (note_over n.node.value.rule n.node.value.attacker n.node.value.position n.node.value.tag n.node.value.height n.node.value.under.items) n.node.value.version };
+    ghost invariant = { λ n. Keeps (note_over n.node.value.rule n.node.value.attacker n.node.value.position n.node.value.tag n.node.value.height n.node.value.under.items) n.node.value.version (entries_with n.node.value.set) (positions_with n.node.value.set) };
 
     ghost size = { steps_of };
 
@@ -85,7 +93,7 @@ impl Model for Note {
 }
 
 impl Note {
-    /// A note by a rule over notes. Takes memory for it alone.
+    /// A note by a rule over notes, which is no leaf. Takes memory for it alone.
     pub(crate) fn made(
         alloc: Global,
         rule: Rule,
@@ -98,6 +106,7 @@ impl Note {
         requires valid { AreValid (derivations under.items) }
         requires play { IsInPlay attacker position.now }
         requires rule { meets rule (step_over rule attacker position.now tag height) under.items }
+        requires no_leaf { IsNoLeaf rule }
         requires height { height ≡ height_by rule under.items }
         requires low { height ≤ 4096 }
         ensures { IfOk result (λ note. note
@@ -114,6 +123,45 @@ impl Note {
             rule,
             attacker,
             version,
+            set: None,
+        };
+        Ok(Note {
+            node: Arc::new(alloc, node)?,
+        })
+    }
+
+    /// A leaf, which stands among others of a set; and another owner of that. Takes memory for it
+    /// alone.
+    pub(crate) fn leaf(
+        alloc: Global,
+        rule: Rule,
+        attacker: Side,
+        position: &Position,
+        height: u32,
+        version: Version,
+        set: &Arc<Set>,
+    ) -> Result<Note, AllocError>
+        requires play { IsInPlay attacker position.now }
+        requires rule { meets rule (step_over rule attacker position.now [] height) [] }
+        requires height { height ≡ height_by rule [] }
+        requires low { height ≤ 4096 }
+        requires version { version ≡ version_by rule One }
+        requires set { StandsAmong rule attacker position.now (entries_of set.now.value)
+            (positions_of set.now.value) }
+        ensures { IfOk result (λ note. note ≡ note_over rule attacker position.now [] height []) }
+    {
+        position.laws();
+        let tag = Tag::empty(alloc);
+        tag.laws();
+        let node = Node {
+            position: *position,
+            under: Vec::new(alloc),
+            tag,
+            height,
+            rule,
+            attacker,
+            version,
+            set: Some(Arc::try_clone(set)?),
         };
         Ok(Note {
             node: Arc::new(alloc, node)?,
@@ -195,6 +243,28 @@ impl Note {
         self.node.version
     }
 
+    /// The entries among which a mate's leaf is listed, with its rank: each is about a problem of
+    /// the attacker, and borne out by all of them. None where it is no such leaf. Takes no memory.
+    pub fn entries(&self) -> &[MateEntry]
+        ensures { AreEntriesAbout self.now result.now }
+    {
+        match &self.node.set {
+            Some(set) => set.entries(),
+            None => &[],
+        }
+    }
+
+    /// The positions among which an escape's leaf is listed: problems of the attacker, and closed.
+    /// None where it is no such leaf. Takes no memory.
+    pub fn positions(&self) -> &[Position]
+        ensures { ArePositionsAbout self.now result.now }
+    {
+        match &self.node.set {
+            Some(set) => set.positions(),
+            None => &[],
+        }
+    }
+
     /// The note that it was carried from, whose last step carries none; itself where it carries
     /// none. Takes no memory.
     pub fn source(&self) -> &Note
@@ -233,4 +303,5 @@ pub fn note_laws()
     mate_def::escapes_joined();
     mate_def::escape_grows();
     hand_dominance::dominance_laws();
+    hand_dominance::listing_laws();
 }

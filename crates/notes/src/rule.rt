@@ -3,6 +3,7 @@ ghost use Rattle.std.specs.Prelude.{◌≡◌};
 ghost use Rattle.notes.specs.Derivation.{concluded};
 
 use board_core::Move;
+use hand_dominance::Version;
 
 /// What a note says of its position.
 #[derive(Clone, Copy, PartialEq, Eq, Debug)]
@@ -36,6 +37,11 @@ pub enum Rule {
     /// that this position dominates, an escape of one that dominates it. (Nagai 2002: pieces in
     /// hand that a proof or a disproof doesn't need.)
     Carry(Conclusion),
+    /// A leaf: the position is listed with this rank among the entries of a mate, in this version,
+    /// of which each bears out the others.
+    MateLeaf(Version, u32),
+    /// A leaf: the position is one of some of an escape, in this version, that are closed.
+    EscapeLeaf(Version),
 }
 
 impl Rule {
@@ -52,6 +58,8 @@ impl Rule {
             Rule::EscapeRepeat(_) => Conclusion::Escape,
             Rule::EscapeAll => Conclusion::Escape,
             Rule::Carry(conclusion) => conclusion,
+            Rule::MateLeaf(_, _) => Conclusion::Mate,
+            Rule::EscapeLeaf(_) => Conclusion::Escape,
         }
     }
 }

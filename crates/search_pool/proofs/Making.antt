@@ -6,7 +6,7 @@ use Rattle.shogi_rules.specs.Rules.{after}
 use Rattle.path_tags.specs.Tag.{IsRising}
 use Rattle.path_tags.specs.Laws.{TagsApart}
 use Rattle.notes.specs.declared.rule.Rule.{Rule}
-use Rattle.notes.specs.declared.rule.Rule.TheVariants.{MateEnd, MateAll, MateBy, EscapeEnd, EscapeBy, EscapeRepeat, EscapeAll, Carry}
+use Rattle.notes.specs.declared.rule.Rule.TheVariants.{MateEnd, MateAll, MateBy, EscapeEnd, EscapeBy, EscapeRepeat, EscapeAll, Carry, MateLeaf, EscapeLeaf}
 use Rattle.notes.specs.Derivation.{Step, Derivation, Derivations, derived, none_under, one_under, derivations, height_by, listed, under_of, rule_of, attacker_of, position_of, tag_of}
 use Rattle.notes.specs.Valid.{IsStep, IsValid, IsKeyAlone, JoinsTags, meets}
 use Rattle.visit_log.specs.Frame.{Task, FrameView}
@@ -42,6 +42,8 @@ tag_once apart EscapeAll a b s t notes p q at up too h k =
     joined_once apart a b s.position notes up too (subst (λ (x : List Key). JoinsTags x s.position notes) p h.1)
     (subst (λ (x : List Key). JoinsTags x s.position notes) q (subst (λ (x : Board). JoinsTags t.tag x notes) (sym at) k.1))
 tag_once apart (Carry conclusion) a b s t notes p q at up too h k = sym p ∙ (h.1 ∙ (sym k.1 ∙ q))
+tag_once apart (MateLeaf version rank) a b s t notes p q at up too h k = sym p ∙ (h.2 ∙ (sym k.2 ∙ q))
+tag_once apart (EscapeLeaf version) a b s t notes p q at up too h k = sym p ∙ (h.2 ∙ (sym k.2 ∙ q))
 
 -- 2. NOTES.
 

@@ -1,14 +1,17 @@
 use Rattle.std.proofs.Common.{◌≡◌, ◌∙◌, List, ap, sym, subst}
 use Rattle.notes.specs.Derivation.{Derivation, derivations, listed, step_over, listed-derivations, version_by, version_under}
-use Rattle.notes.specs.Valid.{IsStep, AreValid}
+use Rattle.notes.specs.Valid.{IsStep, AreValid, StandsAmong}
+use Rattle.notes.specs.Set.{entries_with, positions_with}
 use Rattle.notes.specs.declared.note.Node.{Node}
+use Rattle.notes.proofs.Among.{stands_alone}
 use Rattle.notes.proofs.note.Note.made.Goals as goal
 
 pub invariant_of-result : goal.invariant_of-result
 invariant_of-result c =
     subst (λ (n : Node). (AreValid (derivations n.under.items)
     × IsStep (step_over n.rule n.attacker n.position n.tag n.height) (listed (derivations n.under.items)))
-    × (n.version ≡ version_by n.rule (version_under (derivations n.under.items))))
+    × (n.version ≡ version_by n.rule (version_under (derivations n.under.items)))
+    × StandsAmong n.rule n.attacker n.position (entries_with n.set) (positions_with n.set))
     (sym c.in_ok-new.ensures.ok) (
       (
         c.requires.valid,
@@ -23,4 +26,5 @@ invariant_of-result c =
             }),
       ),
       c.version_over-version.ensures ∙ ap (λ (notes : List Derivation). version_by c.args.rule (version_under (derivations notes))) c.deref.ensures.value,
+      stands_alone c.args.rule c.args.attacker c.args.position.now c.requires.no_leaf,
     )

@@ -1,0 +1,6 @@
+use Rattle.std.proofs.Common.{◌≡◌, take}
+use Rattle.notes.specs.Sets.{mate_leaves_of}
+use Rattle.notes.proofs.leaves.mate_leaves.Given as goal
+
+abbrev pub invariant-loop-entry : goal.invariant-loop-entry
+invariant-loop-entry l = l.leaves.items ≡ mate_leaves_of l.version l.attacker (take l.entry-index l.entry-items)
