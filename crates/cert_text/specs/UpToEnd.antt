@@ -1,4 +1,4 @@
--- A text that goes up to its first line `end`: where bytes hold more than one certificate, each does.
+-- A text that goes up to its first line `end`, as each of several certificates in one text does.
 use Rattle.std.specs.Prelude.{◌≡◌, ◌≢◌, ◌⊎◌, ℕ, List, [], ◌++◌, codes}
 use Rattle.std.specs.List.{AllByRecursion, flat_map}
 use Rattle.cert_text.specs.Entries.{line}

@@ -29,7 +29,8 @@ fn count_of(text: &[u8]) -> Option<u32>
 // The number of certificates that the first line tells, and what stands behind that line.
 pub(crate) fn begun(text: &[u8]) -> Option<(u32, &[u8])>
     ensures found { IfSome result (λ parts. BeginsWith parts.0 parts.1.now text.now) }
-    ensures none { IfNone result ((count : ℕ) (rest : List ℕ) → BeginsWith count rest text.now → ⊥) }
+    ensures none { IfNone result ((count : ℕ) (rest : List ℕ)
+        → BeginsWith count rest text.now → ⊥) }
 {
     let Some((first, rest)) = cut(text, b'\n') else {
         return None;
