@@ -14,7 +14,7 @@ use Rattle.board_core.specs.Board.{Board}
 use Rattle.usi_text.specs.MoveText.{move_text, MoveTextsApart as MovesApart}
 use Rattle.sfen_text.specs.Spelling.{sfen_of, board_text, side_letter, hands_text}
 use Rattle.sfen_text.specs.Laws.{PositionTextsApart, TextsAreLines}
-use Rattle.cert_text.specs.Entries.{line, mate_entry_text}
+use Rattle.cert_text.specs.Entries.{line, mate_entry_text, escape_entry_text}
 use Rattle.cert_text.specs.Certificate.{CertificateView, Mating, Escaping, IsRising, Form, MayBeListed, mate_form, escape_form}
 use Rattle.cert_text.specs.Text.{title_of, entries_text, end_line}
 use Rattle.cert_text.specs.declared.fault.CertFault.{CertFault}
@@ -76,17 +76,20 @@ rank_apart a b e = rank_same a b (decimal_injective a.number b.number (rank_smal
 mate_same : (one two : MateEntry) → one.rank ≡ two.rank → one.by ≡ two.by → one.at ≡ two.at → one ≡ two
 mate_same one two r m p = λ i. record { rank = r i; by = m i; at = p i }
 
-module _ (laws : Laws) where
-  mate_line_of : (problem : Board) (entry : MateEntry) → MayBeListed (mate_form problem) entry → IsEntryLine (mate_entry_text entry)
-  mate_line_of problem entry fits = record {
-    inside = decimal entry.rank.number ++ 32 ∷ move_text entry.by ++ 32 ∷ sfen_of entry.at;
-    is_line = refl;
-    lacks = lacks_both 10 (decimal entry.rank.number ++ 32 ∷ move_text entry.by) (32 ∷ sfen_of entry.at)
-        (lacks_both 10 (decimal entry.rank.number) (32 ∷ move_text entry.by) (decimal_lacks 10 entry.rank.number (omega arith) (rank_small entry.rank)) ((λ (e : 32 ≡ 10). omega arith), move_lacks 10 entry.by (omega arith)))
-        ((λ (e : 32 ≡ 10). omega arith), sfen_lacks laws.lines entry.at fits.kept);
-    no_end = λ e. spaced_no_end (decimal entry.rank.number ++ 32 ∷ move_text entry.by) (sfen_of entry.at) e;
-  }
+pub mate_line_of : TextsAreLines → (problem : Board) (entry : MateEntry) → MayBeListed (mate_form problem) entry → IsEntryLine (mate_entry_text entry)
+mate_line_of lines problem entry fits = record {
+  inside = decimal entry.rank.number ++ 32 ∷ move_text entry.by ++ 32 ∷ sfen_of entry.at;
+  is_line = refl;
+  lacks = lacks_both 10 (decimal entry.rank.number ++ 32 ∷ move_text entry.by) (32 ∷ sfen_of entry.at)
+      (lacks_both 10 (decimal entry.rank.number) (32 ∷ move_text entry.by) (decimal_lacks 10 entry.rank.number (omega arith) (rank_small entry.rank)) ((λ (e : 32 ≡ 10). omega arith), move_lacks 10 entry.by (omega arith)))
+      ((λ (e : 32 ≡ 10). omega arith), sfen_lacks lines entry.at fits.kept);
+  no_end = λ e. spaced_no_end (decimal entry.rank.number ++ 32 ∷ move_text entry.by) (sfen_of entry.at) e;
+}
 
+pub escape_line_of : TextsAreLines → (problem p : Board) → MayBeListed (escape_form problem) p → IsEntryLine (escape_entry_text p)
+escape_line_of lines problem p fits = record { inside = sfen_of p; is_line = refl; lacks = sfen_lacks lines p fits.kept; no_end = sfen_spaced p }
+
+module _ (laws : Laws) where
   mate_apart : (problem : Board) (one two : MateEntry) → MayBeListed (mate_form problem) one → MayBeListed (mate_form problem) two → mate_entry_text one ≡ mate_entry_text two → one ≡ two
   mate_apart problem one two f g e =
       let text = decimal one.rank.number ++ 32 ∷ move_text one.by ++ 32 ∷ sfen_of one.at in
@@ -98,11 +101,11 @@ module _ (laws : Laws) where
       mate_same one two (rank_apart one.rank two.rank first.0) (laws.moves one.by two.by second.0) (laws.apart one.at two.at f.kept g.kept second.1)
 
   mate_told : (problem : Board) → AreTold (mate_form problem)
-  mate_told problem = record { lines = mate_line_of problem; apart = mate_apart problem }
+  mate_told problem = record { lines = mate_line_of laws.lines problem; apart = mate_apart problem }
 
   escape_told : (problem : Board) → AreTold (escape_form problem)
   escape_told problem = record {
-    lines = λ p fits. record { inside = sfen_of p; is_line = refl; lacks = sfen_lacks laws.lines p fits.kept; no_end = sfen_spaced p };
+    lines = escape_line_of laws.lines problem;
     apart = λ p q f g e. laws.apart p q f.kept g.kept (line_same (sfen_of p) (sfen_of q) e);
   }
 

@@ -3,6 +3,8 @@ pub mod Heads
 pub mod Entries
 pub mod Bodies
 pub mod Again
+pub mod UpToEnd
+pub mod Fronts
 pub mod Readable
 pub mod Apart
 pub mod Offered

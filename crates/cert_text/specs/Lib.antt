@@ -4,6 +4,7 @@ pub mod Certificate
 pub mod Kinds
 pub mod Text
 pub mod Reading
+pub mod UpToEnd
 pub mod FaultText
 pub mod Scan
 pub mod Lines

@@ -11,7 +11,8 @@
 //! [`CertificateOf`] is a certificate with entries of one kind ([`Entry`]); [`Certificate`] is one
 //! of either kind. [`read_cert`] and [`write_cert`] are its text both ways, and [`cert_laws`] are
 //! facts about all of them. Who wants to read lines in several threads opens a text ([`OpenText`]),
-//! and reads stretches of its lines by themselves ([`read_lines`]).
+//! and reads stretches of its lines by themselves ([`read_lines`]). Who
+//! reads more texts than one cuts a certificate's off at its line `end` ([`up_to_end`]).
 #![tactic(auto)]
 
 mod certificate;
@@ -31,7 +32,7 @@ pub use fault::{CertEnd, CertFault};
 pub use head::{Claim, Title};
 pub use laws::cert_laws;
 pub use limits::MOST_ENTRIES;
-pub use lines::{LinesStop, ReadLines, read_lines};
-pub use parts::{behind, cut, is_before, position_of_text, rank_of_text};
+pub use lines::{LinesStop, ReadLines, read_lines, up_to_end};
+pub use parts::{behind, cut, is_before, number_of_text, position_of_text, rank_of_text};
 pub use read::{OpenText, read_cert};
 pub use write::{append_cert, append_escape_cert, append_mate_cert, append_number, write_cert};

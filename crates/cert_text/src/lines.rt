@@ -1,6 +1,7 @@
 // Lines as entries: all that a certificate has, or a stretch of them.
-ghost use Rattle.std.specs.Prelude.{◌≡◌, ◌↔◌, IfOk, IsTrue, codes};
+ghost use Rattle.std.specs.Prelude.{◌≡◌, ◌++◌, ◌↔◌, IfOk, IsTrue, codes};
 ghost use Rattle.cert_text.specs.Lines.{IsReadOf, IsStopAtEnd};
+ghost use Rattle.cert_text.specs.UpToEnd.{IsUpToEnd};
 
 use crate::Entry;
 use crate::parts::{cut, is_before};
@@ -38,6 +39,23 @@ fn is_end(line: &[u8]) -> bool
     ensures { IsTrue result ↔ (line.now ≡ codes "end") }
 {
     line == b"end".as_slice()
+}
+
+/// The text up to and with its first line `end`, and what stands behind; all of the text, and
+/// nothing, where it has no such line. Takes no memory.
+pub fn up_to_end(text: &[u8]) -> (&[u8], &[u8])
+    ensures parts { text.now ≡ result.0.now ++ result.1.now }
+    ensures ends { IsUpToEnd result.0.now result.1.now }
+{
+    let mut rest = text;
+    while let Some((line, more)) = cut(rest, b'\n') {
+        if is_end(line) {
+            let length = text.len() - more.len();
+            return (&text[..length], more);
+        }
+        rest = more;
+    }
+    (text, b"".as_slice())
 }
 
 // Why the reading stops where the line `end` comes, and this behind it.

@@ -66,8 +66,9 @@ fn is_decimal(text: &[u8], number: u32) -> bool
     Buffer::new().format(number).as_bytes() == text
 }
 
-// The number from 1 to the limit whose text it is, without a leading zero.
-pub(crate) fn number_of_text(text: &[u8], limit: u32) -> Option<u32>
+/// The number from 1 to the limit whose text it is, in decimal digits without a leading zero; none
+/// for any other text. Takes no memory.
+pub fn number_of_text(text: &[u8], limit: u32) -> Option<u32>
     ensures from { IfSome result (λ number. 1 ≤ number) }
     ensures to { IfSome result (λ number. number ≤ limit) }
     ensures text { IfSome result (λ number. text.now ≡ decimal number) }

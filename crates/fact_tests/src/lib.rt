@@ -1,5 +1,5 @@
-//! The public calls on notes, certificates, bounds, cook reports, lines of moves and lists of
-//! positions, tried by examples.
+//! The public calls on notes, certificates, libraries, bounds, cook reports, lines of moves and
+//! lists of positions, tried by examples.
 //!
 //! The tests of this layer stand here and not in its libraries, so that no library is proved twice.
 //! Without tests this crate is empty.
@@ -23,6 +23,8 @@ mod dominance;
 mod extraction;
 #[cfg(test)]
 mod letters;
+#[cfg(test)]
+mod libraries;
 #[cfg(test)]
 mod lines;
 #[cfg(test)]

@@ -14,7 +14,8 @@ use Rattle.cert_text.specs.declared.fault.CertFault.TheVariants.{BadHead, BadLin
 use Rattle.cert_text.specs.declared.head.Claim.TheVariants.{Mate}
 use Rattle.cert_text.specs.Reading.{Lacks, IsFrontLine, IsReadableOf}
 use Rattle.cert_text.specs.Reading as certs
-use Rattle.cert_text.proofs.Offered.{line_cut}
+use Rattle.cert_text.specs.UpToEnd.{IsUpToEnd}
+use Rattle.cert_text.proofs.Offered.{line_cut, same_cut, ends_at_end}
 use Rattle.bound_text.specs.declared.entry.BoundEntry.{BoundEntry}
 use Rattle.bound_text.specs.declared.fault.BadBound.{BadBound}
 use Rattle.bound_text.specs.Text.{bound_text}
@@ -27,10 +28,9 @@ use Rattle.shortest_text.specs.declared.fault.ShortestFault.TheVariants.{Certifi
 use Rattle.shortest_text.specs.declared.fault.ShortestEnd.{ShortestEnd}
 use Rattle.shortest_text.specs.declared.fault.ShortestEnd.TheVariants.{Fault, NoMemory}
 use Rattle.shortest_text.specs.Text.{shortest_line, none_line, found_text}
-use Rattle.shortest_text.specs.Reading.{IsUpToEnd, BeginsFound, BeginsNone, HasBadHead, HasBadCertificate, HasFound, IsLeft, HasBadBound, HasFirstFault, IsReadable, IsTextOf, IsShortestOutcome, IsReadAs, IsFaultAs}
-use Rattle.shortest_text.proofs.Cuts.{same_cut}
+use Rattle.shortest_text.specs.Reading.{BeginsFound, BeginsNone, HasBadHead, HasBadCertificate, HasFound, IsLeft, HasBadBound, HasFirstFault, IsReadable, IsTextOf, IsShortestOutcome, IsReadAs, IsFaultAs}
 use Rattle.shortest_text.proofs.Parts.{front_lacks, one_number, one_problem, shortest_lacks, none_lacks}
-use Rattle.shortest_text.proofs.Ends.{mate_up_to_end, one_version}
+use Rattle.shortest_text.proofs.Ends.{one_version}
 
 -- The laws of texts that the lemmas below rest on.
 pub record Laws : Type 0 where
@@ -93,7 +93,7 @@ module _ (laws : Laws) where
 
   -- What is right up to the bound begins so, and its certificate has no fault.
   found_begins : (rank : Rank) (c : Mating) (bound bytes : List ℕ) → (h : HasFound rank c bound bytes) → BeginsFound h.front rank (certificate_text (certificates.Mate c)) bound bytes
-  found_begins rank c bound bytes h = record { is_front = h.is_front; up_to_end = mate_up_to_end laws.lines c bound h.readable; text = h.text }
+  found_begins rank c bound bytes h = record { is_front = h.is_front; up_to_end = ends_at_end laws.lines (certificates.Mate c) bound h.readable; text = h.text }
 
   no_fault : (front : List ℕ) (c : Mating) (fault : CertFault) → IsFrontLine Mate front → IsReadableOf (mate_form c.problem) c
       → certs.HasFirstFault (line front ++ certificate_text (certificates.Mate c)) fault → ⊥

@@ -1,7 +1,6 @@
 -- A mate's front line and a certificate behind it.
 use Rattle.std.proofs.Common.{inl, inr, ◌≡◌, ◌<◌, ◌+◌, ℕ, List, [], ◌∷◌, ◌++◌, get_or, length, refl, sym, ap, subst, ◌∙◌, arith, Ok, Err}
-use Rattle.std.specs.Prelude.{codes, Option, Some, None, IfSome, IfNone, true}
-use Rattle.std.specs.Option.{is_some}
+use Rattle.std.specs.Prelude.{codes}
 use Rattle.std.specs.List.{flat_map}
 use Rattle.std.proofs.lemmas.List.{append_cancel_left}
 use Rattle.bit_boards.specs.declared.piece.Kind.{Kind}
@@ -77,16 +76,6 @@ is_behind Mate front text over whole lack begins (inr at) second e =
 is_behind Escape front text over whole lack begins (inr at) second e =
     let parts = line_cut front at.0 text whole lack (front_lacks Escape at.0 at.1) (e ∙ ap (λ (t : List ℕ). t ++ whole) at.2) in
     absurd (begins.no_escape (parts.0 ∙ at.1))
-
--- ---- what a certificate's text begins with
-
-pub found_rest : {A : Type 0} (r : Option A) (P : A → Type 0) → is_some r ≡ true → IfSome r P → (x : A) × P x
-found_rest None P e h = absurd cc
-found_rest (Some x) P e h = (x, h)
-
-pub rest_found : {A : Type 0} (r : Option A) (text front rest : List ℕ) → text ≡ front ++ rest → IfNone r ((rest : List ℕ) → text ≡ front ++ rest → ⊥) → is_some r ≡ true
-rest_found None text front rest e none = absurd (none rest e)
-rest_found (Some x) text front rest e none = refl
 
 -- ---- what is read of them
 

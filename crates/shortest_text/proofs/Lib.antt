@@ -1,4 +1,3 @@
-pub mod Cuts
 pub mod Parts
 pub mod Ends
 pub mod Fronts

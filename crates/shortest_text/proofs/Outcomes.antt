@@ -18,7 +18,7 @@ use Rattle.cert_text.specs.declared.fault.CertEnd.TheVariants as cert_ends
 use Rattle.cert_text.specs.declared.head.Claim.TheVariants.{Mate}
 use Rattle.cert_text.specs.Reading.{Lacks, IsFrontLine, IsReadableOf}
 use Rattle.cert_text.specs.Reading as certs
-use Rattle.cert_text.proofs.Offered.{line_cut, not_lacks}
+use Rattle.cert_text.proofs.Offered.{line_cut, not_lacks, first_line_is}
 use Rattle.bound_text.specs.declared.entry.BoundEntry.{BoundEntry}
 use Rattle.bound_text.specs.declared.fault.BoundEnd.{BoundEnd}
 use Rattle.bound_text.specs.declared.fault.BoundEnd.TheVariants as bound_ends
@@ -29,9 +29,10 @@ use Rattle.shortest_text.specs.declared.text.ShortestText.TheVariants.{Found, No
 use Rattle.shortest_text.specs.declared.fault.ShortestEnd.{ShortestEnd}
 use Rattle.shortest_text.specs.Ends.{end_of_certificate, end_of_bound}
 use Rattle.shortest_text.specs.Text.{shortest_line, none_line, found_text}
-use Rattle.shortest_text.specs.Reading.{IsUpToEnd, BeginsNone, IsOfOne, HasBadHead, HasBadCertificate, HasFound, IsShortestOutcome}
+use Rattle.cert_text.specs.UpToEnd.{IsUpToEnd}
+use Rattle.shortest_text.specs.Reading.{BeginsNone, IsOfOne, HasBadHead, HasBadCertificate, HasFound, IsShortestOutcome}
 use Rattle.shortest_text.specs.Scan.{IsMateOutcome}
-use Rattle.shortest_text.proofs.Parts.{front_lacks, number_lacks, one_number, none_lacks, first_line_is}
+use Rattle.shortest_text.proofs.Parts.{front_lacks, number_lacks, one_number, none_lacks}
 use Rattle.shortest_text.proofs.Again.{found_parts, found_or_none}
 
 -- what is passed on as it came is the same outcome

@@ -1,5 +1,5 @@
 -- The lines of a text about the shortest mate: which bytes they lack, and what they determine.
-use Rattle.std.proofs.Common.{◌≡◌, ◌≢◌, ℕ, Bool, true, false, List, [], ◌∷◌, ◌++◌, refl, sym, ap, subst, ◌∙◌, append_assoc, arith}
+use Rattle.std.proofs.Common.{◌≡◌, ◌≢◌, ℕ, Bool, true, false, List, [], ◌∷◌, ◌++◌, refl, sym, subst, arith}
 use Rattle.std.specs.Prelude.{codes}
 use Rattle.std.specs.List.{flat_map}
 use Rattle.std.specs.Fmt.{decimal}
@@ -16,7 +16,7 @@ use Rattle.usi_text.specs.MoveText.{move_text, promotion_text}
 use Rattle.usi_text.specs.Lines.{spaced_move, nomate_text}
 use Rattle.sfen_text.specs.Spelling.{sfen_of}
 use Rattle.sfen_text.specs.Laws.{PositionTextsApart, TextsAreLines}
-use Rattle.cert_text.specs.Entries.{line, problem_line}
+use Rattle.cert_text.specs.Entries.{problem_line}
 use Rattle.cert_text.specs.declared.head.Claim.{Claim}
 use Rattle.cert_text.specs.declared.head.Claim.TheVariants.{Mate, Escape}
 use Rattle.cert_text.specs.Reading.{Lacks, IsFrontLine}
@@ -77,13 +77,3 @@ pub one_problem : PositionTextsApart → TextsAreLines → (p q : Board) (s r : 
 one_problem apart lines p q s r kept also e =
     let parts = line_cut (codes "problem " ++ sfen_of p) (codes "problem " ++ sfen_of q) s r (problem_lacks lines p kept) (problem_lacks lines q also) e in
     (apart p q kept also (append_cancel_left (codes "problem ") (sfen_of p) (sfen_of q) parts.0), parts.1)
-
--- ---- first lines
-
--- What stands before a line feed is the first line.
-pub first_line_is : (text first more words rest : List ℕ) → text ≡ first ++ 10 ∷ more → Lacks 10 first → Lacks 10 words → text ≡ line words ++ rest → (first ≡ words) × (more ≡ rest)
-first_line_is text first more words rest p lack also e =
-    line_cut first words more rest lack also (append_assoc first (10 ∷ []) more ∙ (sym p ∙ e))
-
-pub as_line : (text first more words : List ℕ) → text ≡ first ++ 10 ∷ more → first ≡ words → text ≡ line words ++ more
-as_line text first more words p e = p ∙ (ap (λ (t : List ℕ). t ++ 10 ∷ more) e ∙ sym (append_assoc words (10 ∷ []) more))

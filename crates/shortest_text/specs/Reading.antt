@@ -1,7 +1,6 @@
 -- What a text about the shortest mate is read as: what it says, or its first fault. Relations
 -- between whole texts and outcomes.
-use Rattle.std.specs.Prelude.{◌≡◌, ◌≢◌, ◌⊎◌, ℕ, List, [], ◌++◌, codes, Result, Ok, Err}
-use Rattle.std.specs.List.{AllByRecursion, flat_map}
+use Rattle.std.specs.Prelude.{◌≡◌, ◌⊎◌, ℕ, List, ◌++◌, Result, Ok, Err}
 use Rattle.hand_dominance.specs.declared.version.Version.TheVariants.{One}
 use Rattle.board_core.specs.Board.{Board}
 use Rattle.board_core.specs.Kept.{IsKept}
@@ -9,13 +8,14 @@ use Rattle.shogi_rules.specs.Tsume.{IsProblem}
 use Rattle.mate_facts.specs.declared.rank.Rank.{Rank}
 use Rattle.cert_text.specs.Entries.{line}
 use Rattle.cert_text.specs.Certificate.{Mating, mate_form}
-use Rattle.cert_text.specs.Text.{version_front, end_line, certificate_text}
+use Rattle.cert_text.specs.Text.{version_front, certificate_text}
 use Rattle.cert_text.specs.declared.certificate.Certificate.TheVariants as certificates
 use Rattle.cert_text.specs.declared.fault.CertFault.{CertFault}
 use Rattle.cert_text.specs.declared.fault.CertFault.TheVariants.{BadHead, BadLine, NotRising, WrongCount, NoEnd}
 use Rattle.cert_text.specs.declared.head.Claim.TheVariants.{Mate}
-use Rattle.cert_text.specs.Reading.{Lacks, IsFrontLine, IsReadableOf}
+use Rattle.cert_text.specs.Reading.{IsFrontLine, IsReadableOf}
 use Rattle.cert_text.specs.Reading as certs
+use Rattle.cert_text.specs.UpToEnd.{IsUpToEnd}
 use Rattle.bound_text.specs.declared.fault.BadBound.{BadBound}
 use Rattle.bound_text.specs.Text.{bound_text}
 use Rattle.bound_text.specs.Reading as bounds
@@ -26,25 +26,6 @@ use Rattle.shortest_text.specs.declared.fault.ShortestFault.TheVariants.{Certifi
 use Rattle.shortest_text.specs.declared.fault.ShortestEnd.{ShortestEnd}
 use Rattle.shortest_text.specs.declared.fault.ShortestEnd.TheVariants.{Fault, NoMemory}
 use Rattle.shortest_text.specs.Text.{found_text, none_text}
-
--- A line other than `end`, without its line feed.
-abbrev pub IsOther : List ℕ → Type 0
-IsOther text = Lacks 10 text × (text ≢ codes "end")
-
--- The text begins with these lines, and then comes the line `end`, with which it ends.
-abbrev pub EndsAtEnd : List (List ℕ) → List ℕ → Type 0
-EndsAtEnd others text = text ≡ flat_map line others ++ end_line
-
--- The text begins with these lines, no further line comes, and nothing comes behind the text.
-abbrev pub LacksEnd : List (List ℕ) → List ℕ → List ℕ → Type 0
-LacksEnd others text rest = (last : List ℕ) × Lacks 10 last × (text ≡ flat_map line others ++ last) × (rest ≡ [])
-
--- The text goes up to and with its first line `end`, and the rest comes behind it; or it has no
--- such line, and nothing comes behind it.
-pub record IsUpToEnd (text rest : List ℕ) : Type 0 where
-  pub others : List (List ℕ)
-  pub none_is_end : AllByRecursion IsOther others
-  pub ends : EndsAtEnd others text ⊎ LacksEnd others text rest
 
 -- The text begins as that of a shortest mate: with a front line of a mate and the number of moves.
 -- Then comes the certificate's text, up to and with its first line `end`, and what is behind that

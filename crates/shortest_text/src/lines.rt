@@ -1,10 +1,9 @@
 // The lines of a text that are neither a certificate's nor a bound's.
-ghost use Rattle.std.specs.Prelude.{◌≡◌, ◌++◌, ◌↔◌, List, ℕ, IsTrue, IfSome, IfNone, codes};
+ghost use Rattle.std.specs.Prelude.{◌≡◌, ◌++◌, List, ℕ, IfSome, IfNone};
 ghost use Rattle.std.specs.Fmt.{decimal};
 ghost use Rattle.mate_facts.specs.declared.rank.Rank.{Rank};
 ghost use Rattle.cert_text.specs.Entries.{line};
 ghost use Rattle.cert_text.specs.Reading.{Lacks};
-ghost use Rattle.shortest_text.specs.Reading.{IsUpToEnd};
 
 use cert_text::{behind, cut, rank_of_text};
 use mate_facts::Rank;
@@ -27,27 +26,4 @@ pub(crate) fn numbered_line<'a>(text: &'a [u8], words: &[u8]) -> Option<(Rank, &
         return None;
     };
     Some((rank, rest))
-}
-
-fn is_end(line: &[u8]) -> bool
-    ensures { IsTrue result ↔ (line.now ≡ codes "end") }
-{
-    line == b"end".as_slice()
-}
-
-// The text up to and with its first line `end`, and what stands behind; all of the text, and
-// nothing, where it has no such line.
-pub(crate) fn up_to_end(text: &[u8]) -> (&[u8], &[u8])
-    ensures parts { text.now ≡ result.0.now ++ result.1.now }
-    ensures ends { IsUpToEnd result.0.now result.1.now }
-{
-    let mut rest = text;
-    while let Some((line, more)) = cut(rest, b'\n') {
-        if is_end(line) {
-            let length = text.len() - more.len();
-            return (&text[..length], more);
-        }
-        rest = more;
-    }
-    (text, b"".as_slice())
 }

@@ -9,11 +9,11 @@ ghost use Rattle.shortest_text.specs.declared.fault.ShortestFault.{ShortestFault
 ghost use Rattle.shortest_text.specs.Reading.{IsReadable, IsTextOf, HasFirstFault, IsShortestOutcome, IsReadAs, IsFaultAs};
 
 use crate::certificate::certificate_of;
-use crate::lines::{numbered_line, up_to_end};
+use crate::lines::numbered_line;
 use crate::problem::problem_of_line;
 use crate::{ShortestEnd, ShortestFault, ShortestText};
 use bound_text::{bound_laws, read_bound};
-use cert_text::{CertFault, cert_laws, cut};
+use cert_text::{CertFault, cert_laws, cut, up_to_end};
 use mate_facts::Rank;
 use sfen_text::sfen_laws;
 use std::alloc::Global;

@@ -1,5 +1,5 @@
-//! The public calls on texts (moves, positions, solutions, certificates, bounds, shortest mates,
-//! collections, lines of sessions) and on problems by number, by examples.
+//! The public calls on texts (moves, positions, solutions, certificates, libraries, bounds,
+//! shortest mates, collections, lines of sessions) and on problems by number, by examples.
 //!
 //! The tests of this layer stand here and not in its libraries, so that no library is proved twice.
 //! Without tests this crate is empty.
@@ -17,6 +17,8 @@ mod collections;
 mod diagrams;
 #[cfg(test)]
 mod generated;
+#[cfg(test)]
+mod libraries;
 #[cfg(test)]
 mod moves;
 #[cfg(test)]

@@ -1,6 +1,6 @@
 use Rattle.std.proofs.Common.{sym, ◌∙◌}
 use Rattle.std.specs.Prelude.{codes}
-use Rattle.shortest_text.proofs.Fronts.{found_rest, rest_found}
+use Rattle.cert_text.proofs.Offered.{found_rest, rest_found}
 use Rattle.shortest_text.proofs.certificate.is_of_one.Goals as goal
 
 pub returns : goal.returns

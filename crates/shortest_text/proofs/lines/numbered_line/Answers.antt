@@ -2,8 +2,8 @@ use Rattle.std.proofs.Common.{◌∷◌, ◌++◌, [], List, ℕ, ap, subst, sym
 use Rattle.std.specs.Fmt.{decimal}
 use Rattle.std.proofs.lemmas.List.{append_cancel_left}
 use Rattle.cert_text.specs.Reading.{Lacks}
-use Rattle.cert_text.proofs.Offered.{not_lacks}
-use Rattle.shortest_text.proofs.Parts.{number_lacks, first_line_is, as_line}
+use Rattle.cert_text.proofs.Offered.{not_lacks, first_line_is, as_line}
+use Rattle.shortest_text.proofs.Parts.{number_lacks}
 use Rattle.shortest_text.proofs.lines.numbered_line.Goals as goal
 
 pub returns-in_default-clause-none : goal.returns-in_default-clause-none

@@ -2,11 +2,11 @@ use Rattle.std.proofs.Common.{◌∷◌, ◌++◌, [], subst, sym, ◌∙◌, ap
 use Rattle.std.specs.Prelude.{codes}
 use Rattle.sfen_text.specs.Spelling.{sfen_of}
 use Rattle.cert_text.specs.Reading.{Lacks}
-use Rattle.cert_text.proofs.Offered.{not_lacks}
+use Rattle.cert_text.proofs.Offered.{not_lacks, first_line_is, as_line}
 use Rattle.shortest_text.specs.declared.fault.ShortestEnd.{ShortestEnd}
 use Rattle.shortest_text.specs.Text.{none_line}
 use Rattle.shortest_text.specs.Reading.{IsShortestOutcome}
-use Rattle.shortest_text.proofs.Parts.{problem_lacks, first_line_is, as_line}
+use Rattle.shortest_text.proofs.Parts.{problem_lacks}
 use Rattle.shortest_text.proofs.Outcomes.{no_problem, bound_ends_none}
 use Rattle.shortest_text.proofs.read.none_of.Goals as goal
 

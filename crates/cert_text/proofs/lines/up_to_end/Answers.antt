@@ -1,8 +1,8 @@
 use Rattle.std.proofs.Common.{List, ℕ, subst, sym, ◌∙◌}
 use Rattle.std.proofs.lemmas.Bool.{false≢true}
-use Rattle.shortest_text.specs.Reading.{IsUpToEnd}
-use Rattle.shortest_text.proofs.Cuts.{passed_none, passed_more, passed_end, front_taken}
-use Rattle.shortest_text.proofs.lines.up_to_end.Goals as goal
+use Rattle.cert_text.specs.UpToEnd.{IsUpToEnd}
+use Rattle.cert_text.proofs.UpToEnd.{passed_none, passed_more, passed_end, front_taken}
+use Rattle.cert_text.proofs.lines.up_to_end.Goals as goal
 
 pub loop-line-init : goal.loop-line-init
 loop-line-init c = passed_none c.args.text.now

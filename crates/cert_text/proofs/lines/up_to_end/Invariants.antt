@@ -1,6 +1,6 @@
 use Rattle.std.proofs.Common.{length}
-use Rattle.shortest_text.proofs.Cuts.{HasPassed}
-use Rattle.shortest_text.proofs.lines.up_to_end.Given as goal
+use Rattle.cert_text.proofs.UpToEnd.{HasPassed}
+use Rattle.cert_text.proofs.lines.up_to_end.Given as goal
 
 abbrev pub invariant-loop-line : goal.invariant-loop-line
 invariant-loop-line l = HasPassed l.text l.rest

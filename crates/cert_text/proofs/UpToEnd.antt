@@ -1,14 +1,28 @@
--- A text is cut in one way at its first line `end`.
-use Rattle.std.proofs.Common.{inl, inr, ◌⊎◌, ◌≡◌, ◌≢◌, ◌-◌, ℕ, List, [], ◌∷◌, ◌++◌, length, take, refl, sym, ap, subst, ◌∙◌, append_assoc, arith}
+-- A text is cut in one way at its first line `end`, and that is where a certificate's ends.
+use Rattle.std.proofs.Common.{inl, inr, ◌⊎◌, ◌≡◌, ◌≢◌, ◌-◌, ℕ, List, [], ◌∷◌, ◌++◌, length, take, get_or, refl, sym, ap, subst, ◌∙◌, append_assoc, arith}
 use Rattle.std.specs.Prelude.{codes}
 use Rattle.std.specs.List.{AllByRecursion, flat_map}
+use Rattle.std.specs.Fmt.{decimal}
 use Rattle.std.proofs.lemmas.List.{append-nil, flat_map_more, length-append}
 use Rattle.std.proofs.Math.Seq.{take-append_seam}
+use Rattle.hand_dominance.specs.declared.version.Version.{Version}
+use Rattle.hand_dominance.specs.declared.version.Version.TheVariants.{One, Two}
+use Rattle.board_core.specs.Board.{Board}
+use Rattle.board_core.specs.Kept.{IsKept}
+use Rattle.sfen_text.specs.Spelling.{sfen_of}
+use Rattle.sfen_text.specs.Laws.{TextsAreLines}
 use Rattle.cert_text.specs.Entries.{line}
-use Rattle.cert_text.specs.Text.{end_line}
-use Rattle.cert_text.specs.Reading.{Lacks}
-use Rattle.cert_text.proofs.Offered.{lacks_by, not_lacks, line_cut}
-use Rattle.shortest_text.specs.Reading.{IsOther, IsUpToEnd}
+use Rattle.cert_text.specs.Certificate.{CertificateView, Form, MayBeListed, mate_form, escape_form}
+use Rattle.cert_text.specs.Text.{claim_word, version_front, claim_text, title_text, title_of, entries_text, end_line, listing_text, certificate_text}
+use Rattle.cert_text.specs.declared.certificate.Certificate.{Certificate}
+use Rattle.cert_text.specs.declared.certificate.Certificate.TheVariants as certificates
+use Rattle.cert_text.specs.declared.head.Claim.{Claim}
+use Rattle.cert_text.specs.declared.head.Claim.TheVariants.{Mate, Escape}
+use Rattle.cert_text.specs.declared.head.Title.{Title}
+use Rattle.cert_text.specs.Reading.{Lacks, IsReadCount, IsReadableOf, IsReadable}
+use Rattle.cert_text.specs.UpToEnd.{IsOther, IsUpToEnd}
+use Rattle.cert_text.proofs.Cuts.{all_push, lacks_both, lacks_by, not_lacks, decimal_lacks, sfen_lacks}
+use Rattle.cert_text.proofs.Again.{IsEntryLine, line_cut, mate_line_of, escape_line_of}
 
 -- What comes behind the lines before the first line `end`: that line, or no further line and
 -- nothing behind it.
@@ -94,14 +108,10 @@ pub record HasPassed (text rest : List ℕ) : Type 0 where
 pub passed_none : (text : List ℕ) → HasPassed text text
 passed_none text = record { others = []; none_is_end = tt; so_far = refl }
 
-all_push : (os : List (List ℕ)) (o : List ℕ) → AllByRecursion IsOther os → IsOther o → AllByRecursion IsOther (os ++ o ∷ [])
-all_push [] o all is = (is, tt)
-all_push (x ∷ xs) o all is = (all.0, all_push xs o all.1 is)
-
 pub passed_more : (text rest words more : List ℕ) → HasPassed text rest → rest ≡ words ++ 10 ∷ more → Lacks 10 words → words ≢ codes "end" → HasPassed text more
 passed_more text rest words more passed p lack not = record {
   others = passed.others ++ words ∷ [];
-  none_is_end = all_push passed.others words passed.none_is_end (lack, not);
+  none_is_end = all_push IsOther passed.others words passed.none_is_end (lack, not);
   so_far = passed.so_far ∙ (ap (λ (t : List ℕ). flat_map line passed.others ++ t) (p ∙ sym (append_assoc words (10 ∷ []) more))
       ∙ (sym (append_assoc (flat_map line passed.others) (line words) more) ∙ ap (λ (t : List ℕ). t ++ more) (flat_map_more line [] passed.others words)));
 }
@@ -129,3 +139,69 @@ front_taken text own more p =
     let whole = ap length p in
     let same : length text - length more ≡ length own = omega (arith, length-append own more) in
     ap (λ (k : ℕ). take k text) same ∙ (ap (λ (t : List ℕ). take (length own) t) p ∙ take-append_seam own more)
+
+-- ---- a certificate's text
+
+version_lacks : (version : Version) → Lacks 10 (version_front version)
+version_lacks One = lacks_by 10 (version_front One) refl
+version_lacks Two = lacks_by 10 (version_front Two) refl
+
+claim_lacks : (claim : Claim) → Lacks 10 (claim_word claim)
+claim_lacks Mate = lacks_by 10 (codes "mate") refl
+claim_lacks Escape = lacks_by 10 (codes "escape") refl
+
+version_other : (version : Version) (more : List ℕ) → version_front version ++ more ≢ codes "end"
+version_other One more e = let bad : ◌≡◌ {A = ℕ} 99 101 = ap (λ (t : List ℕ). get_or t 0 0) e in omega (arith, bad)
+version_other Two more e = let bad : ◌≡◌ {A = ℕ} 99 101 = ap (λ (t : List ℕ). get_or t 0 0) e in omega (arith, bad)
+
+title_other : (title : Title) (count : ℕ) → IsReadCount count → IsOther (title_text title count)
+title_other title count is = (
+  lacks_both 10 (version_front title.version) (claim_text title.claim count) (version_lacks title.version)
+      (lacks_both 10 (claim_word title.claim) (32 ∷ decimal count) (claim_lacks title.claim)
+      ((λ (e : 32 ≡ 10). omega arith), decimal_lacks 10 count (omega arith) (omega (arith, is.1)))),
+  version_other title.version (claim_text title.claim count),
+)
+
+problem_other : TextsAreLines → (p : Board) → IsKept p → IsOther (codes "problem " ++ sfen_of p)
+problem_other lines p kept = (
+  lacks_both 10 (codes "problem ") (sfen_of p) (lacks_by 10 (codes "problem ") refl) (sfen_lacks lines p kept),
+  (λ e. let bad : ◌≡◌ {A = ℕ} 112 101 = ap (λ (t : List ℕ). get_or t 0 0) e in omega (arith, bad)),
+)
+
+-- The texts of entries are lines other than `end`.
+record AreOthers (text : List ℕ) : Type 0 where
+  others : List (List ℕ)
+  none_is_end : AllByRecursion IsOther others
+  text_is : text ≡ flat_map line others
+
+entries_others : {Entry : Type 0} (form : Form Entry) → ((entry : Entry) → MayBeListed form entry → IsEntryLine (form.text_of entry)) → (entries : List Entry)
+    → AllByRecursion (MayBeListed form) entries → AreOthers (entries_text form entries)
+entries_others form told [] all = record { others = []; none_is_end = tt; text_is = refl }
+entries_others form told (entry ∷ entries) all =
+    let own = told entry all.0 in
+    let more = entries_others form told entries all.1 in
+    record {
+      others = own.inside ∷ more.others;
+      none_is_end = ((own.lacks, own.no_end), more.none_is_end);
+      text_is = ap (λ (t : List ℕ). t ++ entries_text form entries) own.is_line ∙ ap (λ (t : List ℕ). line own.inside ++ t) more.text_is;
+    }
+
+three_parts : (a b t e s : List ℕ) → t ≡ s → ((a ++ b) ++ t) ++ e ≡ (a ++ (b ++ s)) ++ e
+three_parts a b t e s same = ap (λ (x : List ℕ). x ++ e) (append_assoc a b t ∙ ap (λ (x : List ℕ). a ++ (b ++ x)) same)
+
+listing_ends : {Entry : Type 0} (claim : Claim) (form : Form Entry) → TextsAreLines → ((entry : Entry) → MayBeListed form entry → IsEntryLine (form.text_of entry))
+    → (c : CertificateView Entry) (behind : List ℕ) → IsReadableOf form c → IsUpToEnd (listing_text claim form c) behind
+listing_ends claim form lines told c behind readable =
+    let title = title_text (title_of claim c) (length c.entries) in
+    let problem = codes "problem " ++ sfen_of c.problem in
+    let more = entries_others form told c.entries readable.good.fit in
+    record {
+      others = title ∷ problem ∷ more.others;
+      none_is_end = (title_other (title_of claim c) (length c.entries) readable.count, (problem_other lines c.problem readable.kept, more.none_is_end));
+      ends = inl (three_parts (line title) (line problem) (entries_text form c.entries) end_line (flat_map line more.others) more.text_is);
+    }
+
+-- The text of a certificate that can be read goes up to its first line `end`.
+pub ends_at_end : TextsAreLines → (c : Certificate) (behind : List ℕ) → IsReadable c → IsUpToEnd (certificate_text c) behind
+ends_at_end lines (certificates.Mate c) behind readable = listing_ends Mate (mate_form c.problem) lines (mate_line_of lines c.problem) c behind readable
+ends_at_end lines (certificates.Escape c) behind readable = listing_ends Escape (escape_form c.problem) lines (escape_line_of lines c.problem) c behind readable

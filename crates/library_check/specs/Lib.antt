@@ -1,0 +1,3 @@
+-- This project's: docs/formats.md.
+pub mod Refused
+pub mod Judged
