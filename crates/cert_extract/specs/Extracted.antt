@@ -31,7 +31,8 @@ pub record IsStepOf (note : Derivation) (entry : MateEntry) : Type 0 where
   pub by : rule_of note ≡ MateBy entry.by
   pub high : height_of note ≡ 2 * entry.rank.number
 
--- A leaf says an entry: its position is listed with it, and the entry's rank isn't above the leaf's.
+-- A leaf says an entry: its position is listed with it, and the entry's rank isn't above the
+-- leaf's.
 pub record IsLeafOf (note : Derivation) (entry : MateEntry) : Type 0 where
   pub version : Version
   pub rank : ℕ

@@ -15,9 +15,9 @@ use std::sync::Arc;
 
 /// The leaves of a mate's entries for the problem's attacker, in their order: each says that an
 /// entry's position is a mate within its rank, and is twice as high. Entries above rank 2,048 have
-/// none, since no note is higher than 4,096. The leaves share the entries, which stay as long as one
-/// of them does. Each entry is about a problem of the attacker, and borne out by all of them, in
-/// this version. Errors: want of memory alone.
+/// none, since no note is higher than 4,096. The leaves share the entries, which stay as long as
+/// one of them does. Each entry is about a problem of the attacker, and borne out by all of them,
+/// in this version. Errors: want of memory alone.
 pub fn mate_leaves(
     alloc: Global,
     problem: &Problem,
