@@ -21,11 +21,16 @@ const ROOKS_AGAIN: &str =
     "certificate 1 mate 8\nproblem 4k4/R8/8R/9/9/9/9/9/9 b -\n1 1c1a 2k6/R8/8R/9/9/9/9/9/9 b -\n1 1c1a 3k5/R8/8R/9/9/9/9/9/9 b -\n1 1c1a 4k4/R8/8R/9/9/9/9/9/9 b -\n1 1c1a 5k3/R8/8R/9/9/9/9/9/9 b -\n1 1c1a 6k2/R8/8R/9/9/9/9/9/9 b -\n2 9a9b R8/3k5/8R/9/9/9/9/9/9 b -\n2 9a9b R8/4k4/8R/9/9/9/9/9/9 b -\n2 9a9b R8/5k3/8R/9/9/9/9/9/9 b -\nend\n";
 
 // What stands for the text of a certificate with more entries than asked for at most.
-const TOO_MANY: &str = "too many";
+pub(crate) const TOO_MANY: &str = "too many";
 
 // The text of the certificate of so many entries at most that a note is extracted to; nothing,
 // where it isn't closed or isn't about the problem.
-fn text_of(alloc: Global, problem: &Problem, note: &Note, most: usize) -> Result<Vec<u8>, Fail> {
+pub(crate) fn text_of(
+    alloc: Global,
+    problem: &Problem,
+    note: &Note,
+    most: usize,
+) -> Result<Vec<u8>, Fail> {
     if !note.is_closed() {
         return Ok(Vec::new(alloc));
     }

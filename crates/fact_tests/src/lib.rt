@@ -22,6 +22,8 @@ mod dominance;
 #[cfg(test)]
 mod extraction;
 #[cfg(test)]
+mod known;
+#[cfg(test)]
 mod letters;
 #[cfg(test)]
 mod libraries;
