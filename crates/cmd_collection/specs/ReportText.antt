@@ -6,6 +6,7 @@ use Rattle.usi_text.specs.Lines.{spaced_move}
 use Rattle.cert_text.specs.declared.certificate.Certificate.TheVariants as certificates
 use Rattle.cert_text.specs.Entries.{line}
 use Rattle.cert_text.specs.Text.{certificate_text}
+use Rattle.problem_lines.specs.Lines.{NumberedLine}
 use Rattle.cmd_collection.specs.FaultText.{line_fault_text}
 use Rattle.app_texts.specs.Texts.{HasLine, cause_text}
 use Rattle.app_texts.specs.declared.answer.Solution.TheVariants.{Mate, NoMate, Unknown}
@@ -27,11 +28,16 @@ proof_text (Solved (NoMate c)) = certificate_text (certificates.Escape c)
 proof_text (Solved (Unknown cause crew)) = []
 proof_text (Fault fault) = []
 
--- The text of a report, by whether certificates are told and by the number of its line: that number
--- and how the problem ended, and the certificate behind that line.
-abbrev pub report_text : Bool → ℕ → Report → List ℕ
-report_text certificates number report =
-    line (decimal number ++ ending_text report) ++ (if certificates then proof_text report else [])
+-- The text of a report, by whether certificates are told, by the number of its line and by what is
+-- told of its line's remark: the number, how the problem ended and the remark, and the certificate
+-- behind that line.
+abbrev pub report_text : Bool → ℕ → List ℕ → Report → List ℕ
+report_text certificates number remark report =
+    line (decimal number ++ ending_text report ++ remark) ++ (if certificates then proof_text report else [])
+
+-- What is told of a line's remark: all of it, from its tab on, where remarks are told.
+abbrev pub told_remark : Bool → NumberedLine → List ℕ
+told_remark remarks of = if remarks then of.remark else []
 
 -- Every move of a report's line has a text.
 abbrev pub HasReportLine : Report → Type 0

@@ -1,21 +1,23 @@
 -- What the words of `collection` ask for.
 use Rattle.std.specs.Prelude.{ℕ, Bool, List, Option, codes}
 use Rattle.clap.specs.Words.{Row}
-use Rattle.tsume_words.specs.Given.{HasFlag, HasNumberIfAny, IsForSearch, file_of, is_flagged, number_if_given, settings_by}
+use Rattle.tsume_words.specs.Given.{HasFlag, HasNumber, HasNumberIfAny, IsForSearch, file_of, is_flagged, number_if_given, number_of, settings_by}
 use Rattle.tsume_words.specs.Meaning.{CommandMeaning, search_tests}
 use Rattle.tsume_words.specs.declared.watch.TheConstants.{MOST_DEADLINE}
 use Rattle.search_limits.specs.Sizes.{SettingsView}
-use Rattle.cmd_collection.specs.declared.form.TheConstants.{MOST_THREADS}
+use Rattle.cmd_collection.specs.declared.form.TheConstants.{MOST_FIRST, MOST_THREADS}
 use Rattle.cmd_collection.specs.declared.form.CollectionForm.{CollectionForm}
 use Rattle.cmd_collection.specs.Line.{collection_line}
 
 -- How the problems of a collection are decided: whether the defender is given the rest of the
--- pieces, whether certificates are told, how many problems are decided side by side, where that is
--- said, after how many milliseconds each search gives up, if at all, and whether the user is told
--- how many are decided.
+-- pieces, whether certificates are told, which number the first line has, whether remarks are told,
+-- how many problems are decided side by side, where that is said, after how many milliseconds each
+-- search gives up, if at all, and whether the user is told how many are decided.
 pub record CollectionView : Type 0 where
   pub rest : Bool
   pub certificates : Bool
+  pub first : ℕ
+  pub remarks : Bool
   pub threads : Option ℕ
   pub deadline : Option ℕ
   pub progress : Bool
@@ -25,6 +27,8 @@ abbrev pub collection_in : CollectionForm → CollectionView
 collection_in f = record {
   rest = f.rest;
   certificates = f.certificates;
+  first = f.first;
+  remarks = f.remarks;
   threads = f.threads;
   deadline = f.deadline;
   progress = f.progress;
@@ -38,10 +42,12 @@ pub record CollectView : Type 0 where
 -- What clap gives for `collection`, each number in its range.
 pub record IsForCollection (found : List Row) : Type 0 where
   pub numbers : IsForSearch found
+  pub first : HasNumber (codes "first") 1 MOST_FIRST found
   pub threads : HasNumberIfAny (codes "threads") 1 MOST_THREADS found
   pub deadline : HasNumberIfAny (codes "deadline") 1 MOST_DEADLINE found
   pub rest : HasFlag (codes "rest") found
   pub certificates : HasFlag (codes "certificates") found
+  pub remarks : HasFlag (codes "remarks") found
   pub progress : HasFlag (codes "progress") found
 
 -- How the problems are decided, by what clap found for `collection`.
@@ -49,6 +55,8 @@ abbrev pub collection_of : List Row → CollectionView
 collection_of found = record {
   rest = is_flagged (codes "rest") found;
   certificates = is_flagged (codes "certificates") found;
+  first = number_of (codes "first") found;
+  remarks = is_flagged (codes "remarks") found;
   threads = number_if_given (codes "threads") found;
   deadline = number_if_given (codes "deadline") found;
   progress = is_flagged (codes "progress") found;

@@ -28,7 +28,7 @@ mod words;
 
 pub use asked::{Collection, MOST_COLLECTION_BYTES, NoFault};
 pub use counts::Counts;
-pub use form::{CollectionForm, MOST_THREADS};
+pub use form::{CollectionForm, MOST_FIRST, MOST_THREADS};
 pub use onlooker::Onlooker;
 pub use report::{LineFault, Report};
 pub use report_text::{append_report, counts_text};

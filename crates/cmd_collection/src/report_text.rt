@@ -67,21 +67,23 @@ fn append_proof(out: &mut Vec<u8>, report: &Report) -> Result<(), AllocError>
 }
 
 /// Writes what is told of a collection's line of this number behind what stands there already: the
-/// number and how its problem ended, and behind a verdict its certificate where `certificates` says
-/// so. The moves of a mate have texts. Where memory is wanted, nothing is said of what stands there
-/// then. Errors: want of memory alone.
+/// number, how its problem ended and this remark, which is empty where none is told, and behind a
+/// verdict its certificate where `certificates` says so. The moves of a mate have texts. Where
+/// memory is wanted, nothing is said of what stands there then. Errors: want of memory alone.
 pub fn append_report(
     out: &mut Vec<u8>,
     number: u64,
     report: &Report,
+    remark: &[u8],
     certificates: bool,
 ) -> Result<(), AllocError>
     requires { HasReportLine report.now }
     ensures { OnOk result (out.new.items
-        ≡ out.old.items ++ report_text certificates number report.now) }
+        ≡ out.old.items ++ report_text certificates number remark.now report.now) }
 {
     append_number(out, number)?;
     append_ending(out, report)?;
+    out.extend_from_slice(remark)?;
     out.push(b'\n')?;
     if certificates {
         append_proof(out, report)?;

@@ -125,11 +125,11 @@ impl<'a> Reports<'a> {
               settings = settings_in settings.now;
               form = collection_in form.now;
               lines =
-                  problem_lines text.now;
+                  problem_lines form.now.first text.now;
             }) }
     {
         Ok(Reports {
-            lines: Lines::new(text),
+            lines: Lines::new(text, form.first),
             ahead: VecDeque::new(alloc),
             rounds: Rounds::new(rt, alloc, form)?,
             settings: *settings,

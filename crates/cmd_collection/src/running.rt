@@ -10,14 +10,21 @@ ghost use Rattle.cmd_collection.specs.Asked.{collect_in};
 ghost use Rattle.cmd_collection.specs.Headline.{IsCollected, IsTextGiven};
 ghost use Rattle.cmd_collection.specs.Meaning.{collection_meaning};
 ghost use Rattle.cmd_collection.specs.Reports.{IsTrueReport, MeansStopped};
-ghost use Rattle.cmd_collection.specs.ReportText.{HasReportLine};
+ghost use Rattle.cmd_collection.specs.ReportText.{HasReportLine, told_remark};
 
 use crate::{Collection, Counts, NoFault, Onlooker, Reported, Reports, append_report, counts_text};
 use one_run::{Ended, Fault, Input, read, write};
-use problem_lines::Lines;
+use problem_lines::{Line, Lines};
 use std::alloc::{AllocError, Global};
 use std::thread::Threads;
 use tsume_io::{Sink, Source, write_all};
+
+// What is told of a line's remark: nothing, unless remarks are told.
+fn told_remark<'a>(line: &Line<'a>, remarks: bool) -> &'a [u8]
+    ensures { result.now ≡ told_remark remarks (seen line.now) }
+{
+    if remarks { line.remark } else { b"" }
+}
 
 // The text of a line's report, which is counted. Errors: want of memory alone.
 fn line_text(
@@ -37,15 +44,23 @@ fn line_text(
         return Err(AllocError);
     }
     let mut text = Vec::new(alloc);
-    let number = reported.line.number;
-    append_report(&mut text, number, &reported.report, asked.form.certificates)?;
+    let line = &reported.line;
+    let remark = told_remark(line, asked.form.remarks);
+    let certificates = asked.form.certificates;
+    append_report(
+        &mut text,
+        line.number,
+        &reported.report,
+        remark,
+        certificates,
+    )?;
     counts.add(&reported.report);
     Ok(text)
 }
 
 // How many lines of a text hold a problem.
 fn line_count(text: &[u8]) -> usize {
-    let mut lines = Lines::new(text);
+    let mut lines = Lines::new(text, 1);
     for count in 0..text.len() {
         if lines.next().is_none() {
             return count;

@@ -3,20 +3,20 @@ ghost use Rattle.std.specs.Prelude.{◌≡◌, codes, false};
 ghost use Rattle.std.specs.Option.{ForSome};
 ghost use Rattle.clap.specs.Words.{found_of, rows_of, rule_of};
 ghost use Rattle.search_limits.specs.Sizes.{IsFromTo};
-ghost use Rattle.tsume_words.specs.Given.{HasNumberIfAny, number_if_given};
+ghost use Rattle.tsume_words.specs.Given.{HasNumber, HasNumberIfAny, number_if_given, number_of};
 ghost use Rattle.tsume_words.specs.Options.{deadline_option, progress_flag};
 ghost use Rattle.tsume_words.specs.declared.watch.TheConstants.{MOST_DEADLINE};
-ghost use Rattle.cmd_collection.specs.declared.form.TheConstants.{MOST_THREADS};
-ghost use Rattle.cmd_collection.specs.Line.{certificates_flag, threads_option};
+ghost use Rattle.cmd_collection.specs.declared.form.TheConstants.{MOST_FIRST, MOST_THREADS};
+ghost use Rattle.cmd_collection.specs.Line.{certificates_flag, first_option, remarks_flag, threads_option};
 ghost use Rattle.cmd_collection.specs.Words.{IsForCollection, collection_in, collection_of};
 
-use crate::{Collection, CollectionForm, MOST_THREADS};
+use crate::{Collection, CollectionForm, MOST_FIRST, MOST_THREADS};
 use clap::{Arg, ArgMatches, Command};
 use std::alloc::{AllocError, Global};
 use tsume_words::{
     CommandWords, MOST_DEADLINE, WordsEnd, expansions_option, file, file_word, flag_option,
-    is_flagged, number_if_any_option, number_if_given, rest_flag, room_option, rows_option,
-    settings, shards_option,
+    is_flagged, number, number_if_any_option, number_if_given, number_option, rest_flag,
+    room_option, rows_option, settings, shards_option,
 };
 
 fn threads_option<'a>(alloc: Global) -> Arg<'a>
@@ -51,6 +51,35 @@ fn deadline_option<'a>(alloc: Global) -> Arg<'a>
         "Milliseconds after which each search gives up, 1 to\n\
              86400000 (a day), counted from when it begins. Which\n\
              ones do depends on the machine. Default: no end in time",
+    )
+}
+
+fn first_option<'a>(alloc: Global) -> Arg<'a>
+    ensures rule { rule_of result ≡ first_option }
+    ensures local { result.global ≡ false }
+{
+    number_option(
+        alloc,
+        "first",
+        1,
+        MOST_FIRST,
+        "1",
+        "Number of the text's first line, 1 to 1000000000: so\n\
+             that a part of a longer text keeps its lines' numbers.\n\
+             It costs nothing",
+    )
+}
+
+fn remarks_flag<'a>(alloc: Global) -> Arg<'a>
+    ensures rule { rule_of result ≡ remarks_flag }
+    ensures local { result.global ≡ false }
+{
+    flag_option(
+        alloc,
+        "remarks",
+        "End each line that tells of a problem with the remark\n\
+             of its line in the text, behind a tab. Off unless\n\
+             given; it costs nothing",
     )
 }
 
@@ -92,6 +121,14 @@ fn threads(given: &ArgMatches<'_>) -> Option<u32>
     }
 }
 
+fn first(given: &ArgMatches<'_>) -> u64
+    requires { HasNumber (codes "first") 1 MOST_FIRST (rows_of (found_of given.now)) }
+    ensures number { result ≡ number_of (codes "first") (rows_of (found_of given.now)) }
+    ensures range { IsFromTo 1 MOST_FIRST result }
+{
+    number(given, "first")
+}
+
 fn deadline(given: &ArgMatches<'_>) -> Option<u64>
     requires { HasNumberIfAny (codes "deadline") 1 MOST_DEADLINE (rows_of (found_of given.now)) }
     ensures number { result ≡ number_if_given (codes "deadline") (rows_of (found_of given.now)) }
@@ -106,12 +143,16 @@ fn collection_form(given: &ArgMatches<'_>) -> CollectionForm
 {
     let rest = is_flagged(given, "rest");
     let certificates = is_flagged(given, "certificates");
+    let first = first(given);
+    let remarks = is_flagged(given, "remarks");
     let threads = threads(given);
     let deadline = deadline(given);
     let progress = is_flagged(given, "progress");
     CollectionForm {
         rest,
         certificates,
+        first,
+        remarks,
         threads,
         deadline,
         progress,
@@ -148,8 +189,10 @@ impl CommandWords for Collection {
             .arg(shards_option(alloc))?
             .arg(threads_option(alloc))?
             .arg(deadline_option(alloc))?
+            .arg(first_option(alloc))?
             .arg(rest_flag(alloc))?
             .arg(certificates_flag(alloc))?
+            .arg(remarks_flag(alloc))?
             .arg(progress_flag(alloc))?
             .arg(file_word(
                 alloc,

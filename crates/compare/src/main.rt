@@ -109,7 +109,7 @@ fn main(rt: HostRuntime) -> io::Result<()> {
     let mut counts = Counts::none();
     let mut input = Vec::new(alloc);
     rt.reader().read_to_end(&mut input)?;
-    let mut lines = Lines::new(&input);
+    let mut lines = Lines::new(&input, 1);
     while let Some(line) = lines.next() {
         if let Some(problem) = problem_in(line.content) {
             compare(alloc, &problem, &settings, &mut counts)?;

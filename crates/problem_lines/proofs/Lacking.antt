@@ -1,5 +1,5 @@
 -- Where a byte doesn't stand: a tab before the first, and a line feed in a line.
-use Rattle.std.proofs.Common.{◌≡◌, ◌≢◌, ℕ, zero, suc, ◌-◌, ◌==◌, false, List, [], ◌∷◌, length, take, not, get_or, sym, subst, ap, ◌∙◌, arith, ⊎_elim}
+use Rattle.std.proofs.Common.{◌≡◌, ◌≢◌, ℕ, zero, suc, ◌-◌, ◌==◌, false, List, [], ◌∷◌, length, take, drop, not, get_or, sym, subst, ap, ◌∙◌, arith, ⊎_elim}
 use Rattle.std.specs.List.{AllByRecursion, before_first, slice_split, onto_first}
 use Rattle.std.specs.Str.Lines.{lines, lines_of_parts, strip_carriage_return}
 use Rattle.std.proofs.lemmas.Bool.{cases_Bool, cond-true, cond-false, eq-eqb, ne_eqb, both_ways}
@@ -7,11 +7,16 @@ use Rattle.std.proofs.lemmas.List.Sums.{take_while-cons}
 use Rattle.std.proofs.lemmas.List.Splits.{slice_split-cons_yes, slice_split-cons_no}
 use Rattle.problem_lines.specs.Written.{HasNoFeed}
 
--- What holds of each element holds of each of the first.
+-- What holds of each element holds of each of the first, and of each of the last.
 pub take-all : (P : ℕ → Type 0) (n : ℕ) (bytes : List ℕ) → AllByRecursion P bytes → AllByRecursion P (take n bytes)
 take-all P zero bytes all = tt
 take-all P (suc n) [] all = tt
 take-all P (suc n) (byte ∷ bytes) all = (all.0, take-all P n bytes all.1)
+
+pub drop-all : (P : ℕ → Type 0) (n : ℕ) (bytes : List ℕ) → AllByRecursion P bytes → AllByRecursion P (drop n bytes)
+drop-all P zero bytes all = all
+drop-all P (suc n) [] all = tt
+drop-all P (suc n) (byte ∷ bytes) all = drop-all P n bytes all.1
 
 differ : (byte other : ℕ) → (byte == other) ≡ false → byte ≢ other
 differ byte other fails same = both_ways _ fails (eq-eqb byte other same)

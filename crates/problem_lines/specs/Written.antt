@@ -34,13 +34,21 @@ last_line [] = []
 last_line (byte ∷ bytes) = (byte ∷ bytes) ∷ []
 
 -- However a text is written in lines, what is listed is which of these lines hold a problem,
--- counted from 1.
-abbrev pub ListsWhatIsWritten : List ℕ → List NumberedLine → Type 0
-ListsWhatIsWritten text listed = (ended : List Ended) (last : List ℕ) → AllByRecursion IsEnded ended → HasNoFeed last → text_of ended last ≡ text
-    → listed ≡ problems_among 1 (map (λ one. one.line) ended ++ last_line last)
+-- counted from this number.
+abbrev pub ListsWhatIsWritten : ℕ → List ℕ → List NumberedLine → Type 0
+ListsWhatIsWritten first text listed = (ended : List Ended) (last : List ℕ) → AllByRecursion IsEnded ended → HasNoFeed last → text_of ended last ≡ text
+    → listed ≡ problems_among first (map (λ one. one.line) ended ++ last_line last)
 
--- What is listed isn't skipped; it is of one line, and has no remark.
+-- A remark begins with a tab, where it isn't empty.
+abbrev pub IsRemark : List ℕ → Type 0
+IsRemark [] = Unit {0}
+IsRemark (byte ∷ bytes) = byte ≡ 9
+
+-- What is listed isn't skipped; it is of one line, and has no tab; and its remark is of one line,
+-- and begins with a tab.
 pub record HoldsProblem (line : NumberedLine) : Type 0 where
   pub kept : is_skipped line.content ≡ false
   pub feedless : HasNoFeed line.content
   pub tabless : AllByRecursion (λ byte. byte ≢ 9) line.content
+  pub feedless_remark : HasNoFeed line.remark
+  pub tabbed : IsRemark line.remark

@@ -2,7 +2,7 @@
 ghost use Rattle.std.specs.Prelude.{◌≡◌, ◌<◌, ◌==◌, ◌∷◌, length};
 ghost use Rattle.std.specs.List.{list_all};
 ghost use Rattle.std.specs.Str.Lines.{lines, strip_carriage_return};
-ghost use Rattle.problem_lines.specs.Lines.{without_remark, is_skipped};
+ghost use Rattle.problem_lines.specs.Lines.{without_remark, remark_of, is_skipped};
 
 use memchr::memchr;
 
@@ -27,13 +27,14 @@ pub(crate) fn split_first(text: &[u8]) -> (&[u8], &[u8])
     }
 }
 
-/// A line without its remark.
-pub(crate) fn without_remark(line: &[u8]) -> &[u8]
-    ensures { result.now ≡ without_remark line.now }
+/// A line without its remark, and the remark, from its tab on; empty where there is none.
+pub(crate) fn split_remark(line: &[u8]) -> (&[u8], &[u8])
+    ensures content { result.0.now ≡ without_remark line.now }
+    ensures remark { result.1.now ≡ remark_of line.now }
 {
     match memchr(b'\t', line) {
-        Some(tab) => &line[..tab],
-        None => line,
+        Some(tab) => (&line[..tab], &line[tab..]),
+        None => (line, &line[line.len()..]),
     }
 }
 

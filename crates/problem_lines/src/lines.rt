@@ -1,11 +1,12 @@
 // The lines of a text, one after another.
-ghost use Rattle.std.specs.Prelude.{◌≡◌, ◌≤◌, ◌∷◌, [], length, map, MatchOption};
+ghost use Rattle.std.specs.Prelude.{◌≡◌, ◌≤◌, ◌∷◌, ◌++◌, ◌^◌, [], filter, length, map, MatchOption};
 ghost use Rattle.std.specs.List.{AllByRecursion};
 ghost use Rattle.std.specs.List.Sorted.{IsStrictlyIncreasing};
-ghost use Rattle.problem_lines.specs.Lines.{problem_lines, seen};
+ghost use Rattle.std.specs.Str.Lines.{lines};
+ghost use Rattle.problem_lines.specs.Lines.{is_problem, problem_lines, seen};
 ghost use Rattle.problem_lines.specs.Written.{ListsWhatIsWritten, HoldsProblem};
 
-use crate::cut::{is_skipped, split_first, without_remark};
+use crate::cut::{is_skipped, split_first, split_remark};
 use crate::{Line, MOST_PROBLEM_BYTES};
 use std::marker::Model;
 
@@ -19,7 +20,7 @@ pub struct Lines<'a> {
 }
 
 impl<'a> Model for Lines<'a> {
-    ghost use Rattle.std.specs.Prelude.{List, ◌+◌, ◌≤◌, ◌^◌, length};
+    ghost use Rattle.std.specs.Prelude.{List, ◌+◌, ◌<◌, ◌^◌, length};
     ghost use Rattle.std.specs.Str.Lines.{lines};
     ghost use Rattle.problem_lines.specs.Lines.{NumberedLine, problems_among};
 
@@ -27,26 +28,31 @@ impl<'a> Model for Lines<'a> {
 
     ghost view = { λ here. problems_among here.number (lines here.rest.now) };
 
-    ghost invariant = { λ here. here.number + length here.rest.now ≤ 2 ^ 63 };
+    ghost invariant = { λ here. here.number + length here.rest.now < 2 ^ 64 };
 }
 
 impl<'a> Lines<'a> {
-    /// The lines of a text. Takes no memory.
-    pub fn new(text: &'a [u8]) -> Lines<'a>
-        ensures lines { result ≡ problem_lines text.now }
+    /// The lines of a text, of which the first has this number. Takes no memory.
+    pub fn new(text: &'a [u8], first: u64) -> Lines<'a>
+        requires { first ≤ 2 ^ 63 }
+        ensures lines { result ≡ problem_lines first text.now }
 
         // However the text is written in lines, these are those of them that hold a problem. Their
         // numbers rise, and none is skipped.
-        ensures written { ListsWhatIsWritten text.now result }
+        ensures written { ListsWhatIsWritten first text.now result }
         ensures rising { IsStrictlyIncreasing (map (λ line. line.number) result) }
         ensures problems { AllByRecursion HoldsProblem result }
+
+        // The problem of a line and its remark are the whole line.
+        ensures whole { map (λ line. line.content ++ line.remark) result
+            ≡ filter is_problem (lines text.now) }
 
         // There are no more of them than the text has bytes.
         ensures few { length result ≤ length text.now }
     {
         Lines {
             rest: text,
-            number: 1,
+            number: first,
         }
     }
 
@@ -60,11 +66,12 @@ impl<'a> Lines<'a> {
             let number = self.number;
             self.rest = rest;
             self.number += 1;
-            let content = without_remark(whole);
+            let (content, remark) = split_remark(whole);
             if !is_skipped(content) {
                 return Some(Line {
                     number,
                     content,
+                    remark,
                     is_too_long: whole.len() > MOST_PROBLEM_BYTES,
                 });
             }

@@ -36,6 +36,7 @@ fn told<R: Threads + Wait + AllocGlobal + Sync>(
                 &mut out,
                 reported.line.number,
                 &reported.report,
+                b"",
                 asked.form.certificates,
             )?;
         }

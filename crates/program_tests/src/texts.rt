@@ -111,33 +111,34 @@ fn verdict(alloc: Global, certificate: &str) -> Result<Option<Report>, AllocErro
     })
 }
 
-// What is told of a line behind the text that stands there.
+// What is told of a line and its remark behind the text that stands there.
 fn told(
     alloc: Global,
     before: &str,
     number: u64,
     report: &Report,
+    remark: &str,
     certificates: bool,
 ) -> Result<String, Fail>
     requires { HasReportLine report.now }
 {
     let mut text = Vec::new(alloc);
     text.extend_from_slice(before.as_bytes())?;
-    append_report(&mut text, number, report, certificates)?;
+    append_report(&mut text, number, report, remark.as_bytes(), certificates)?;
     Ok(String::from_utf8(text)?)
 }
 
 #[test]
 fn a_verdict_is_a_line_and_its_certificate(rt: HostRuntime) -> Result<(), Fail> {
     let alloc = rt.alloc();
-    let table = [(ROOKS, "4 mate R*2b 5b4a 1c1a\n"), (NONE, "4 nomate\n")];
+    let table = [(ROOKS, "4 mate R*2b 5b4a 1c1a"), (NONE, "4 nomate")];
     for (certificate, line) in table {
         let report = verdict(alloc, certificate)?.expect(&rt, "a certificate");
-        let text = told(alloc, "1 nomate\n", 4, &report, false)?;
-        let wanted = format!(in alloc; "1 nomate\n{line}")?;
+        let text = told(alloc, "1 nomate\n", 4, &report, "", false)?;
+        let wanted = format!(in alloc; "1 nomate\n{line}\n")?;
         same(&rt, line, text.as_str(), wanted.as_str());
-        let text = told(alloc, "1 nomate\n", 4, &report, true)?;
-        let wanted = format!(in alloc; "1 nomate\n{line}{certificate}")?;
+        let text = told(alloc, "1 nomate\n", 4, &report, "\tA title\t2", true)?;
+        let wanted = format!(in alloc; "1 nomate\n{line}\tA title\t2\n{certificate}")?;
         same(&rt, line, text.as_str(), wanted.as_str());
     }
     Ok(())
@@ -150,11 +151,11 @@ fn a_line_without_a_verdict_says_why(rt: HostRuntime) -> Result<(), Fail> {
     let used_up = Report::Solved(Solution::Unknown(Cause::Expansions(100), crew));
     let bad = Report::Fault(LineFault::Problem(ProblemFault::Text(TextFault::BadPiece(7))));
     let long = Report::Fault(LineFault::TooLong);
-    let text = told(alloc, "", 12, &used_up, true)?;
+    let text = told(alloc, "", 12, &used_up, "", true)?;
     same(&rt, "used up", text.as_str(), "12 unknown expansions 100\n");
-    let text = told(alloc, "", 5, &bad, true)?;
-    same(&rt, "bad", text.as_str(), "5 fault bad piece at 7\n");
-    let text = told(alloc, "", 16_777_217, &long, false)?;
+    let text = told(alloc, "", 5, &bad, "\tx", true)?;
+    same(&rt, "bad", text.as_str(), "5 fault bad piece at 7\tx\n");
+    let text = told(alloc, "", 16_777_217, &long, "", false)?;
     same(&rt, "long", text.as_str(), "16777217 fault too long\n");
     Ok(())
 }

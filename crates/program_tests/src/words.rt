@@ -17,8 +17,8 @@ use tsume_words::{Format, ProblemForm, Watch, WordsEnd};
 // `kif` where `--kif` does, `until` the deadline, and `telling` where `--progress` stands; or the
 // limit and the expansions, and then the same; or the problem, and `by` the workers; and the file.
 // Of the commands over many problems the seed, the count and the expansions; or the settings,
-// whether `--rest` stands, `told` where `--certificates` does, `until` the deadline, and `by` the
-// threads.
+// whether `--rest` stands, `told` where `--certificates` does, `from` the first line's number where
+// that isn't 1, `remarked` where `--remarks` stands, `until` the deadline, and `by` the threads.
 static ASKED: [(&str, &str); 40] = [
     ("solve", "solve 1 1000000 1000000000 65536 64 false"),
     ("solve --rest", "solve 1 1000000 1000000000 65536 64 true"),
@@ -127,7 +127,7 @@ static ASKED: [(&str, &str); 40] = [
 ];
 
 // Further such lines.
-static ASKED_TOO: [(&str, &str); 38] = [
+static ASKED_TOO: [(&str, &str); 42] = [
     ("survey --count 1", "survey 0 1 10000"),
     ("survey --count=10000", "survey 0 10000 10000"),
     ("survey --expansions 1", "survey 0 100 1"),
@@ -144,6 +144,22 @@ static ASKED_TOO: [(&str, &str); 38] = [
     (
         "collection --certificates",
         "collection 1 100000 1000000000 65536 64 false told",
+    ),
+    (
+        "collection --first 1",
+        "collection 1 100000 1000000000 65536 64 false",
+    ),
+    (
+        "collection --first=1000000000",
+        "collection 1 100000 1000000000 65536 64 false from 1000000000",
+    ),
+    (
+        "collection --remarks",
+        "collection 1 100000 1000000000 65536 64 false remarked",
+    ),
+    (
+        "collection --remarks --first 2001 --certificates a.sfen",
+        "collection 1 100000 1000000000 65536 64 false told from 2001 remarked of a.sfen",
     ),
     (
         "collection --threads 1",
@@ -238,7 +254,7 @@ static ASKED_TOO: [(&str, &str); 38] = [
 ];
 
 // A line that is refused, and how its text begins.
-static REFUSED: [(&str, &str); 47] = [
+static REFUSED: [(&str, &str); 50] = [
     ("solve --rows 16 --shards 32", "more shards than rows"),
     ("", "Solves tsume-shogi problems"),
     ("dance", "error: unrecognized subcommand 'dance'"),
@@ -370,6 +386,18 @@ static REFUSED: [(&str, &str); 47] = [
         "error: invalid value '65' for '--threads <N>': 65 is not in 1..=64",
     ),
     (
+        "collection --first 0",
+        "error: invalid value '0' for '--first <N>': 0 is not in 1..=1000000000",
+    ),
+    (
+        "collection --first 1000000001",
+        "error: invalid value '1000000001' for '--first <N>': 1000000001 is not in 1..=1000000000",
+    ),
+    (
+        "check --remarks",
+        "error: unexpected argument '--remarks' found",
+    ),
+    (
         "collection --workers 2",
         "error: unexpected argument '--workers' found",
     ),
@@ -392,7 +420,7 @@ static REFUSED: [(&str, &str); 47] = [
 ];
 
 // A request for help or for the version, and a part of its text.
-static HELPED: [(&str, &str); 41] = [
+static HELPED: [(&str, &str); 43] = [
     ("--version", "tsume 0.1.0\n"),
     ("-V --help", "tsume 0.1.0\n"),
     ("--help", "Usage: tsume <COMMAND>\n"),
@@ -508,6 +536,14 @@ static HELPED: [(&str, &str); 41] = [
         "collection --help",
         "\n      --progress        Tell on standard error, about once a second, how many\n",
     ),
+    (
+        "collection --help",
+        "\n      --first <N>       Number of the text's first line, 1 to 1000000000: so\n",
+    ),
+    (
+        "collection --help",
+        "\n      --remarks         End each line that tells of a problem with the remark\n",
+    ),
     ("check --help", "-h, --help            Print help\n"),
 ];
 
@@ -610,12 +646,19 @@ fn collection_text(alloc: Global, asked: &Collection) -> Result<String, AllocErr
     let rest = asked.form.rest;
     let told = if asked.form.certificates { " told" } else { "" };
     let telling = if asked.form.progress { " telling" } else { "" };
+    let first = asked.form.first;
+    let from = if first == 1 {
+        String::new(alloc)
+    } else {
+        format!(in alloc; " from {first}")?
+    };
+    let remarked = if asked.form.remarks { " remarked" } else { "" };
     let until = match asked.form.deadline {
         Some(deadline) => format!(in alloc; " until {deadline}")?,
         None => String::new(alloc),
     };
     let collection = format!(in alloc;
-        "collection {workers} {expansions} {room} {rows} {shards} {rest}{told}{until}{telling}"
+        "collection {workers} {expansions} {room} {rows} {shards} {rest}{told}{from}{remarked}{until}{telling}"
     )?;
     match asked.form.threads {
         Some(threads) => format!(in alloc; "{collection} by {threads}"),

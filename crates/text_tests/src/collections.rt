@@ -1,4 +1,6 @@
 // Texts, and the lines that are listed of them.
+ghost use Rattle.std.specs.Prelude.{◌≤◌, ◌^◌};
+
 use crate::same::{same, shown};
 use problem_lines::{Lines, MOST_PROBLEM_BYTES};
 use std::alloc::{AllocError, Global};
@@ -9,7 +11,7 @@ use std::test::Fail;
 // between `<` and `>`.
 fn listed(alloc: Global, text: &[u8]) -> Result<Vec<u8>, AllocError> {
     let mut told = Vec::new(alloc);
-    let mut lines = Lines::new(text);
+    let mut lines = Lines::new(text, 1);
     while let Some(line) = lines.next() {
         let mark = if line.is_too_long { "!" } else { "" };
         told.extend_from_slice(format!(in alloc; "{}{mark}<", line.number)?.as_bytes())?;
@@ -79,6 +81,70 @@ fn notes_and_skipped_lines_hold_no_problem(rt: HostRuntime) -> Result<(), Fail> 
     for (text, wanted) in rows {
         check(&rt, rt.alloc(), shown(text), text, wanted)?;
     }
+    Ok(())
+}
+
+// What is listed of a text whose first line has this number: of each line its number, and its
+// problem and its remark between brackets.
+fn listed_from(alloc: Global, first: u64, text: &[u8]) -> Result<Vec<u8>, AllocError>
+    requires { first ≤ 2 ^ 63 }
+{
+    let mut told = Vec::new(alloc);
+    let mut lines = Lines::new(text, first);
+    while let Some(line) = lines.next() {
+        told.extend_from_slice(format!(in alloc; "{}<", line.number)?.as_bytes())?;
+        told.extend_from_slice(line.content)?;
+        told.extend_from_slice(b"><")?;
+        told.extend_from_slice(line.remark)?;
+        told.push(b'>')?;
+    }
+    Ok(told)
+}
+
+fn check_from(
+    rt: &impl Abort,
+    alloc: Global,
+    first: u64,
+    text: &[u8],
+    wanted: &str,
+) -> Result<(), AllocError>
+    requires { first ≤ 2 ^ 63 }
+{
+    let found = listed_from(alloc, first, text)?;
+    same(rt, (first, shown(text)), shown(&found), wanted);
+    Ok(())
+}
+
+#[test]
+fn a_remark_is_all_from_the_first_tab_on(rt: HostRuntime) -> Result<(), Fail> {
+    let rows: [(&[u8], &str); 9] = [
+        (b"a", "1<a><>"),
+        (b"a\tx\n", "1<a><\tx>"),
+        (b"a\t\nb\tx", "1<a><\t>2<b><\tx>"),
+        (b"a\tx\ty\n", "1<a><\tx\ty>"),
+        (b"a\t\tx", "1<a><\t\tx>"),
+        (b"a \t # x \n", "1<a ><\t # x >"),
+        // The end of the line is no part of it; any other carriage return is.
+        (b"a\tx\r\n", "1<a><\tx>"),
+        (b"a\tx\r", "1<a><\tx\r>"),
+        // A remark of a skipped line is told with none.
+        (b"#\tx\n\ty\na", "3<a><>"),
+    ];
+    for (text, wanted) in rows {
+        check_from(&rt, rt.alloc(), 1, text, wanted)?;
+    }
+    Ok(())
+}
+
+#[test]
+fn lines_count_from_the_first_ones_number(rt: HostRuntime) -> Result<(), Fail> {
+    let alloc = rt.alloc();
+    check_from(&rt, alloc, 2, b"a\n\n#\nb", "2<a><>5<b><>")?;
+    check_from(&rt, alloc, 0, b"\na", "1<a><>")?;
+    let most = b"\na\tx";
+    check_from(&rt, alloc, 1_000_000_000, most, "1000000001<a><\tx>")?;
+    let most = "9223372036854775809<a><\tx>";
+    check_from(&rt, alloc, 1 << 63, b"\na\tx", most)?;
     Ok(())
 }
 

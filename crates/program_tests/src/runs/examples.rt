@@ -46,3 +46,7 @@ pub(crate) const MANY: &str =
 
 pub(crate) const MANY_TEXT: &str =
     "1 mate G*5b\n4 mate R*2b 5b4a 1c1a\n5 fault bad piece at 7\nproblems 3 mate 2 nomate 0 unknown 0 fault 1\n";
+
+// The same, where the text's first line has the number 1001.
+pub(crate) const MANY_TEXT_FROM_1001: &str =
+    "1001 mate G*5b\n1004 mate R*2b 5b4a 1c1a\n1005 fault bad piece at 7\nproblems 3 mate 2 nomate 0 unknown 0 fault 1\n";

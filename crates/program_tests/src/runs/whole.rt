@@ -1,14 +1,15 @@
 // Runs whose status, words to the user and answer are known.
 use super::examples::{
     CHASE, ESCAPE, FIRST_TEXT, GOLD, GOLD_TEXT, IN_CHECK_TEXT, LEFT_ROOKS_TEXT, MANY, MANY_TEXT,
-    NO_CHECK_TEXT, OPEN_CHASE, OPEN_ESCAPE, REST_TEXT, TWO_ROOKS, TWO_ROOKS_TEXT, WHITE_TEXT,
+    MANY_TEXT_FROM_1001, NO_CHECK_TEXT, OPEN_CHASE, OPEN_ESCAPE, REST_TEXT, TWO_ROOKS,
+    TWO_ROOKS_TEXT, WHITE_TEXT,
 };
 use super::seen::seen_of;
 use crate::same::same;
 use std::test::Fail;
 
 // Words, an input, and the status, what the user is told beside the answer, and the answer.
-static RUNS: [(&str, &str, u8, &str, &str); 32] = [
+static RUNS: [(&str, &str, u8, &str, &str); 34] = [
     ("solve --workers 4", GOLD, 0, "", GOLD_TEXT),
     ("solve", "9/9/9/9/9/9/4p4/9/4K4 w g 1\n", 0, "", WHITE_TEXT),
     // 5c5b+ and G*5b both mate: the move on the board comes first in the order of moves.
@@ -144,6 +145,15 @@ static RUNS: [(&str, &str, u8, &str, &str); 32] = [
         0,
         "",
         "1 nomate\ncertificate 1 escape 1\nproblem 4k4/9/9/9/9/9/9/9/9 b -\n4k4/9/9/9/9/9/9/9/9 b -\nend\nproblems 1 mate 0 nomate 1 unknown 0 fault 0\n",
+    ),
+    // The lines of a part keep the numbers that they have in the whole text; remarks come back.
+    ("collection --first 1001", MANY, 3, "", MANY_TEXT_FROM_1001),
+    (
+        "collection --remarks --first 1000000000 --expansions 1",
+        "#\tx\n9/4k4/8R/9/9/9/9/9/9 b R\tTwo rooks\t3\r\n4k4\t\n",
+        3,
+        "",
+        "1000000001 unknown expansions 1\tTwo rooks\t3\n1000000002 fault bad row at 3\t\nproblems 2 mate 0 nomate 0 unknown 1 fault 1\n",
     ),
     (
         "survey --count 1",

@@ -20,7 +20,7 @@ use Rattle.cmd_collection.proofs.running.collected.Goals as goal
 pub loop-next-init : goal.loop-next-init
 loop-next-init g c =
     let asked = collect_in c.args.asked.now in
-    let all = problem_lines c.args.input.now in
+    let all = problem_lines asked.form.first c.args.input.now in
     let sink = shown g.K.Sink.kept g.K.Sink.faults c.args.sink.now c.args.sink.now in (
       subst (λ (r : ReportsView). AreSoFar (collection_meaning asked) all r.lines sink c.none-counts.result) (sym c.in-Ok.ensures)
           (so_far_none (collection_meaning asked) all (g.K.Sink.kept c.args.sink.now) (g.K.Sink.faults c.args.sink.now) c.none-counts.result c.none-counts.ensures.counts),
@@ -79,7 +79,7 @@ loop-next-preserved-in-Ok-write_all g c =
     let now = g.K.Sink.kept c.loop-next.sink in
     let then = g.K.Sink.kept c.write_all.new.sink in
     let next = next_is c.in-Ok-next.next c.in-Some.reported c.loop-next.reports c.next.new.self c.in-Some.is c.in-Ok-next.ensures in
-    so_far_next asked (problem_lines c.args.input.now) c.loop-next.reports c.next.new.self (seen c.in-Some.reported.line) c.in-Some.reported.report (g.K.Sink.kept c.args.sink.now) now then
+    so_far_next asked (problem_lines asked.form.first c.args.input.now) c.loop-next.reports c.next.new.self (seen c.in-Some.reported.line) c.in-Some.reported.report (g.K.Sink.kept c.args.sink.now) now then
     (g.K.Sink.faults c.args.sink.now) (g.K.Sink.faults c.loop-next.sink) (g.K.Sink.faults c.write_all.new.sink)
     c.loop-next.counts c.line_text.new.counts c.in-Ok-line_text.text.items c.loop-next.invariant.0 c.loop-next.invariant.1 c.loop-next.invariant.2 next
     (c.in-Ok-line_text.ensures (told_by asked c.loop-next.reports c.next.new.self _ _ next c.loop-next.invariant.1 c.loop-next.invariant.2))
@@ -91,7 +91,7 @@ loop-next-preserved-in-Ok-write_all-2 g c =
     let now = g.K.Sink.kept c.loop-next.sink in
     let then = g.K.Sink.kept c.write_all.new.sink in
     let next = next_is c.in-Ok-next.next c.in-Some.reported c.loop-next.reports c.next.new.self c.in-Some.is c.in-Ok-next.ensures in
-    so_far_next asked (problem_lines c.args.input.now) c.loop-next.reports c.next.new.self (seen c.in-Some.reported.line) c.in-Some.reported.report (g.K.Sink.kept c.args.sink.now) now then
+    so_far_next asked (problem_lines asked.form.first c.args.input.now) c.loop-next.reports c.next.new.self (seen c.in-Some.reported.line) c.in-Some.reported.report (g.K.Sink.kept c.args.sink.now) now then
     (g.K.Sink.faults c.args.sink.now) (g.K.Sink.faults c.loop-next.sink) (g.K.Sink.faults c.write_all.new.sink)
     c.loop-next.counts c.line_text.new.counts c.in-Ok-line_text.text.items c.loop-next.invariant.0 c.loop-next.invariant.1 c.loop-next.invariant.2 next
     (c.in-Ok-line_text.ensures (told_by asked c.loop-next.reports c.next.new.self _ _ next c.loop-next.invariant.1 c.loop-next.invariant.2))
@@ -103,7 +103,7 @@ loop-next-preserved-in-Ok-write_all-3 g c =
     let now = g.K.Sink.kept c.loop-next.sink in
     let then = g.K.Sink.kept c.write_all.new.sink in
     let next = next_is c.in-Ok-next.next c.in-Some.reported c.loop-next.reports c.next.new.self c.in-Some.is c.in-Ok-next.ensures in
-    so_far_next asked (problem_lines c.args.input.now) c.loop-next.reports c.next.new.self (seen c.in-Some.reported.line) c.in-Some.reported.report (g.K.Sink.kept c.args.sink.now) now then
+    so_far_next asked (problem_lines asked.form.first c.args.input.now) c.loop-next.reports c.next.new.self (seen c.in-Some.reported.line) c.in-Some.reported.report (g.K.Sink.kept c.args.sink.now) now then
     (g.K.Sink.faults c.args.sink.now) (g.K.Sink.faults c.loop-next.sink) (g.K.Sink.faults c.write_all.new.sink)
     c.loop-next.counts c.line_text.new.counts c.in-Ok-line_text.text.items c.loop-next.invariant.0 c.loop-next.invariant.1 c.loop-next.invariant.2 next
     (c.in-Ok-line_text.ensures (told_by asked c.loop-next.reports c.next.new.self _ _ next c.loop-next.invariant.1 c.loop-next.invariant.2))
@@ -115,7 +115,7 @@ loop-next-preserved g c =
     let now = g.K.Sink.kept c.loop-next.sink in
     let then = g.K.Sink.kept c.write_all.new.sink in
     let next = next_is c.in-Ok-next.next c.in-Some.reported c.loop-next.reports c.next.new.self c.in-Some.is c.in-Ok-next.ensures in
-    so_far_next asked (problem_lines c.args.input.now) c.loop-next.reports c.next.new.self (seen c.in-Some.reported.line) c.in-Some.reported.report (g.K.Sink.kept c.args.sink.now) now then
+    so_far_next asked (problem_lines asked.form.first c.args.input.now) c.loop-next.reports c.next.new.self (seen c.in-Some.reported.line) c.in-Some.reported.report (g.K.Sink.kept c.args.sink.now) now then
     (g.K.Sink.faults c.args.sink.now) (g.K.Sink.faults c.loop-next.sink) (g.K.Sink.faults c.write_all.new.sink)
     c.loop-next.counts c.line_text.new.counts c.in-Ok-line_text.text.items c.loop-next.invariant.0 c.loop-next.invariant.1 c.loop-next.invariant.2 next
     (c.in-Ok-line_text.ensures (told_by asked c.loop-next.reports c.next.new.self _ _ next c.loop-next.invariant.1 c.loop-next.invariant.2))

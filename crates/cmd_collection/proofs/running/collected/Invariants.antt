@@ -8,7 +8,7 @@ use Rattle.cmd_collection.proofs.running.collected.Given as goal
 
 -- the lines so far are decided and told
 abbrev pub invariant-loop-next : goal.invariant-loop-next
-invariant-loop-next g l = AreSoFar (collection_meaning (collect_in l.asked)) (problem_lines l.input) l.reports.lines
+invariant-loop-next g l = AreSoFar (collection_meaning (collect_in l.asked)) (problem_lines (collect_in l.asked).form.first l.input) l.reports.lines
     (shown g.K.Sink.kept g.K.Sink.faults l.fn.sink l.sink) l.counts × (l.reports.settings ≡ (collect_in l.asked).settings) × (l.reports.form ≡ (collect_in l.asked).form)
 
 abbrev pub decreases-loop-next : goal.decreases-loop-next
