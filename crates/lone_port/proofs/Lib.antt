@@ -6,5 +6,6 @@ pub mod Asked
 mod Renewed
 pub mod Stepped
 pub mod Counted
+pub mod Filling
 pub mod Sent
 pub mod Offered

@@ -38,13 +38,17 @@ told_to_one exchanges = map (λ exchange. (1, exchange)) exchanges
 abbrev pub world_of : LonePortView → WorkerView → Bool → World
 world_of its_port worker is_raised = record { port = its_port; workers = worker ∷ []; raised = is_raised ∷ [] }
 
--- The world of the problem and one worker comes by this schedule to where its table and desk and
--- its worker stand so, and the worker asked and was told this.
-pub record RunsAlone (problem : Board) (s : SettingsView) (schedule : List Event) (log : List Exchange) (port : LonePortView) (worker : WorkerView) : Type 0 where
+-- The first world, of one worker, comes by this schedule to where its table and desk and its worker
+-- stand so, and the worker asked and was told this.
+pub record RunsFrom (first : World) (schedule : List Event) (log : List Exchange) (port : LonePortView) (worker : WorkerView) : Type 0 where
   pub own : All IsOwn schedule
   pub raised : Bool
-  pub plays : Plays (world_at_first problem (for_one s)) schedule (told_to_one log) (world_of port worker raised)
+  pub plays : Plays first schedule (told_to_one log) (world_of port worker raised)
   pub reached : IsReached worker log
+
+-- So does the world of the problem and one worker.
+abbrev pub RunsAlone : Board → SettingsView → List Event → List Exchange → LonePortView → WorkerView → Type 0
+RunsAlone problem s schedule log port worker = RunsFrom (world_at_first problem (for_one s)) schedule log port worker
 
 -- Why a search with one worker ends without an answer, by how its worker ended: its visits are used
 -- up, and it had them all; its room is, and it had it all; a note would have been higher than notes

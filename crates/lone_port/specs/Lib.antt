@@ -4,3 +4,4 @@ pub mod Lone
 pub mod World
 pub mod Alone
 pub mod Keeps
+pub mod Filled

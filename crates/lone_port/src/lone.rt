@@ -1,9 +1,12 @@
 // The table and the desk of a search with one worker.
-ghost use Rattle.std.specs.Prelude.{◌≡◌, ℕ, IfOk, All, option_copied, length};
+ghost use Rattle.std.specs.Prelude.{◌≡◌, ℕ, IfOk, All, option_copied, length, replicate};
 ghost use Rattle.table_shard.specs.Row.{IsRow, lent_to};
+ghost use Rattle.table_shard.specs.Known.{TakesNotes};
 ghost use Rattle.worker_core.specs.Port.{Suits};
 ghost use Rattle.lone_port.specs.Lone.{IsLone, IsBelow, alone_at_first, opened, worker_at_first, book_of};
+ghost use Rattle.lone_port.specs.Filled.{IsFilled};
 ghost use Rattle.unit_desk.specs.Desk.{IsDesk};
+ghost use Rattle.unit_desk.specs.Known.{IsKnown};
 
 use board_core::{Key, Side};
 use notes::{Draw, Kept, Note, RoomAnswer, Seen, Update};
@@ -14,7 +17,7 @@ use shogi_rules::Problem;
 use std::alloc::{AllocError, Global};
 use std::marker::Model;
 use table_shard::{RowPins, Shard};
-use unit_desk::Desk;
+use unit_desk::{Desk, known_answer};
 use worker_core::Port;
 
 /// The table of positions and the desk of a search, for one worker at a time.
@@ -56,6 +59,27 @@ fn to_whom(lends: bool, desk: &Desk) -> Option<Side>
     if lends { Some(desk.attacker()) } else { None }
 }
 
+// Counts for so many rows: no visit is below any slot.
+fn no_pins(alloc: Global, rows: usize) -> Result<Vec<[u64; 8]>, AllocError>
+    ensures { IfOk result (λ pins. pins.items ≡ replicate rows (replicate 8 0)) }
+{
+    let mut pins = Vec::with_capacity(alloc, rows)?;
+    while pins.len() < rows {
+        pins.push([0; 8])?;
+    }
+    Ok(pins)
+}
+
+// Has a table take in notes, one after the other.
+fn take_all(alloc: Global, shard: &mut Shard, notes: &[Note]) -> Result<(), AllocError>
+    ensures { IfOk result (λ _. TakesNotes shard.old notes.now shard.new) }
+{
+    for note in notes {
+        shard.take(note.share()?);
+    }
+    Ok(())
+}
+
 impl LonePort {
     /// The table and the desk of a problem, with the rows, the visits and the room of the settings,
     /// which say too whether the table lends; nothing is known, drawn, claimed or posted. Takes all
@@ -75,14 +99,47 @@ impl LonePort {
     {
         let rows = settings.rows as usize;
         let shard = Shard::make(alloc, rows)?;
-        let mut pins = Vec::with_capacity(alloc, rows)?;
-        while pins.len() < rows {
-            pins.push([0; 8])?;
-        }
+        let pins = no_pins(alloc, rows)?;
         Ok(LonePort {
             shard,
             pins,
             desk: Desk::make(problem, settings),
+            is_going: true,
+            stops: false,
+            lends: settings.lends,
+        })
+    }
+
+    /// The same, in which notes are known: the table has taken them in, one after the other, and
+    /// what the first says that is about the problem, or may be carried to it, is posted. The notes
+    /// hold on every path, and are for the problem's attacker. Errors: want of memory alone.
+    #[tactic(auto, using(crate::proofs::Filling::filled_suits))]
+    pub fn make_filled(
+        alloc: Global,
+        problem: &Problem,
+        settings: &Settings,
+        notes: &[Note],
+    ) -> Result<LonePort, AllocError>
+        requires known { All (IsKnown problem.now.position.side) notes.now }
+        ensures filled { IfOk result
+            (IsFilled notes.now (alone_at_first problem.now.position settings.now.expansions
+            settings.now.room settings.now.rows settings.now.lends)) }
+        // A worker in the search of the problem may begin to work over it.
+        ensures suits { IfOk result (λ port. (number : ℕ)
+            → Suits (worker_at_first problem.now.position number) (book_of port)) }
+    {
+        let rows = settings.rows as usize;
+        let mut shard = Shard::make(alloc, rows)?;
+        take_all(alloc, &mut shard, notes)?;
+        let mut desk = Desk::make(problem, settings);
+        if let Some(note) = known_answer(alloc, problem, notes)? {
+            desk.post(note);
+        }
+        let pins = no_pins(alloc, rows)?;
+        Ok(LonePort {
+            shard,
+            pins,
+            desk,
             is_going: true,
             stops: false,
             lends: settings.lends,

@@ -10,3 +10,4 @@ mod Sites
 mod Standing
 mod Looked
 mod Lent
+mod Known

@@ -9,3 +9,4 @@ pub mod Spot
 pub mod Emptied
 pub mod Used
 pub mod Marks
+pub mod Known

@@ -7,12 +7,13 @@ ghost use Rattle.table_shard.specs.Row.{HoldsAt, Lacks, IsRow, IsKeptAt, LooksBy
 ghost use Rattle.table_shard.specs.Shard.{row_of, with_row, EntersInBy, StaysAt, IsLeftAt};
 ghost use Rattle.table_shard.specs.Spot.{hash_of, spot_of};
 ghost use Rattle.table_shard.specs.Emptied.{AreUncounted};
+ghost use Rattle.table_shard.specs.Known.{TakesNote};
 
 use crate::hash::{Spot, hash_of, spot_at};
-use crate::pins::Pins;
+use crate::pins::{Pins, RowPins};
 use crate::row::Row;
-use board_core::{Key, Side};
-use notes::{Kept, Seen, Update};
+use board_core::{Key, Side, key};
+use notes::{Kept, Note, Seen, Update};
 use path_tags::Path;
 use pn_numbers::Numbers;
 use std::alloc::{AllocError, Global};
@@ -218,6 +219,24 @@ impl Shard {
     {
         if self.holds(spot, slot, key) {
             self.leave(spot, slot, key, update);
+        }
+    }
+
+    /// Takes in a note that is known before anyone searches: its position is entered with the
+    /// numbers (1,1), where no worker is below any slot, and left with the note. Takes no memory.
+    pub fn take(&mut self, note: Note)
+        ensures { TakesNote self.old note self.new }
+    {
+        self.laws();
+        note.laws();
+        let key = key(note.position());
+        let spot = self.spot_of(&key);
+        let mut pins = RowPins { counts: &[0; 8] };
+        let kept = self.enter(spot, &key, Numbers::ONE, &mut pins);
+        match kept {
+            Kept::Slot(slot) => self.leave_held(spot, slot, &key, Update::Note(note)),
+            // No worker is below any slot, so that one is free, or is given up.
+            Kept::Unkept => {}
         }
     }
 }

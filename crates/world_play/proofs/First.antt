@@ -1,6 +1,6 @@
 -- The world at first is fair.
 use Rattle.std.proofs.Common.{◌≡◌, inl, inr, ℕ, zero, suc, ◌+◌, ◌/◌, ◌%◌, ◌<◌, List, [], ◌∷◌, ◌++◌, length, get_or, replicate, arith, refl, sym, ap, ◌∙◌, subst, Bool, false, sum_by}
-use Rattle.std.specs.Prelude.{Some, slice_get, sum}
+use Rattle.std.specs.Prelude.{Option, Some, None, slice_get, sum}
 use Rattle.std.proofs.lemmas.List.{length-replicate, get_or-replicate}
 use Rattle.std.proofs.lemmas.List.Sums.{sum_by-cons}
 use Rattle.std.proofs.lemmas.List.Folds.{sum_by-replicate}
@@ -11,6 +11,8 @@ use Rattle.list_laws.proofs.Standing.{none_in_none}
 use Rattle.board_core.specs.Board.{Board}
 use Rattle.board_core.specs.Kept.{IsKept}
 use Rattle.shogi_rules.specs.Tsume.{IsProblem}
+use Rattle.notes.specs.Derivation.{Derivation}
+use Rattle.table_shard.specs.Entry.{EntryView}
 use Rattle.table_shard.specs.Spot.{word_of}
 use Rattle.search_limits.specs.Sizes.{SettingsView}
 use Rattle.unit_desk.specs.Desk.{DeskView, fresh}
@@ -22,6 +24,7 @@ use Rattle.visit_log.specs.Counts.{own_slots, own_size}
 use Rattle.visit_log.specs.Laws.{HasCause}
 use Rattle.lone_port.specs.Lone.{held_by, worker_at_first, alone_at_first, LonePortView}
 use Rattle.lone_port.specs.World.{World, world_at_first, workers_from}
+use Rattle.lone_port.specs.Filled.{IsFilled, IsWorldWith}
 use Rattle.world_play.specs.Fair.{IsFair, IsMember, IsToldOf, only}
 
 -- 1. THE WORKERS.
@@ -89,8 +92,16 @@ no_count n place slot =
 
 -- 4. THE WORLD.
 
-pub first_fair : (problem : Board) (s : SettingsView) → IsKept problem → IsProblem problem → 0 < s.workers → IsFair (world_at_first problem s)
-first_fair problem s kept is some = record {
+-- The world before anything happens, with other rows, and with what is posted.
+abbrev pub world_with : Board → SettingsView → List (List EntryView) → Option Derivation → World
+world_with problem s its_rows its_posted = record (world_at_first problem s) {
+  port = record (alone_at_first problem s.expansions s.room s.rows s.lends) { rows = its_rows; desk = record (fresh problem s.expansions s.room) { posted = its_posted } };
+}
+
+-- It is fair, whatever is known in it.
+pub filled_fair : (problem : Board) (s : SettingsView) (its_rows : List (List EntryView)) (its_posted : Option Derivation) → IsKept problem → IsProblem problem → 0 < s.workers
+    → IsFair (world_with problem s its_rows its_posted)
+filled_fair problem s its_rows its_posted kept is some = record {
   some = (let n = many_workers problem 1 s.workers in omega (arith, n, some));
   raised = length-replicate s.workers false ∙ sym (many_workers problem 1 s.workers);
   held = λ word. (
@@ -108,16 +119,19 @@ first_fair problem s kept is some = record {
       let z = worker_there problem 1 s.workers place worker e in
       let k : 1 + place ≡ place + 1 = omega arith in
       let z2 : worker_at_first problem (place + 1) ≡ worker = ap (worker_at_first problem) (sym k) ∙ z in
-      subst (λ (w : WorkerView). IsMember (fresh problem s.expansions s.room) place w) z2
+      subst (λ (w : WorkerView). IsMember (record (fresh problem s.expansions s.room) { posted = its_posted }) place w) z2
       (record {
         task = refl;
         problem = record { kept = kept; problem = is };
         idle = refl;
         log = [];
         leads = record { happenings = []; runs = refl; logged = refl };
-        told = no_cause (fresh problem s.expansions s.room) (task_for problem (place + 1));
+        told = no_cause (record (fresh problem s.expansions s.room) { posted = its_posted }) (task_for problem (place + 1));
       }));
 }
+
+pub first_fair : (problem : Board) (s : SettingsView) → IsKept problem → IsProblem problem → 0 < s.workers → IsFair (world_at_first problem s)
+first_fair problem s kept is some = filled_fair problem s (replicate s.rows []) None kept is some
 
 -- 5. THE WORLD THAT IS MADE.
 
@@ -137,6 +151,26 @@ pub made_fair : (problem : Board) (s : SettingsView) (place : ℕ) (port : LoneP
     → place ≡ s.workers → IsFair (record { port = port; workers = workers; raised = raised })
 made_fair problem s place port workers raised kept is some one two three end =
     subst IsFair (sym (made_is problem s place port workers raised one two three end)) (first_fair problem s kept is some)
+
+-- The one in which notes are known.
+pub made_with : (notes : List Derivation) (problem : Board) (s : SettingsView) (port : LonePortView) (workers : List WorkerView) (raised : List Bool)
+    → IsFilled notes (alone_at_first problem s.expansions s.room s.rows s.lends) port → workers ≡ workers_from problem 1 s.workers → raised ≡ replicate s.workers false
+    → record { port = port; workers = workers; raised = raised } ≡ record (world_at_first problem s) { port = port }
+made_with notes problem s port workers raised one two three = λ i. record { port = port; workers = two i; raised = three i }
+
+pub made_world : (notes : List Derivation) (problem : Board) (s : SettingsView) (port : LonePortView) (workers : List WorkerView) (raised : List Bool)
+    → IsFilled notes (alone_at_first problem s.expansions s.room s.rows s.lends) port → workers ≡ workers_from problem 1 s.workers → raised ≡ replicate s.workers false
+    → IsWorldWith notes problem s (record { port = port; workers = workers; raised = raised })
+made_world notes problem s port workers raised one two three =
+    record { filled = one; others = made_with notes problem s port workers raised one two three }
+
+pub made_with_fair : (notes : List Derivation) (problem : Board) (s : SettingsView) (port : LonePortView) (workers : List WorkerView) (raised : List Bool) → IsKept problem → IsProblem problem
+    → 0 < s.workers → IsFilled notes (alone_at_first problem s.expansions s.room s.rows s.lends) port → workers ≡ workers_from problem 1 s.workers → raised ≡ replicate s.workers false
+    → IsFair (record { port = port; workers = workers; raised = raised })
+made_with_fair notes problem s port workers raised kept is some one two three =
+    let there : world_with problem s port.rows port.desk.posted ≡ record { port = port; workers = workers; raised = raised } =
+    λ i. record { port = sym one.others i; workers = sym two i; raised = sym three i } in
+    subst IsFair there (filled_fair problem s port.rows port.desk.posted kept is some)
 
 -- One more worker, and one more that isn't told to stop.
 pub one_more : (problem : Board) (place : ℕ) (workers : List WorkerView) → workers ≡ workers_from problem 1 place

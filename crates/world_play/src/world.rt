@@ -1,11 +1,13 @@
 // The world.
-ghost use Rattle.std.specs.Prelude.{◌≡◌, ◌≤◌, ◌<◌, ◌+◌, ◌↔◌, ◌&&◌, ℕ, zero, suc, true, false, List, Some, None, IfOk, IfSome, IfNone, IsTrue, All, length, slice_get, slice_set, slice_index_or, option_copied, if◌then◌else◌};
+ghost use Rattle.std.specs.Prelude.{◌≡◌, ◌≤◌, ◌<◌, ◌+◌, ◌↔◌, ◌&&◌, ℕ, zero, suc, true, false, List, Some, None, IfOk, IfSome, IfNone, IsTrue, All, length, replicate, slice_get, slice_set, slice_index_or, option_copied, if◌then◌else◌};
 ghost use Rattle.search_limits.specs.Settings.{settings_in};
 ghost use Rattle.visit_log.specs.Visit.{Exchange};
 ghost use Rattle.visit_log.specs.Run.{WorkerView};
-ghost use Rattle.lone_port.specs.World.{Happens, Plays, IsAtWork, IsIdle, world_at_first};
+ghost use Rattle.lone_port.specs.Filled.{IsWorldWith};
+ghost use Rattle.lone_port.specs.World.{Happens, Plays, IsAtWork, IsIdle, workers_from, world_at_first};
 ghost use Rattle.lone_port.specs.declared.event.Event.TheVariants.{Step, Raise, Starve};
 ghost use Rattle.unit_desk.specs.Desk.{IsDesk};
+ghost use Rattle.unit_desk.specs.Known.{IsKnown};
 ghost use Rattle.lone_port.specs.Lone.{IsLone, book_of};
 ghost use Rattle.table_shard.specs.Row.{IsRow};
 ghost use Rattle.world_play.specs.Fair.{numbered, IsFair, all_below};
@@ -53,6 +55,27 @@ impl Model for World {
     ghost invariant = { λ w. IsFair (record { port = w.port; workers = w.workers.items; raised = w.raised.items }) };
 }
 
+// The workers of the settings, numbered from 1, before they ask anything, and that no stop was
+// signalled to them.
+fn idle_crew(
+    alloc: Global,
+    problem: &Problem,
+    settings: &Settings,
+) -> Result<(Vec<Worker>, Vec<bool>), AllocError>
+    ensures workers { IfOk result (λ made. made.0.items
+        ≡ workers_from problem.now.position 1 settings.now.workers) }
+    ensures raised { IfOk result (λ made. made.1.items ≡ replicate settings.now.workers false) }
+{
+    let count = settings.workers as usize;
+    let mut workers = Vec::with_capacity(alloc, count)?;
+    let mut raised = Vec::with_capacity(alloc, count)?;
+    for place in 0..settings.workers {
+        workers.push(Worker::make(alloc, problem, place + 1))?;
+        raised.push(false)?;
+    }
+    Ok((workers, raised))
+}
+
 impl World {
     /// The world of a problem and settings before anything happens: its table is empty, and its
     /// workers, numbered from 1, haven't asked anything. Takes all the table's memory but for that
@@ -63,13 +86,30 @@ impl World {
     {
         problem.position.laws();
         let port = LonePort::make(alloc, problem, settings)?;
-        let count = settings.workers as usize;
-        let mut workers = Vec::with_capacity(alloc, count)?;
-        let mut raised = Vec::with_capacity(alloc, count)?;
-        for place in 0..settings.workers {
-            workers.push(Worker::make(alloc, problem, place + 1))?;
-            raised.push(false)?;
-        }
+        let (workers, raised) = idle_crew(alloc, problem, settings)?;
+        Ok(World {
+            port,
+            workers,
+            raised,
+        })
+    }
+
+    /// The same, in which notes are known: its table has taken them in, one after the other, and
+    /// what the first says that is about the problem, or may be carried to it, is posted. The notes
+    /// hold on every path, and are for the problem's attacker. Errors: want of memory alone.
+    pub fn make_filled(
+        alloc: Global,
+        problem: &Problem,
+        settings: &Settings,
+        notes: &[Note],
+    ) -> Result<World, AllocError>
+        requires { All (IsKnown problem.now.position.side) notes.now }
+        ensures { IfOk result
+            (IsWorldWith notes.now problem.now.position (settings_in settings.now)) }
+    {
+        problem.position.laws();
+        let port = LonePort::make_filled(alloc, problem, settings, notes)?;
+        let (workers, raised) = idle_crew(alloc, problem, settings)?;
         Ok(World {
             port,
             workers,

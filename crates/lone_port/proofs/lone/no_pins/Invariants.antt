@@ -1,5 +1,5 @@
 use Rattle.std.proofs.Common.{◌≡◌, ◌≤◌, ◌-◌, length, replicate}
-use Rattle.lone_port.proofs.lone.LonePort.make.Given as goal
+use Rattle.lone_port.proofs.lone.no_pins.Given as goal
 
 -- no visit is below a slot of the rows so far
 abbrev pub invariant-loop-pins : goal.invariant-loop-pins

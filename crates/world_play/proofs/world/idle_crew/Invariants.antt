@@ -1,6 +1,6 @@
 use Rattle.std.proofs.Common.{◌≡◌, false, replicate}
 use Rattle.lone_port.specs.World.{workers_from}
-use Rattle.world_play.proofs.world.World.make.Given as goal
+use Rattle.world_play.proofs.world.idle_crew.Given as goal
 
 -- the workers so far, to none of which a stop was signalled
 abbrev pub invariant-loop-place : goal.invariant-loop-place
