@@ -48,26 +48,26 @@ claims_once desk (Room note) (Room other) one two h k =
 
 -- 2. ENTERING.
 
-in_once : (rows : List (List EntryView)) (pins : List ℕ) (key : Key) (numbers : Numbers) (kept other : Kept) (one two : List (List EntryView)) → AreApartIn rows
+pub in_once : (rows : List (List EntryView)) (pins : List ℕ) (key : Key) (numbers : Numbers) (kept other : Kept) (one two : List (List EntryView)) → AreApartIn rows
     → EntersIn rows pins key numbers kept one → EntersIn rows pins key numbers other two → (kept ≡ other) × (one ≡ two)
 in_once rows pins key numbers kept other one two apart h k =
     let same = enters_once (row_of rows key) pins key numbers kept other h.row k.row (apart (place_of key (length rows))) h.enters k.enters in
     (same.0, h.others ∙ (ap (with_row rows key) same.1 ∙ sym k.others))
 
-in_apart : (rows : List (List EntryView)) (pins : List ℕ) (key : Key) (numbers : Numbers) (kept : Kept) (after : List (List EntryView)) → AreApartIn rows
+pub in_apart : (rows : List (List EntryView)) (pins : List ℕ) (key : Key) (numbers : Numbers) (kept : Kept) (after : List (List EntryView)) → AreApartIn rows
     → EntersIn rows pins key numbers kept after → AreApartIn after
 in_apart rows pins key numbers kept after apart h =
     subst AreApartIn (sym h.others) (rows_apart rows (place_of key (length rows)) h.row apart
     (enters_apart (row_of rows key) pins key numbers kept h.row (apart (place_of key (length rows))) h.enters))
 
-left_in_apart : (rows after : List (List EntryView)) (kept : Kept) (key : Key) (update : Update) → IsLeftIn rows kept key update after → AreApartIn rows → AreApartIn after
+pub left_in_apart : (rows after : List (List EntryView)) (kept : Kept) (key : Key) (update : Update) → IsLeftIn rows kept key update after → AreApartIn rows → AreApartIn after
 left_in_apart rows after Unkept key update h apart = subst AreApartIn (sym h) apart
 left_in_apart rows after (Slot slot) key update (inl updated) apart =
     subst AreApartIn (sym updated.1)
     (rows_apart rows (place_of key (length rows)) (left (row_of rows key) slot update) apart (left_apart (row_of rows key) slot update (apart (place_of key (length rows)))))
 left_in_apart rows after (Slot slot) key update (inr other) apart = subst AreApartIn (sym other.1) apart
 
-left_in_once : (rows one two : List (List EntryView)) (kept : Kept) (key : Key) (update : Update) → IsLeftIn rows kept key update one → IsLeftIn rows kept key update two → one ≡ two
+pub left_in_once : (rows one two : List (List EntryView)) (kept : Kept) (key : Key) (update : Update) → IsLeftIn rows kept key update one → IsLeftIn rows kept key update two → one ≡ two
 left_in_once rows one two Unkept key update h k = h ∙ sym k
 left_in_once rows one two (Slot slot) key update (inl h) (inl k) = h.1 ∙ sym k.1
 left_in_once rows one two (Slot slot) key update (inl h) (inr k) = absurd (k.0 h.0)

@@ -11,7 +11,8 @@ use Rattle.visit_log.specs.declared.words.Request.TheVariants.{Poll, Draw as Dra
 use Rattle.visit_log.specs.declared.words.Reply.{Reply}
 use Rattle.visit_log.specs.declared.words.Reply.TheVariants.{Poll as Polled, Draw as Drew, Claim as Claimed, Look as Looked, Enter as Entered, Leave as LeftIt, Post as PostedIt}
 use Rattle.visit_log.specs.Visit.{Exchange}
-use Rattle.unit_desk.specs.Desk.{DeskView}
+use Rattle.notes.specs.Derivation.{Derivation}
+use Rattle.unit_desk.specs.Desk.{DeskView, first_posted}
 use Rattle.unit_desk.proofs.Offered.{first_is}
 use Rattle.lone_port.specs.Lone.{LonePortView, Turns, opened}
 use Rattle.search_pool.specs.Inside.{says_spent, says_full, says_posted, WasSaid, IsToldDesk}
@@ -25,6 +26,7 @@ pub record DeskMoves (before : DeskView) (says : Exchange) (after : DeskView) : 
   pub full : (before.claimed ≡ before.room) ⊎ (says_full says ≡ true) → after.claimed ≡ after.room
   pub posted : IsSome before.posted ⊎ (says_posted says ≡ true) → IsSome after.posted
   pub is_said : IsSome after.posted → IsSome before.posted ⊎ (says_posted says ≡ true)
+  pub still : IsSome before.posted → after.posted ≡ before.posted
 
 -- Nothing happens to the desk, and nothing of it is said.
 stays : (d : DeskView) (says : Exchange) → says_spent says ≡ false → says_full says ≡ false → says_posted says ≡ false → DeskMoves d says d
@@ -35,11 +37,16 @@ stays d says one two three = record {
   full = λ h. elim h as (λ _. d.claimed ≡ d.room) [ inl e ↦ e | inr e ↦ absurd (false≢true (sym two ∙ e)) ];
   posted = λ h. elim h as (λ _. IsSome d.posted) [ inl e ↦ e | inr e ↦ absurd (false≢true (sym three ∙ e)) ];
   is_said = λ k. inl k;
+  still = λ k. refl;
 }
 
 stays_at : (before after : LonePortView) (says : Exchange) → after.desk ≡ before.desk → says_spent says ≡ false → says_full says ≡ false → says_posted says ≡ false
     → DeskMoves before.desk says after.desk
 stays_at before after says e one two three = subst (λ (d : DeskView). DeskMoves before.desk says d) (sym e) (stays before.desk says one two three)
+
+first_stays : (posted : Option Derivation) (note : Derivation) → IsSome posted → first_posted posted note ≡ posted
+first_stays None note some = absurd (cc)
+first_stays (Some first) note some = refl
 
 moves : (before : LonePortView) (path : List Key) (q : Request) (a : Option Reply) (after : LonePortView) → Turns before path q a after → DeskMoves before.desk (q, a) after.desk
 moves before path Poll None after h = absurd h
@@ -64,6 +71,7 @@ moves before path Draws (Some (Drew (Go number))) after h =
       full = λ k. elim k as (λ _. before.desk.claimed ≡ before.desk.room) [ inl e ↦ e | inr e ↦ absurd (false≢true e) ];
       posted = λ k. elim k as (λ _. IsSome before.desk.posted) [ inl e ↦ e | inr e ↦ absurd (false≢true e) ];
       is_said = λ k. inl k;
+      still = λ k. refl;
     })
 moves before path Draws (Some (Drew Done)) after h =
     subst (λ (d : DeskView). DeskMoves before.desk (Draws, Some (Drew Done)) d) (sym h.0.1)
@@ -74,6 +82,7 @@ moves before path Draws (Some (Drew Done)) after h =
       full = λ k. elim k as (λ _. before.desk.claimed ≡ before.desk.room) [ inl e ↦ e | inr e ↦ absurd (false≢true e) ];
       posted = λ k. h.0.0;
       is_said = λ k. inl k;
+      still = λ k. refl;
     })
 moves before path Draws (Some (Drew AllDrawn)) after h =
     subst (λ (d : DeskView). DeskMoves before.desk (Draws, Some (Drew AllDrawn)) d) (sym h.0.2)
@@ -84,6 +93,7 @@ moves before path Draws (Some (Drew AllDrawn)) after h =
       full = λ k. elim k as (λ _. before.desk.claimed ≡ before.desk.room) [ inl e ↦ e | inr e ↦ absurd (false≢true e) ];
       posted = λ k. elim k as (λ _. IsSome before.desk.posted) [ inl e ↦ e | inr e ↦ absurd (false≢true e) ];
       is_said = λ k. inl k;
+      still = λ k. refl;
     })
 moves before path Draws (Some (Claimed (Room room))) after h = absurd h
 moves before path Draws (Some (Claimed Full)) after h = absurd h
@@ -105,6 +115,7 @@ moves before path Claims (Some (Claimed (Room room))) after h =
       full = λ k. elim k as (λ _. room ≡ before.desk.room) [ inl e ↦ absurd (let low = h.0.0 in omega (arith, low, e)) | inr e ↦ absurd (false≢true e) ];
       posted = λ k. elim k as (λ _. IsSome before.desk.posted) [ inl e ↦ e | inr e ↦ absurd (false≢true e) ];
       is_said = λ k. inl k;
+      still = λ k. refl;
     })
 moves before path Claims (Some (Claimed Full)) after h =
     subst (λ (d : DeskView). DeskMoves before.desk (Claims, Some (Claimed Full)) d) (sym h.0.1)
@@ -115,6 +126,7 @@ moves before path Claims (Some (Claimed Full)) after h =
       full = λ k. h.0.0;
       posted = λ k. elim k as (λ _. IsSome before.desk.posted) [ inl e ↦ e | inr e ↦ absurd (false≢true e) ];
       is_said = λ k. inl k;
+      still = λ k. refl;
     })
 moves before path Claims (Some (Looked seen)) after h = absurd h
 moves before path Claims (Some (Entered kept_in)) after h = absurd h
@@ -172,6 +184,7 @@ moves before path (Post note) (Some PostedIt) after h =
       full = λ k. elim k as (λ _. before.desk.claimed ≡ before.desk.room) [ inl e ↦ e | inr e ↦ absurd (false≢true e) ];
       posted = λ k. first_is before.desk.posted note;
       is_said = λ k. inr refl;
+      still = first_stays before.desk.posted note;
     })
 moves before path (End end) None after h = absurd h
 moves before path (End end) (Some (Polled stop)) after h = absurd h
@@ -212,3 +225,8 @@ limits_stay x before after stops path turns = let m = moves (opened before stops
 pub posted_by : (x : Exchange) (before after : LonePortView) (stops : Bool) (path : List Key) → Turns (opened before stops) path x.0 x.1 after
     → IsSome after.desk.posted → IsSome before.desk.posted ⊎ (says_posted x ≡ true)
 posted_by x before after stops path turns = (moves (opened before stops) path x.0 x.1 after turns).is_said
+
+-- A note that was posted before a step is posted behind it.
+pub posted_stays : (x : Exchange) (before after : LonePortView) (stops : Bool) (path : List Key) → Turns (opened before stops) path x.0 x.1 after
+    → IsSome before.desk.posted → after.desk.posted ≡ before.desk.posted
+posted_stays x before after stops path turns = (moves (opened before stops) path x.0 x.1 after turns).still

@@ -13,6 +13,8 @@ pub mod Winding
 pub mod Way
 pub mod Watching
 pub mod Ends
+pub mod Beginning
+pub mod Known
 pub mod Polled
 pub mod Sent
 pub mod Offered

@@ -28,10 +28,10 @@ use Rattle.lone_port.specs.declared.event.Event.TheVariants.{Step, Raise, Starve
 use Rattle.lone_port.specs.Alone.{IsOwnStep, HasCause, for_one, told_to_one, world_of}
 use Rattle.search_pool.specs.declared.end.SearchEnd.{SearchEnd}
 use Rattle.search_pool.specs.declared.end.SearchEnd.TheVariants.{Solved, Unknown}
-use Rattle.search_pool.specs.End.{IsOutcome, IsAlone}
-use Rattle.search_pool.specs.Laws.{AreSameAlone, AloneState, HasRun, AloneGoesOneWay, AloneHasOneAnswer}
-use Rattle.search_pool.specs.Inside.{IsWindingUp}
-use Rattle.search_pool.proofs.Winding.{winding_on, ends_so}
+use Rattle.search_pool.specs.End.{IsOutcome, IsAlone, IsAloneFrom}
+use Rattle.search_pool.specs.Laws.{AreSameAlone, AloneState, HasRun, HasRunFrom, AloneGoesOneWay, AloneHasOneAnswer}
+use Rattle.search_pool.specs.Inside.{IsWindingUp, WasSaid, says_posted, world_over}
+use Rattle.search_pool.proofs.Winding.{winding_on, ends_so, none_posted}
 use Rattle.search_pool.proofs.Entering.{AreApartIn, apart_at_first}
 use Rattle.search_pool.proofs.Asking.{turns_once, turns_apart}
 use Rattle.search_pool.proofs.Leading.{IsStarved, AreLaws, leads_once, stays_starved}
@@ -143,11 +143,11 @@ port_in a b v w s r e = ap (λ (z : World). z.port) e
 worker_in : (a b : LonePortView) (v w : WorkerView) (s r : Bool) → world_of a v s ≡ world_of b w r → v ≡ w
 worker_in a b v w s r e = ap (λ (z : World). get_or z.workers 0 v) e
 
-from_world : (es : List Event) (log : List (ℕ × Exchange)) (v w last : World) → v ≡ w → Plays v es log last → Plays w es log last
+pub from_world : (es : List Event) (log : List (ℕ × Exchange)) (v w last : World) → v ≡ w → Plays v es log last → Plays w es log last
 from_world es log v w last e h = subst (λ (z : World). Plays z es log last) e h
 
 -- Something that a step keeps is kept by a schedule of a worker's own steps.
-kept_by : (P : LonePortView → WorkerView → Type 0) → ((port next : LonePortView) (worker later : WorkerView) (x : Exchange) → P port worker → Steps false port worker x next later → P next later)
+pub kept_by : (P : LonePortView → WorkerView → Type 0) → ((port next : LonePortView) (worker later : WorkerView) (x : Exchange) → P port worker → Steps false port worker x next later → P next later)
     → (es : List Event) (log : List (ℕ × Exchange)) (port last : LonePortView) (worker end : WorkerView) (raised : Bool) → All IsOwnStep es
     → Plays (world_of port worker false) es log (world_of last end raised) → P port worker → P last end
 kept_by P keeps [] log port last worker end raised own h p =
@@ -193,7 +193,7 @@ joined a b xs ys log told first rest one two = one ∙ (ap₂ (λ (us vs : List 
 
 -- Two schedules of a worker's own steps that lead from one world to a worker's end, not for want of
 -- memory, lead to one end by one log.
-plays_once : AreLaws → (es fs : List Event) (log told : List (ℕ × Exchange)) (port one two : LonePortView) (worker a b : WorkerView) (r q : Bool) → AreApartIn port.rows
+pub plays_once : AreLaws → (es fs : List Event) (log told : List (ℕ × Exchange)) (port one two : LonePortView) (worker a b : WorkerView) (r q : Bool) → AreApartIn port.rows
     → All IsOwnStep es → All IsOwnStep fs → Plays (world_of port worker false) es log (world_of one a r) → Plays (world_of port worker false) fs told (world_of two b q)
     → (end_of a.state ≡ None → ⊥) → (end_of b.state ≡ None → ⊥) → ¬ IsStarved a.state → ¬ IsStarved b.state → (log ≡ told) × (one ≡ two) × (a ≡ b)
 plays_once laws [] fs log told port one two worker a b r q apart own too h k ended done not nor =
@@ -233,20 +233,20 @@ plays_once laws (e ∷ es) (f ∷ fs) log told port one two worker a b r q apart
 
 -- 4. ONE WAY.
 
-told_apart : (xs ys : List Exchange) → told_to_one xs ≡ told_to_one ys → xs ≡ ys
+pub told_apart : (xs ys : List Exchange) → told_to_one xs ≡ told_to_one ys → xs ≡ ys
 told_apart xs ys e = sym (untold xs) ∙ (ap (map (λ (x : ℕ × Exchange). x.1)) e ∙ untold ys)
   where
     untold : (zs : List Exchange) → map (λ (x : ℕ × Exchange). x.1) (told_to_one zs) ≡ zs
     untold [] = refl
     untold (z ∷ zs) = ap (λ (rest : List Exchange). z ∷ rest) (untold zs)
 
-some_end : (s : State) (end : WorkEnd) → end_of s ≡ Some end → end_of s ≡ None → ⊥
+pub some_end : (s : State) (end : WorkEnd) → end_of s ≡ Some end → end_of s ≡ None → ⊥
 some_end s end e none = (let clash : ◌≡◌ {A = Option WorkEnd} (Some end) None = sym e ∙ none in absurd (cc))
 
-not_starved : (s : State) (end : WorkEnd) → end_of s ≡ Some end → end ≢ NoMemory → ¬ IsStarved s
+pub not_starved : (s : State) (end : WorkEnd) → end_of s ≡ Some end → end ≢ NoMemory → ¬ IsStarved s
 not_starved s end ended other starved = other (ends_so s.stage s.frames NoMemory end starved ended)
 
-same_at_first : (problem : Board) (s r : SettingsView) → AreSameAlone s r → world_at_first problem (for_one r) ≡ world_at_first problem (for_one s)
+pub same_at_first : (problem : Board) (s r : SettingsView) → AreSameAlone s r → world_at_first problem (for_one r) ≡ world_at_first problem (for_one s)
 same_at_first problem s r same =
     let x = sym same.expansions in
     let y = sym same.room in
@@ -299,7 +299,7 @@ cause_once s r worker c d same h k =
     same_Some c d (sym one.is ∙ (ap (cause_for s.expansions s.room) end
     ∙ (ap₂ (λ (x y : ℕ). cause_for x y two.end) same.expansions same.room ∙ two.is)))
 
-outcome_once : (s r : SettingsView) (port : LonePortView) (worker : WorkerView) (e f : SearchEnd) → AreSameAlone s r → IsOutcome s port worker e → IsOutcome r port worker f → e ≡ f
+pub outcome_once : (s r : SettingsView) (port : LonePortView) (worker : WorkerView) (e f : SearchEnd) → AreSameAlone s r → IsOutcome s port worker e → IsOutcome r port worker f → e ≡ f
 outcome_once s r port worker (Solved note) (Solved other) same h k = ap Solved (same_Some note other (sym h ∙ k))
 outcome_once s r port worker (Solved note) (Unknown cause crew) same h k =
     (let clash : ◌≡◌ {A = Option Derivation} (Some note) None = sym h ∙ k.0 in absurd (cc))
@@ -309,54 +309,68 @@ outcome_once s r port worker (Unknown c crew) (Unknown d team) same h k =
     ap₂ (λ (x : Cause) (ws : List WorkerView). Unknown x ws) (cause_once s r worker c d same h.2 k.2) (h.1 ∙ sym k.1)
 
 -- The worker winds up where it was told to, and so where a note is posted.
-abbrev IsTold : LonePortView → WorkerView → Type 0
-IsTold port worker = (log : List Exchange) × IsWindingUp log port worker
+abbrev pub IsTold : LonePortView → LonePortView → WorkerView → Type 0
+IsTold first port worker = (log : List Exchange) × IsWindingUp first log port worker
 
-told_at_first : (problem : Board) (s : SettingsView) → IsTold (alone_at_first problem s.expansions s.room s.rows s.lends) (worker_at_first problem 1)
-told_at_first problem s = (
+pub told_at_first : (first : LonePortView) (problem : Board) → IsTold first first (worker_at_first problem 1)
+told_at_first first problem = (
   [],
   record {
     stopped = λ w. absurd (let low = w.1.1 in omega (arith, low));
     posted = λ w. absurd (let low = w.1.1 in omega (arith, low));
-    is_said = λ some. absurd (cc);
+    is_said = λ some. inr some;
+    still = λ some. refl;
   },
 )
 
-stays_told : (port next : LonePortView) (worker later : WorkerView) (x : Exchange) → IsTold port worker → Steps false port worker x next later → IsTold next later
-stays_told port next worker later x (log, told) steps = (log ++ x ∷ [], winding_on log x port next false worker later told steps.goes steps.turns)
+pub stays_told : (first port next : LonePortView) (worker later : WorkerView) (x : Exchange) → IsTold first port worker → Steps false port worker x next later → IsTold first next later
+stays_told first port next worker later x (log, told) steps = (log ++ x ∷ [], winding_on first log x port next false worker later told steps.goes steps.turns)
+
+-- Where none was posted at first, it was said that one is.
+only_said : (log : List Exchange) (first : LonePortView) → WasSaid says_posted log ⊎ IsSome first.desk.posted → first.desk.posted ≡ None → WasSaid says_posted log
+only_said log first (inl said) none = said
+only_said log first (inr some) none = none_posted first.desk.posted none some
 
 -- A worker whose search has an answer didn't end for want of memory.
-not_for_memory : (s : SettingsView) (port : LonePortView) (worker : WorkerView) (answer : SearchEnd) (end : WorkEnd) → IsOutcome s port worker answer → IsTold port worker
-    → end_of worker.state ≡ Some end → end ≢ NoMemory
-not_for_memory s port worker (Solved note) end h told ended e =
-    let posted = ends_so worker.state.stage worker.state.frames Posted end (told.1.posted (told.1.is_said (subst IsSome (sym h) refl))) ended in
+pub not_for_memory : (first : LonePortView) (s : SettingsView) (port : LonePortView) (worker : WorkerView) (answer : SearchEnd) (end : WorkEnd) → first.desk.posted ≡ None
+    → IsOutcome s port worker answer → IsTold first port worker → end_of worker.state ≡ Some end → end ≢ NoMemory
+not_for_memory first s port worker (Solved note) end none h told ended e =
+    let said = only_said (told.0) first (told.1.is_said (subst IsSome (sym h) refl)) none in
+    let posted = ends_so worker.state.stage worker.state.frames Posted end (told.1.posted said) ended in
     let clash : Posted ≡ NoMemory = sym posted ∙ e in absurd (cc)
-not_for_memory s port worker (Unknown cause crew) end h told ended e =
+not_for_memory first s port worker (Unknown cause crew) end none h told ended e =
     let one = caused s worker cause h.2 in
     let same : one.end ≡ NoMemory = same_Some one.end end (sym one.ended ∙ ended) ∙ e in
     let clash : ◌≡◌ {A = Option Cause} None (Some cause) = ap (cause_for s.expansions s.room) (sym same) ∙ one.is in absurd (cc)
 
 -- How a worker ended that has.
-the_end : (o : Option WorkEnd) → IsSome o → (end : WorkEnd) × (o ≡ Some end)
+pub the_end : (o : Option WorkEnd) → IsSome o → (end : WorkEnd) × (o ≡ Some end)
 the_end None some = absurd (cc)
 the_end (Some end) some = (end, refl)
 
 -- Where it has come to.
-abbrev alone_state : (problem : Board) (s : SettingsView) (answer : SearchEnd) → IsAlone problem s answer → AloneState
-alone_state problem s answer alone = record { log = alone.2.log; port = alone.2.port; worker = alone.2.worker }
+abbrev pub state_of : (first : World) (s : SettingsView) (answer : SearchEnd) → IsAloneFrom first s answer → AloneState
+state_of first s answer alone = record { log = alone.2.log; port = alone.2.port; worker = alone.2.worker }
 
-has_run : (problem : Board) (s : SettingsView) (answer : SearchEnd) (alone : IsAlone problem s answer) → HasRun problem s (alone_state problem s answer alone)
-has_run problem s answer (schedule, own, run) =
+pub has_run_from : (first : LonePortView) (problem : Board) (s : SettingsView) (answer : SearchEnd) → first.desk.posted ≡ None → (alone : IsAloneFrom (world_over first problem) s answer)
+    → HasRunFrom (world_over first problem) (state_of (world_over first problem) s answer alone)
+has_run_from first problem s answer none (schedule, own, run) =
     let end = the_end (end_of run.worker.state) run.ended in
-    let told = kept_by IsTold stays_told schedule (told_to_one run.log) (alone_at_first problem s.expansions s.room s.rows s.lends) run.port (worker_at_first problem 1) run.worker
-    run.runs.raised own run.runs.plays (told_at_first problem s) in record {
+    let told = kept_by (IsTold first) (stays_told first) schedule (told_to_one run.log) first run.port (worker_at_first problem 1) run.worker
+    run.runs.raised own run.runs.plays (told_at_first first problem) in record {
       schedule = schedule;
       own = own;
       runs = run.runs;
       end = end.0;
       ended = end.1;
-      not_starved = not_for_memory s run.port run.worker answer end.0 run.outcome told end.1;
+      not_starved = not_for_memory first s run.port run.worker answer end.0 none run.outcome told end.1;
     }
+
+abbrev alone_state : (problem : Board) (s : SettingsView) (answer : SearchEnd) → IsAlone problem s answer → AloneState
+alone_state problem s answer alone = state_of (world_at_first problem (for_one s)) s answer alone
+
+has_run : (problem : Board) (s : SettingsView) (answer : SearchEnd) (alone : IsAlone problem s answer) → HasRun problem s (alone_state problem s answer alone)
+has_run problem s answer alone = has_run_from (alone_at_first problem s.expansions s.room s.rows s.lends) problem s answer refl alone
 
 -- A search with one worker has one answer.
 pub one_answer : AreLaws → AloneHasOneAnswer

@@ -175,9 +175,9 @@ polled_for move starving task s t (Starved ∷ happenings) n run low =
 -- 3. AT THE END.
 
 -- the stop of a search was polled for each visit that was drawn
-pub polled_each : VisitsMove → StarvingMovesNothing → (problem : Board) (s : SettingsView) (before after : Signal) (port : LonePortView) (worker : WorkerView)
-    → IsWatched problem s before after port worker → HadAll port worker → IsPolledForEach 0 port.desk.drawn before after
-polled_each move starving problem s before after port worker way had = record {
+pub polled_each : VisitsMove → StarvingMovesNothing → (first : LonePortView) (problem : Board) (s : SettingsView) (before after : Signal) (port : LonePortView) (worker : WorkerView)
+    → IsWatched first problem s before after port worker → HadAll port worker → IsPolledForEach 0 port.desk.drawn before after
+polled_each move starving first problem s before after port worker way had = record {
   polled = record { armed = way.2.armed; arms = way.2.arms; early = way.2.early };
   each = λ low.
       let leads = way.2.leads in

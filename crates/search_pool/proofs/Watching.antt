@@ -189,15 +189,15 @@ abbrev worker_in : Task → State → WorkerView
 worker_in task s = record { task = task; state = s; waiting = false }
 
 -- A search whose table and desk are watched goes on by one request.
-watched_on : (problem : Board) (s : SettingsView) (before mid after : Signal) (port next : LonePortView) (task : Task) (from to : State) (x : Exchange)
-    → IsWatched problem s before mid port (worker_in task from) → Watches port mid (path_of task from.frames) x.0 x.1 next after → Goes task from x to
-    → IsWatched problem s before after next (worker_in task to)
-watched_on problem s before mid after port next task from to x way watches goes =
+watched_on : (first : LonePortView) (problem : Board) (s : SettingsView) (before mid after : Signal) (port next : LonePortView) (task : Task) (from to : State) (x : Exchange)
+    → IsWatched first problem s before mid port (worker_in task from) → Watches port mid (path_of task from.frames) x.0 x.1 next after → Goes task from x to
+    → IsWatched first problem s before after next (worker_in task to)
+watched_on first problem s before mid after port next task from to x way watches goes =
     let o = opens mid after port next (path_of task from.frames) x.0 x.1 watches in
     let asked : is_poll x.0 ≡ is_poll (asks from) = ap is_poll (goes_asks task from to x goes) in (
       o.its_going,
       o.stops,
-      on_way problem s before mid after o.stops (at port way.0 way.1) (worker_in task from) x (at next o.its_going o.stops) (worker_in task to) way.2 (record {
+      on_way first problem s before mid after o.stops (at port way.0 way.1) (worker_in task from) x (at next o.its_going o.stops) (worker_in task to) way.2 (record {
         going = goes_on task from to x goes;
         at_polls = λ e. sym asked ∙ o.at_polls e;
         signal = o.signal_is ∙ ap (λ (b : Bool). if b then polled mid o.stops else mid) asked;
@@ -218,27 +218,27 @@ as_it_is worker task idle is =
 -- goes on.
 pub watched_by : {P : Type 0} (turn : P → List Key → Request → Option Reply → P → Type 0) (port_of : P → LonePortView) (signal_of : P → Signal)
     → ((p : P) (path : List Key) (q : Request) (a : Option Reply) (r : P) → turn p path q a r → Watches (port_of p) (signal_of p) path q a (port_of r) (signal_of r))
-    → (problem : Board) (s : SettingsView) (before : Signal) (task : Task) (p r : P) (from to : State) (events : List Exchange)
-    → IsWatched problem s before (signal_of p) (port_of p) (worker_in task from) → Went turn task p from events r to
-    → IsWatched problem s before (signal_of r) (port_of r) (worker_in task to)
-watched_by {P} turn port_of signal_of watches problem s before task p r from to [] way went =
-    subst (λ (t : State). IsWatched problem s before (signal_of r) (port_of r) (worker_in task t)) went.1
-    (subst (λ (z : P). IsWatched problem s before (signal_of z) (port_of z) (worker_in task from)) went.0 way)
-watched_by turn port_of signal_of watches problem s before task p r from to (x ∷ xs) way went =
-    watched_by turn port_of signal_of watches problem s before task went.0 r went.1 to xs
-    (watched_on problem s before (signal_of p) (signal_of went.0) (port_of p) (port_of went.0) task from went.1 x way (watches p (path_of task from.frames) x.0 x.1 went.0 went.2) went.3)
+    → (first : LonePortView) (problem : Board) (s : SettingsView) (before : Signal) (task : Task) (p r : P) (from to : State) (events : List Exchange)
+    → IsWatched first problem s before (signal_of p) (port_of p) (worker_in task from) → Went turn task p from events r to
+    → IsWatched first problem s before (signal_of r) (port_of r) (worker_in task to)
+watched_by {P} turn port_of signal_of watches first problem s before task p r from to [] way went =
+    subst (λ (t : State). IsWatched first problem s before (signal_of r) (port_of r) (worker_in task t)) went.1
+    (subst (λ (z : P). IsWatched first problem s before (signal_of z) (port_of z) (worker_in task from)) went.0 way)
+watched_by turn port_of signal_of watches first problem s before task p r from to (x ∷ xs) way went =
+    watched_by turn port_of signal_of watches first problem s before task went.0 r went.1 to xs
+    (watched_on first problem s before (signal_of p) (signal_of went.0) (port_of p) (port_of went.0) task from went.1 x way (watches p (path_of task from.frames) x.0 x.1 went.0 went.2) went.3)
     went.4
 
 -- So from one worker to the other that it has become.
 pub watched_from : {P : Type 0} (turn : P → List Key → Request → Option Reply → P → Type 0) (port_of : P → LonePortView) (signal_of : P → Signal)
     → ((p : P) (path : List Key) (q : Request) (a : Option Reply) (r : P) → turn p path q a r → Watches (port_of p) (signal_of p) path q a (port_of r) (signal_of r))
-    → (problem : Board) (s : SettingsView) (before : Signal) (p r : P) (worker later : WorkerView) (events : List Exchange)
-    → IsWatched problem s before (signal_of p) (port_of p) worker → worker.waiting ≡ false → later.waiting ≡ false → later.task ≡ worker.task
-    → Went turn worker.task p worker.state events r later.state → IsWatched problem s before (signal_of r) (port_of r) later
-watched_from turn port_of signal_of watches problem s before p r worker later events way idle idle_later task went =
-    subst (IsWatched problem s before (signal_of r) (port_of r)) (sym (as_it_is later worker.task idle_later task))
-    (watched_by turn port_of signal_of watches problem s before worker.task p r worker.state later.state events
-    (subst (IsWatched problem s before (signal_of p) (port_of p)) (as_it_is worker worker.task idle refl) way) went)
+    → (first : LonePortView) (problem : Board) (s : SettingsView) (before : Signal) (p r : P) (worker later : WorkerView) (events : List Exchange)
+    → IsWatched first problem s before (signal_of p) (port_of p) worker → worker.waiting ≡ false → later.waiting ≡ false → later.task ≡ worker.task
+    → Went turn worker.task p worker.state events r later.state → IsWatched first problem s before (signal_of r) (port_of r) later
+watched_from turn port_of signal_of watches first problem s before p r worker later events way idle idle_later task went =
+    subst (IsWatched first problem s before (signal_of r) (port_of r)) (sym (as_it_is later worker.task idle_later task))
+    (watched_by turn port_of signal_of watches first problem s before worker.task p r worker.state later.state events
+    (subst (IsWatched first problem s before (signal_of p) (port_of p)) (as_it_is worker worker.task idle refl) way) went)
 
 -- A turn of a table and a desk that are watched: they stay the same ones, and so does the stop.
 abbrev pub Turning : {G T : Type 0} → (T → Signal) → Watched G T → List Key → Request → Option Reply → Watched G T → Type 0

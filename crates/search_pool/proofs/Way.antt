@@ -16,10 +16,10 @@ use Rattle.lone_port.specs.Lone.{LonePortView, opened}
 use Rattle.search_gate.specs.Stop.{Signal, one_more, polled}
 use Rattle.lone_port.specs.declared.event.Event.{Event}
 use Rattle.lone_port.specs.declared.event.Event.TheVariants.{Step, Raise}
-use Rattle.lone_port.specs.World.{World, Steps, IsAtWork, StepsAt, Plays, world_at_first}
-use Rattle.lone_port.specs.Alone.{IsOwn, IsOwnStep, for_one, told_to_one, world_of}
+use Rattle.lone_port.specs.World.{World, Steps, IsAtWork, StepsAt, Plays}
+use Rattle.lone_port.specs.Alone.{IsOwn, IsOwnStep, told_to_one, world_of}
 use Rattle.search_pool.specs.End.{polls_after}
-use Rattle.search_pool.specs.Inside.{says_stop, WasSaid, IsWindingUp, IsQuiet, IsUnderWay}
+use Rattle.search_pool.specs.Inside.{says_stop, WasSaid, IsWindingUp, IsQuiet, IsUnderWay, world_over}
 use Rattle.search_pool.proofs.Desk.{told_on, limits_stay}
 use Rattle.search_pool.proofs.Quiet.{says_no, says_yes}
 use Rattle.search_pool.proofs.Winding.{not_polling, said_on, said_now, winding_on}
@@ -134,10 +134,10 @@ pub polls_push : (log : List Exchange) (x : Exchange) (n : ℕ) → polls_after 
 polls_push [] x n = refl
 polls_push (y ∷ log) x n = polls_push log x (if is_poll y.0 then one_more n else n)
 
-quiet_on : (before mid after : Signal) (stops : Bool) (port : LonePortView) (worker : WorkerView) (x : Exchange) (next : LonePortView) (later : WorkerView) (schedule : List Event) (log : List Exchange)
-    → IsRequest before mid after stops port worker x next later → IsWindingUp log port worker → is_poll x.0 ≡ is_poll (asks worker.state)
+quiet_on : (first : LonePortView) (before mid after : Signal) (stops : Bool) (port : LonePortView) (worker : WorkerView) (x : Exchange) (next : LonePortView) (later : WorkerView) (schedule : List Event) (log : List Exchange)
+    → IsRequest before mid after stops port worker x next later → IsWindingUp first log port worker → is_poll x.0 ≡ is_poll (asks worker.state)
     → IsQuiet before mid schedule log → IsQuiet before after (schedule ++ new_events stops) (log ++ x ∷ [])
-quiet_on before mid after true port worker x next later schedule log r w asked (inl q) =
+quiet_on first before mid after true port worker x next later schedule log r w asked (inl q) =
     let said = says_yes (opened port true) (path_of worker.task worker.state.frames) x.0 x.1 next r.steps.turns (asked ∙ r.at_polls refl) refl in
     let now : after ≡ polled mid true = r.signal ∙ once_polled mid true (is_poll (asks worker.state)) (r.at_polls refl) in
     inr (
@@ -145,16 +145,16 @@ quiet_on before mid after true port worker x next later schedule log r w asked (
       ap (λ (z : Signal). z.raised) now ∙ ap one_more q.2,
       ap (λ (z : Signal). z.last) now ∙ sym (ap (λ (z : Signal). z.polls) now),
     )
-quiet_on before mid after true port worker x next later schedule log r w asked (inr q) =
+quiet_on first before mid after true port worker x next later schedule log r w asked (inr q) =
     absurd (not_polling worker.state.stage worker.state.frames Stopped (w.stopped q.0) (r.at_polls refl))
-quiet_on before mid after false port worker x next later schedule log r w asked (inl q) =
+quiet_on first before mid after false port worker x next later schedule log r w asked (inl q) =
     let no = says_no (opened port false) (path_of worker.task worker.state.frames) x.0 x.1 next r.steps.turns refl in
     inl (
       All-push IsOwnStep schedule (Step 1) q.0 refl,
       said_before log x q.1 no,
       ap (λ (z : Signal). z.raised) r.signal ∙ (same_field (λ (z : Signal). z.raised) mid false (is_poll (asks worker.state)) refl ∙ q.2),
     )
-quiet_on before mid after false port worker x next later schedule log r w asked (inr q) =
+quiet_on first before mid after false port worker x next later schedule log r w asked (inr q) =
     let now : after ≡ mid =
     r.signal ∙ never_polled mid false (is_poll (asks worker.state)) (not_polling worker.state.stage worker.state.frames Stopped (w.stopped q.0)) in
     inr (
@@ -167,9 +167,9 @@ abbrev tagged : Exchange → ℕ × Exchange
 tagged x = (1, x)
 
 -- A search under way goes on by one request.
-pub on_way : (problem : Board) (s : SettingsView) (before mid after : Signal) (stops : Bool) (port : LonePortView) (worker : WorkerView) (x : Exchange) (next : LonePortView) (later : WorkerView)
-    → IsUnderWay problem s before mid port worker → IsRequest before mid after stops port worker x next later → IsUnderWay problem s before after next later
-on_way problem s before mid after stops port worker x next later way r =
+pub on_way : (first : LonePortView) (problem : Board) (s : SettingsView) (before mid after : Signal) (stops : Bool) (port : LonePortView) (worker : WorkerView) (x : Exchange) (next : LonePortView) (later : WorkerView)
+    → IsUnderWay first problem s before mid port worker → IsRequest before mid after stops port worker x next later → IsUnderWay first problem s before after next later
+on_way first problem s before mid after stops port worker x next later way r =
     let asked : is_poll x.0 ≡ is_poll (asks worker.state) = ap is_poll (goes_asks worker.task worker.state later.state x r.steps.goes) in
     let polls : stops ≡ true → is_poll x.0 ≡ true = λ e. asked ∙ r.at_polls e in
     let b = is_poll (asks worker.state) in
@@ -178,9 +178,9 @@ on_way problem s before mid after stops port worker x next later way r =
       schedule = way.schedule ++ new_events stops;
       log = way.log ++ x ∷ [];
       own = All-append IsOwn way.schedule (new_events stops) way.own (own_events stops);
-      plays = subst (λ (z : List (ℕ × Exchange)). Plays (world_at_first problem (for_one s)) (way.schedule ++ new_events stops) z (world_of next later false))
+      plays = subst (λ (z : List (ℕ × Exchange)). Plays (world_over first problem) (way.schedule ++ new_events stops) z (world_of next later false))
           (sym (map_push tagged way.log x))
-          (plays_then way.schedule (new_events stops) (world_at_first problem (for_one s)) (world_of port worker false) (world_of next later false) (told_to_one way.log) ((1, x) ∷ []) way.plays
+          (plays_then way.schedule (new_events stops) (world_over first problem) (world_of port worker false) (world_of next later false) (told_to_one way.log) ((1, x) ∷ []) way.plays
           (plays_one stops port next worker later x r.going polls r.steps));
       leads = subst (λ (t : Task). Leads t (way.log ++ x ∷ []) later.state) way.task
           (r.leads way.log (subst (λ (t : Task). Leads t way.log worker.state) (sym way.task) way.leads));
@@ -189,8 +189,8 @@ on_way problem s before mid after stops port worker x next later way r =
       desk = told_on way.log x port next stops (path_of worker.task worker.state.frames) way.desk r.steps.turns;
       expansions = limits.0 ∙ way.expansions;
       room = limits.1 ∙ way.room;
-      winding = winding_on way.log x port next stops worker later way.winding r.steps.goes r.steps.turns;
-      quiet = quiet_on before mid after stops port worker x next later way.schedule way.log r way.winding asked way.quiet;
+      winding = winding_on first way.log x port next stops worker later way.winding r.steps.goes r.steps.turns;
+      quiet = quiet_on first before mid after stops port worker x next later way.schedule way.log r way.winding asked way.quiet;
       polls = ap (λ (z : Signal). z.polls) r.signal ∙ (polls_on mid stops b
           ∙ (ap (λ (n : ℕ). if b then one_more n else n) way.polls
           ∙ (ap (λ (z : Bool). if z then one_more (polls_after way.log before.polls) else polls_after way.log before.polls) (sym asked)

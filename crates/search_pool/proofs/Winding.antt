@@ -1,9 +1,10 @@
 -- When a worker winds up: behind the word that it is to stop, or that a note is posted, and from
 -- then on.
-use Rattle.std.proofs.Common.{◌≡◌, inl, inr, List, [], ◌∷◌, ◌++◌, ap, ◌∙◌, subst, Bool, true, false}
-use Rattle.std.specs.Prelude.{Some, None}
+use Rattle.std.proofs.Common.{◌≡◌, ◌⊎◌, inl, inr, List, [], ◌∷◌, ◌++◌, ap, ◌∙◌, sym, subst, Bool, true, false}
+use Rattle.std.specs.Prelude.{Option, Some, None, IsSome}
 use Rattle.std.proofs.lemmas.List.Elements.{Contains-push, Contains-push_cases, Contains-append_left}
 use Rattle.std.proofs.lemmas.Bool.{false≢true}
+use Rattle.notes.specs.Derivation.{Derivation}
 use Rattle.notes.specs.declared.words.Draw.TheVariants.{Go, Done, Spent as AllDrawn}
 use Rattle.visit_log.specs.declared.words.Reply.TheVariants.{Poll as Polled, Draw as Drew, Claim as Claimed, Look as Looked, Enter as Entered, Leave as LeftIt, Post as PostedIt}
 use Rattle.visit_log.specs.declared.parts.Stage.{Stage}
@@ -19,7 +20,7 @@ use Rattle.worker_core.specs.Port.{Goes}
 use Rattle.worker_core.proofs.Offered.{winds_on as still_winds}
 use Rattle.lone_port.specs.Lone.{LonePortView, Turns, opened}
 use Rattle.search_pool.specs.Inside.{says_stop, says_posted, WasSaid, IsWindingUp}
-use Rattle.search_pool.proofs.Desk.{posted_by}
+use Rattle.search_pool.proofs.Desk.{posted_by, posted_stays}
 
 -- 1. WHERE ONE ANSWER LEADS.
 
@@ -109,14 +110,25 @@ winds_on says end task s t log x g now before w =
     ]
 
 -- What a worker winds up for, behind a request.
-pub winding_on : (log : List Exchange) (x : Exchange) (port next : LonePortView) (stops : Bool) (worker later : WorkerView) → IsWindingUp log port worker
+pub winding_on : (first : LonePortView) (log : List Exchange) (x : Exchange) (port next : LonePortView) (stops : Bool) (worker later : WorkerView) → IsWindingUp first log port worker
     → Goes worker.task worker.state x later.state → Turns (opened port stops) (path_of worker.task worker.state.frames) x.0 x.1 next
-    → IsWindingUp (log ++ x ∷ []) next later
-winding_on log x port next stops worker later before goes turns = record {
+    → IsWindingUp first (log ++ x ∷ []) next later
+winding_on first log x port next stops worker later before goes turns = record {
   stopped = winds_on says_stop Stopped worker.task worker.state later.state log x goes (winds_stopped worker.task worker.state later.state x goes) before.stopped;
   posted = winds_on says_posted Posted worker.task worker.state later.state log x goes (winds_posted worker.task worker.state later.state x goes) before.posted;
-  is_said = λ some. elim (posted_by x port next stops (path_of worker.task worker.state.frames) turns some) as (λ _. WasSaid says_posted (log ++ x ∷ [])) [
-    | inl there ↦ said_on says_posted log x (before.is_said there)
-    | inr e ↦ said_now says_posted log x e
+  is_said = λ some. elim (posted_by x port next stops (path_of worker.task worker.state.frames) turns some) as (λ _. WasSaid says_posted (log ++ x ∷ []) ⊎ IsSome first.desk.posted) [
+    | inl there ↦ elim (before.is_said there) as (λ _. WasSaid says_posted (log ++ x ∷ []) ⊎ IsSome first.desk.posted) [
+      | inl said ↦ inl (said_on says_posted log x said)
+      | inr known ↦ inr known
+    ]
+    | inr e ↦ inl (said_now says_posted log x e)
   ];
+  still = λ some. (
+      let so = before.still some in
+      posted_stays x port next stops (path_of worker.task worker.state.frames) turns (subst IsSome (sym so) some) ∙ so);
 }
+
+-- Where nothing is posted, no note is.
+pub none_posted : {A : Type 0} (posted : Option Derivation) → posted ≡ None → IsSome posted → A
+none_posted None is some = absurd (cc)
+none_posted (Some note) is some = absurd (cc)

@@ -20,10 +20,10 @@ use Rattle.visit_log.specs.declared.words.Reply.TheVariants.{Poll as Polled, Dra
 use Rattle.visit_log.specs.Frame.{task_for}
 use Rattle.visit_log.specs.Visit.{Exchange}
 use Rattle.visit_log.specs.Run.{WorkerView, Leads}
-use Rattle.lone_port.specs.Lone.{LonePortView, Turns}
-use Rattle.lone_port.specs.World.{Plays, world_at_first}
+use Rattle.lone_port.specs.Lone.{LonePortView, Turns, worker_at_first}
+use Rattle.lone_port.specs.World.{World, Plays}
 use Rattle.lone_port.specs.declared.event.Event.{Event}
-use Rattle.lone_port.specs.Alone.{IsOwn, IsOwnStep, for_one, told_to_one, world_of}
+use Rattle.lone_port.specs.Alone.{IsOwn, IsOwnStep, told_to_one, world_of}
 use Rattle.search_pool.specs.End.{polls_after}
 
 -- From one state to the next, of a table and a desk that are watched: a poll asks the stop, answers
@@ -66,11 +66,12 @@ pub record IsToldDesk (log : List Exchange) (desk : DeskView) : Type 0 where
   pub posted : WasSaid says_posted log → IsSome desk.posted
 
 -- What was said behind which the worker winds up: that it is to stop, or that a note is posted, as
--- there is none without that.
-pub record IsWindingUp (log : List Exchange) (port : LonePortView) (worker : WorkerView) : Type 0 where
+-- there is none without that, but for the one that the first desk has; which stays.
+pub record IsWindingUp (first : LonePortView) (log : List Exchange) (port : LonePortView) (worker : WorkerView) : Type 0 where
   pub stopped : WasSaid says_stop log → worker.state.stage ≡ Winding Stopped
   pub posted : WasSaid says_posted log → worker.state.stage ≡ Winding Posted
-  pub is_said : IsSome port.desk.posted → WasSaid says_posted log
+  pub is_said : IsSome port.desk.posted → WasSaid says_posted log ⊎ IsSome first.desk.posted
+  pub still : IsSome first.desk.posted → port.desk.posted ≡ first.desk.posted
 
 -- A stop signalled nothing, and nothing of it was said; or it signalled once, that was said, and it
 -- was polled no more.
@@ -79,21 +80,34 @@ IsQuiet before after schedule log =
     (All IsOwnStep schedule × (WasSaid says_stop log → ⊥) × (after.raised ≡ before.raised))
     ⊎ (WasSaid says_stop log × (after.raised ≡ one_more before.raised) × (after.last ≡ after.polls))
 
+-- A search with one worker may begin so: with the visits and the room of the settings, of which
+-- none is drawn or claimed.
+pub record MayBegin (s : SettingsView) (port : LonePortView) : Type 0 where
+  pub expansions : port.desk.expansions ≡ s.expansions
+  pub room : port.desk.room ≡ s.room
+  pub drawn : port.desk.drawn ≡ 0
+  pub claimed : port.desk.claimed ≡ 0
+
+-- The world of one worker in the search of the problem over this table and desk, before anything
+-- happens.
+abbrev pub world_over : LonePortView → Board → World
+world_over first problem = world_of first (worker_at_first problem 1) false
+
 -- A search with one worker goes on so: the world of one worker comes by a schedule to where table,
 -- desk and worker stand; no stop waits to be told; the worker stands by the log, and winds up where
 -- it was told to; what was said of the desk holds, whose visits and room are the settings'; the
 -- stop was polled as often as it polls, and not armed; and unless the stop signalled, no stop was
 -- signalled to the worker.
-pub record IsUnderWay (problem : Board) (s : SettingsView) (before after : Signal) (port : LonePortView) (worker : WorkerView) : Type 0 where
+pub record IsUnderWay (first : LonePortView) (problem : Board) (s : SettingsView) (before after : Signal) (port : LonePortView) (worker : WorkerView) : Type 0 where
   pub schedule : List Event
   pub log : List Exchange
   pub own : All IsOwn schedule
-  pub plays : Plays (world_at_first problem (for_one s)) schedule (told_to_one log) (world_of port worker false)
+  pub plays : Plays (world_over first problem) schedule (told_to_one log) (world_of port worker false)
   pub leads : Leads (task_for problem 1) log worker.state
   pub task : worker.task ≡ task_for problem 1
   pub idle : worker.waiting ≡ false
   pub desk : IsToldDesk log port.desk
-  pub winding : IsWindingUp log port worker
+  pub winding : IsWindingUp first log port worker
   pub expansions : port.desk.expansions ≡ s.expansions
   pub room : port.desk.room ≡ s.room
   pub quiet : IsQuiet before after schedule log
@@ -104,9 +118,9 @@ pub record IsUnderWay (problem : Board) (s : SettingsView) (before after : Signa
 
 -- So with a table and a desk that are watched: those of the world are opened anew for each turn,
 -- and these never.
-abbrev pub IsWatched : Board → SettingsView → Signal → Signal → LonePortView → WorkerView → Type 0
-IsWatched problem s before after port worker =
-    (its_going : Bool) × (its_stops : Bool) × IsUnderWay problem s before after (record port { going = its_going; stops = its_stops }) worker
+abbrev pub IsWatched : LonePortView → Board → SettingsView → Signal → Signal → LonePortView → WorkerView → Type 0
+IsWatched first problem s before after port worker =
+    (its_going : Bool) × (its_stops : Bool) × IsUnderWay first problem s before after (record port { going = its_going; stops = its_stops }) worker
 
 -- The worker had all visits and all room that the desk gave.
 abbrev pub HadAll : LonePortView → WorkerView → Type 0

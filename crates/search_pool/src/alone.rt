@@ -1,11 +1,11 @@
 // A search with one worker.
-ghost use Rattle.std.specs.Prelude.{◌≡◌, ◌≤◌, ℕ, IfOk, IfSome, IfNone, ◌⊎◌, Some};
+ghost use Rattle.std.specs.Prelude.{◌≡◌, ◌≤◌, ℕ, IfOk, IfSome, IfNone, IsSome, ◌⊎◌, Some, None, All};
 ghost use Rattle.search_gate.specs.Polls.{IsPolledForEach};
 ghost use Rattle.search_limits.specs.Settings.{settings_in};
 ghost use Rattle.visit_log.specs.Machine.{end_of};
 ghost use Rattle.visit_log.specs.declared.words.WorkEnd.TheVariants.{Posted, NoMemory};
-ghost use Rattle.search_pool.specs.End.{IsAlone, IsAloneDrawing, IsAloneUntil, IsSolution, HeedsStop};
-ghost use Rattle.search_pool.specs.Inside.{IsWatched, HadAll, IsCauseOf};
+ghost use Rattle.search_pool.specs.End.{IsAlone, IsAloneDrawing, IsAloneUntil, IsDrawingFrom, IsSolution, IsSolved, HeedsStop};
+ghost use Rattle.search_pool.specs.Inside.{IsWatched, HadAll, IsCauseOf, MayBegin, world_over};
 ghost use Rattle.worker_core.specs.Port.{Suits};
 ghost use Rattle.lone_port.specs.Lone.{alone_at_first, worker_at_first, book_of};
 
@@ -29,14 +29,12 @@ fn work_watched<G: Gate, T: Stop>(
     watched: &mut Watched<'_, G, T>,
     worker: &mut Worker,
 ) -> WorkEnd
-    requires made { watched.old.port.now
-        ≡ alone_at_first problem.now.position settings.now.expansions settings.now.room
-        settings.now.rows settings.now.lends }
+    requires begins { MayBegin (settings_in settings.now) watched.old.port.now }
     requires worker { worker.old ≡ worker_at_first problem.now.position 1 }
     requires suits { Suits worker.old (book_of watched.old.port.now) }
     ensures port { watched.new.port.ghost_name ≡ watched.old.port.ghost_name }
     ensures stop { watched.new.stop.ghost_name ≡ watched.old.stop.ghost_name }
-    ensures way { IsWatched problem.now.position (settings_in settings.now)
+    ensures way { IsWatched watched.old.port.now problem.now.position (settings_in settings.now)
         (T.signal watched.old.stop.now) (T.signal watched.new.stop.now) watched.new.port.now
         worker.new }
     ensures had { HadAll watched.new.port.now worker.new }
@@ -57,13 +55,11 @@ fn work_alone<G: Gate, T: Stop>(
     gate: &G,
     stop: &mut T,
 ) -> WorkEnd
-    requires made { port.old
-        ≡ alone_at_first problem.now.position settings.now.expansions settings.now.room
-        settings.now.rows settings.now.lends }
+    requires begins { MayBegin (settings_in settings.now) port.old }
     requires worker { worker.old ≡ worker_at_first problem.now.position 1 }
     requires suits { Suits worker.old (book_of port.old) }
-    ensures way { IsWatched problem.now.position (settings_in settings.now) (T.signal stop.old)
-        (T.signal stop.new) port.new worker.new }
+    ensures way { IsWatched port.old problem.now.position (settings_in settings.now)
+        (T.signal stop.old) (T.signal stop.new) port.new worker.new }
     ensures had { HadAll port.new worker.new }
     ensures desk { port.new.desk.position ≡ problem.now.position }
     ensures ended { end_of worker.new.state ≡ Some result }
@@ -85,6 +81,51 @@ fn cause_of(settings: &Settings, end: WorkEnd) -> Option<Cause>
         WorkEnd::Stopped => Some(Cause::Stopped(1)),
         WorkEnd::Posted | WorkEnd::NoMemory => None,
     }
+}
+
+// Searches a problem over a table and a desk of which nothing is drawn or claimed: has a worker
+// work till it has ended, and tells what came of it.
+pub(crate) fn search_from<G: Gate, T: Stop>(
+    alloc: Global,
+    problem: &Problem,
+    settings: &Settings,
+    port: &mut LonePort,
+    gate: &G,
+    stop: &mut T,
+) -> Result<SearchEnd, AllocError>
+    requires begins { MayBegin (settings_in settings.now) port.old }
+    requires suits { (number : ℕ)
+        → Suits (worker_at_first problem.now.position number) (book_of port.old) }
+    ensures drawing { IfOk result (λ end.
+        IsDrawingFrom (world_over port.old problem.now.position) (settings_in settings.now)
+        (T.signal stop.old) (T.signal stop.new) end port.new.desk.drawn) }
+    ensures solution { IfOk result (IsSolution problem.now.position) }
+    // What was posted before anything happened is what it answers.
+    ensures known { IfOk result (λ end. IsSome port.old.desk.posted → IsSolved end) }
+    ensures heeds { IfOk result (λ end. port.old.desk.posted ≡ None
+        → HeedsStop (T.signal stop.old) (T.signal stop.new) end) }
+    ensures few { IfOk result (λ end. port.new.desk.drawn ≤ settings.now.expansions) }
+    ensures polled { IfOk result (λ end. IsPolledForEach 0 port.new.desk.drawn
+        (T.signal stop.old) (T.signal stop.new)) }
+    ensures armed { (T.signal stop.new).armed ≡ (T.signal stop.old).armed }
+    ensures arms { (T.signal stop.new).arms ≡ (T.signal stop.old).arms }
+    ensures early { (T.signal stop.new).early ≡ (T.signal stop.old).early }
+{
+    let mut worker = Worker::make(alloc, problem, 1);
+    let end = work_alone(alloc, problem, settings, port, &mut worker, gate, stop);
+    port.laws();
+    worker.laws();
+    visit_laws();
+    count_laws();
+    if let Some(posted) = port.posted() {
+        let note = posted.share()?;
+        note.laws();
+        return Ok(SearchEnd::Solved(note));
+    }
+    let Some(cause) = cause_of(settings, end) else {
+        return Err(AllocError);
+    };
+    Ok(SearchEnd::Unknown(cause, Crew::new(vec![in alloc; worker]?)))
 }
 
 // Searches a problem over a table and a desk that know nothing yet: has a worker work till it has
@@ -117,21 +158,7 @@ pub(crate) fn search_over<G: Gate, T: Stop>(
     ensures arms { (T.signal stop.new).arms ≡ (T.signal stop.old).arms }
     ensures early { (T.signal stop.new).early ≡ (T.signal stop.old).early }
 {
-    let mut worker = Worker::make(alloc, problem, 1);
-    let end = work_alone(alloc, problem, settings, port, &mut worker, gate, stop);
-    port.laws();
-    worker.laws();
-    visit_laws();
-    count_laws();
-    if let Some(posted) = port.posted() {
-        let note = posted.share()?;
-        note.laws();
-        return Ok(SearchEnd::Solved(note));
-    }
-    let Some(cause) = cause_of(settings, end) else {
-        return Err(AllocError);
-    };
-    Ok(SearchEnd::Unknown(cause, Crew::new(vec![in alloc; worker]?)))
+    search_from(alloc, problem, settings, port, gate, stop)
 }
 
 /// Searches a problem with one worker, whatever the settings say of workers: it works under its own

@@ -1,5 +1,5 @@
 // What is true of every search with one worker.
-ghost use Rattle.search_pool.specs.Laws.{AloneGoesOneWay, AloneHasOneAnswer};
+ghost use Rattle.search_pool.specs.Laws.{AloneGoesOneWay, AloneHasOneAnswer, FilledGoesOneWay, FilledHasOneAnswer};
 
 use board_core::order_laws;
 use path_tags::tag_laws;
@@ -11,6 +11,9 @@ use path_tags::tag_laws;
 pub fn alone_laws()
     ensures one_way { AloneGoesOneWay }
     ensures one_answer { AloneHasOneAnswer }
+    // So do two that begin from the same notes.
+    ensures filled_one_way { FilledGoesOneWay }
+    ensures filled_one_answer { FilledHasOneAnswer }
 {
     order_laws();
     tag_laws();

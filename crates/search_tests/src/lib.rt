@@ -10,6 +10,8 @@ mod desk;
 #[cfg(test)]
 mod first_numbers;
 #[cfg(test)]
+mod known_notes;
+#[cfg(test)]
 mod lengths;
 #[cfg(test)]
 mod limits;

@@ -23,14 +23,14 @@ returns-clause-way g c =
     let idle = ap (λ (w : WorkerView). w.waiting) c.requires.worker in
     let signal = g.T.Stop.signal c.args.watched.now.stop.now in
     watched_from (Turning {G = g.row.G.Denot} {T = g.row.T.Denot} g.T.Stop.signal) (λ w. w.port.now) (λ w. g.T.Stop.signal w.stop.now) (λ p path q a r turn. turn.2)
-    c.args.problem.now.position s signal c.args.watched.now c.work.new.port c.args.worker.now c.work.new.worker went.0
-    (begun c.args.problem.now.position s signal c.args.watched.now.port.now c.args.worker.now c.requires.made c.requires.worker)
+    c.args.watched.now.port.now c.args.problem.now.position s signal c.args.watched.now c.work.new.port c.args.worker.now c.work.new.worker went.0
+    (begun c.args.problem.now.position s signal c.args.watched.now.port.now c.args.worker.now c.requires.begins c.requires.worker)
     idle c.work.ensures.idle went.1.task went.1.port
 
 pub returns-clause-had : goal.returns-clause-had
 returns-clause-had g c =
     had_all c.args.watched.now.port.now c.work.new.port.port.now c.args.worker.now c.work.new.worker c.work.ensures.others
-    (had_nothing c.args.problem.now.position (settings_in c.args.settings.now) c.args.watched.now.port.now c.args.worker.now c.requires.made c.requires.worker)
+    (had_nothing c.args.problem.now.position (settings_in c.args.settings.now) c.args.watched.now.port.now c.args.worker.now c.requires.begins c.requires.worker)
 
 pub returns-clause-desk : goal.returns-clause-desk
 returns-clause-desk g c =
