@@ -1,7 +1,9 @@
 // A shard whose notes are all for one attacker.
 ghost use Rattle.std.specs.Prelude.{IfSome, ◌≡◌, ◌<◌, [], IfOk, MatchResult, length, replicate, All};
+ghost use Rattle.notes.specs.Derivation.{attacker_of};
 ghost use Rattle.pn_numbers.specs.Numbers.{IsOpen};
 ghost use Rattle.table_shard.specs.Entry.{AreFor};
+ghost use Rattle.table_shard.specs.Known.{TakesNote};
 ghost use Rattle.table_shard.specs.Row.{IsRow, LooksBy, IsKeptAt};
 ghost use Rattle.table_shard.specs.Shard.{row_of, EntersInBy, IsLeftAt};
 ghost use Rattle.table_shard.specs.Spot.{hash_of};
@@ -11,7 +13,7 @@ ghost use Rattle.visit_log.specs.Sound.{IsSoundUpdate};
 use crate::job::Job;
 use bit_boards::Side;
 use board_core::Key;
-use notes::{Kept, Seen, Update};
+use notes::{Kept, Note, Seen, Update};
 use path_tags::Path;
 use pn_numbers::Numbers;
 use std::alloc::{AllocError, Global};
@@ -132,5 +134,15 @@ impl<J: Job> JobShard<J> {
         self.shard.laws();
         let spot = self.shard.spot_at(hash);
         self.shard.leave_held(spot, slot, key, update);
+    }
+
+    /// Takes in a note that is known before anyone searches, for the attacker: as `Shard::take` has
+    /// it. Takes no memory.
+    pub fn take(&mut self, note: Note)
+        requires { attacker_of note ≡ J.ATTACKER }
+        ensures { TakesNote self.old note self.new }
+    {
+        self.shard.laws();
+        self.shard.take(note);
     }
 }

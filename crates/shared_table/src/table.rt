@@ -1,16 +1,20 @@
 // The whole table.
-ghost use Rattle.std.specs.Prelude.{◌≡◌, ◌+◌, ◌*◌, ◌^◌, ◌<◌, ◌≤◌, [], ℕ, IfOk, length, replicate, slice_index};
+ghost use Rattle.std.specs.Prelude.{◌≡◌, ◌+◌, ◌*◌, ◌^◌, ◌<◌, ◌≤◌, [], ℕ, All, IfOk, length, replicate, slice_index};
+ghost use Rattle.notes.specs.Derivation.{attacker_of};
 ghost use Rattle.worker_counts.specs.declared.view.TheConstants.{MOST_SEATS};
 ghost use Rattle.worker_counts.specs.Counts.{times, whole};
 
 use crate::job::Job;
 use crate::rows::LockedRows;
 use crate::shard::JobShard;
+use board_core::key;
 use crossbeam_utils::CachePadded;
+use notes::Note;
 use search_limits::Settings;
 use std::alloc::{AllocError, Global};
 use std::marker::Model;
 use std::sync::{Mutex, Wait};
+use table_shard::site_of;
 use worker_counts::{ClosedCounts, CountSeat, WorkerCounts};
 
 /// All shards of the table of a search, each behind a lock that lies on lines of memory of its own,
@@ -117,6 +121,28 @@ impl<J: Job, K: Job> SharedTable<J, K> {
         ensures { result.now ≡ self.now.words }
     {
         &self.words
+    }
+
+    /// Takes in notes that are known before anyone searches, for the attacker: each in its shard,
+    /// in order. Errors: want of memory alone.
+    pub fn take_all<R: Wait>(&self, wait: &R, notes: &[Note]) -> Result<(), AllocError>
+        requires { All (λ note. attacker_of note ≡ J.ATTACKER) notes.now }
+    {
+        for note in notes {
+            self.take(wait, note.share()?);
+        }
+        Ok(())
+    }
+
+    // Takes in one.
+    fn take<R: Wait>(&self, wait: &R, note: Note)
+        requires { attacker_of note ≡ J.ATTACKER }
+    {
+        let site = site_of(&key(note.position()), self.shards.len(), self.own);
+        let mut guard = self.shards[site.shard].lock(wait);
+        guard.laws();
+        guard.take(note);
+        guard.laws();
     }
 
     /// The same table for a search of the other attacker: all entries are taken out, in the time of
