@@ -22,9 +22,9 @@ use Rattle.notes.specs.declared.rule.Rule.TheVariants.{EscapeLeaf}
 use Rattle.notes.specs.declared.rule.Conclusion.TheVariants.{Escape}
 use Rattle.position_places.specs.declared.places.Places.{Places}
 use Rattle.position_places.specs.Places.{ArePlacesOf, IsWith, IsPlaceOrNext}
-use Rattle.list_laws.proofs.Standing.{contained}
-use Rattle.notes.specs.Derivation.{Derivation, IsNoLeaf, attacker_of, position_of, rule_of, tag_of}
-use Rattle.notes.specs.Sets.{AreEscapes}
+use Rattle.list_laws.proofs.Standing.{contained, contains_map}
+use Rattle.notes.specs.Derivation.{Derivation, IsNoLeaf, Ranked, attacker_of, position_of, rule_of, tag_of, beside_of}
+use Rattle.notes.specs.Sets.{AreEscapes, unranked}
 use Rattle.notes.proofs.Offered.{valid_kept}
 use Rattle.cert_extract.specs.Tree.{two_under}
 use Rattle.cert_extract.specs.Beside.{IsBeside}
@@ -188,6 +188,18 @@ pub record IsLeafAmong (note : Derivation) (set : List Board) : Type 0 where
   pub leaf : rule_of note ≡ EscapeLeaf version
   pub are : AreEscapes version (attacker_of note) set
   pub listed : Contains set (position_of note)
+  pub these : beside_of note ≡ unranked set
+
+-- it tells of all of them
+pub among_told : (note : Derivation) (set : List Board) → IsLeafAmong note set → (b : Board) → Contains set b
+    → IsBeside (rule_of note) (beside_of note) (position_of note) b
+among_told note set is b inside =
+    subst (λ (rule : Rule). IsBeside rule (beside_of note) (position_of note) b) (sym is.leaf) (
+      record { rank = 0; at = b },
+      subst (λ (beside : List Ranked). Contains beside (record { rank = 0; at = b })) (sym is.these)
+          (contains_map (λ (q : Board). record { rank = 0; at = q }) set b inside),
+      refl,
+    )
 
 module _ (version : Version) (p : Board) (top : Derivation) (positions : List Board) (rest : List Derivation) (note : Derivation)
     (walk : IsEscapeWalk version p top positions (rest ++ note ∷ [])) (set : List Board) (is : IsLeafAmong note set) where
@@ -208,8 +220,7 @@ module _ (version : Version) (p : Board) (top : Derivation) (positions : List Bo
           note = note;
           within = leaf_pending.within;
           own = leaf_pending.own;
-          tells = inr (subst (λ (rule : Rule). IsBeside rule (attacker_of note) (position_of note) b) (sym is.leaf)
-              (record { among = record { positions = set; are = is.are; listed = is.listed }; listed = inside }));
+          tells = inr (among_told note set is b inside);
           concludes = leaf_pending.concludes;
         };
         kept = set_are.kept b inside;

@@ -22,8 +22,9 @@ use Rattle.hand_dominance.specs.BorneOut.{Covers, CoversListed, CoversLower}
 use Rattle.cert_order.specs.Entries.{AreMateEntries}
 use Rattle.notes.specs.declared.rule.Rule.TheVariants.{MateBy, MateLeaf}
 use Rattle.notes.specs.declared.rule.Conclusion.TheVariants.{Mate}
-use Rattle.notes.specs.Derivation.{Derivation, IsNoLeaf, attacker_of, position_of, rule_of, height_of}
-use Rattle.notes.specs.Sets.{AreMates}
+use Rattle.notes.specs.Derivation.{Derivation, IsNoLeaf, Ranked, attacker_of, position_of, rule_of, height_of, beside_of}
+use Rattle.cert_extract.specs.Beside.{IsToldBeside}
+use Rattle.notes.specs.Sets.{AreMates, ranked}
 use Rattle.notes.proofs.Offered.{valid_kept}
 use Rattle.cert_extract.specs.Tree.{two_under}
 use Rattle.cert_extract.specs.Extracted.{IsMateFrom}
@@ -298,6 +299,7 @@ pub record IsLeafWith (note : Derivation) (set : List MateEntry) (rank : ℕ) : 
   pub leaf : rule_of note ≡ MateLeaf version rank
   pub are : AreMates version (attacker_of note) set
   pub listed : IsListedWith set rank (position_of note)
+  pub these : beside_of note ≡ ranked set
 
 -- it wants its own entry
 pub own_wanted : (note : Derivation) (set : List MateEntry) (rank : ℕ) (is : IsLeafWith note set rank) → IsWanted set (position_of note) rank is.listed.entry
@@ -305,6 +307,16 @@ own_wanted note set rank is = record { inside = is.listed.listed; low = inr (is.
 
 pub wanted_low : (set : List MateEntry) (b : Board) (rank : ℕ) (entry : MateEntry) → IsWanted set b rank entry → entry.rank.number ≤ rank
 wanted_low set b rank entry wanted = elim wanted.low [ inl less ↦ omega (arith, less) | inr same ↦ let e = same.0 in omega (arith, e) ]
+
+-- what it wants it tells of
+pub wanted_told : (note : Derivation) (set : List MateEntry) (rank : ℕ) (is : IsLeafWith note set rank) (entry : MateEntry)
+    → IsWanted set (position_of note) rank entry
+    → IsToldBeside (beside_of note) rank (position_of note) (record { rank = entry.rank.number; at = entry.at })
+wanted_told note set rank is entry wanted = record {
+  inside = subst (λ (beside : List Ranked). Contains beside (record { rank = entry.rank.number; at = entry.at })) (sym is.these)
+      (contains_map (λ (e : MateEntry). record { rank = e.rank.number; at = e.at }) set entry wanted.inside);
+  low = wanted.low;
+}
 
 module _ (version : Version) (p : Board) (top : Derivation) (entries : List MateEntry) (rest : List Derivation) (note : Derivation)
     (walk : IsMateWalk version p top entries (rest ++ note ∷ [])) (set : List MateEntry) (rank : ℕ) (is : IsLeafWith note set rank)
@@ -333,11 +345,7 @@ module _ (version : Version) (p : Board) (top : Derivation) (entries : List Mate
             version = is.version;
             rank = rank;
             leaf = is.leaf;
-            beside = record {
-              among = record { entries = set; are = is.are; listed = is.listed };
-              listed = wanted.inside;
-              low = wanted_low set (position_of note) rank entry wanted;
-            };
+            beside = wanted_told note set rank is entry wanted;
           });
         };
         kept = borne.0;

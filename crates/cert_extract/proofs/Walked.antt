@@ -11,7 +11,7 @@ use Rattle.shogi_rules.specs.Laws.{LegalBoardMoves}
 use Rattle.notes.specs.declared.rule.Rule.{Rule}
 use Rattle.notes.specs.declared.rule.Conclusion.TheVariants.{Mate, Escape}
 use Rattle.hand_dominance.specs.declared.version.Version.{Version}
-use Rattle.notes.specs.Derivation.{Derivation, IsNoLeaf, attacker_of, position_of, rule_of, height_of, concluded, conclusion_of, source_of}
+use Rattle.notes.specs.Derivation.{Derivation, IsNoLeaf, position_of, rule_of, height_of, concluded, conclusion_of, source_of, beside_of}
 use Rattle.notes.specs.Valid.{IsValid}
 use Rattle.cert_extract.specs.Tree.{two_under}
 use Rattle.cert_extract.specs.Walk.{IsUnderOne, MayFollow, IsWalk}
@@ -23,8 +23,8 @@ use Rattle.cert_extract.specs.Listing.{IsFull, IsLowerThanListed, StayListed, Ha
 use Rattle.cert_extract.proofs.Trees.{of_reverse}
 use Rattle.cert_extract.proofs.Rules.{leaf_high}
 use Rattle.cert_extract.proofs.Grown.{full_behind}
-use Rattle.cert_extract.proofs.Escapes.{IsListed, IsEscapeWalk, IsLeafAmong, none_in, first_pending, popped, next_listed, set_listed}
-use Rattle.cert_extract.proofs.Mates.{IsListedMate, IsMateWalk, IsEntryOf, IsLeafWith, StandsFor, not_listed, own_wanted, wanted_low, wanted_listed, its_listed, at_next}
+use Rattle.cert_extract.proofs.Escapes.{IsListed, IsEscapeWalk, IsLeafAmong, none_in, first_pending, popped, next_listed, set_listed, among_told}
+use Rattle.cert_extract.proofs.Mates.{IsListedMate, IsMateWalk, IsEntryOf, IsLeafWith, StandsFor, not_listed, own_wanted, wanted_told, wanted_listed, its_listed, at_next}
 
 -- 1. A walk, of which a note more is walked
 
@@ -239,9 +239,7 @@ module _ {A : Type 0} (v : A → Derivation) where
 
       -- what stands beside a leaf is told by it
       beside : (set : List Board) → IsLeafAmong (v next) set → (b : Board) → Contains set b → Tells (v next) b
-      beside set leaf b inside =
-          inr (subst (λ (rule : Rule). IsBeside rule (attacker_of (v next)) (position_of (v next)) b) (sym leaf.leaf)
-          (record { among = record { positions = set; are = leaf.are; listed = leaf.listed }; listed = inside }))
+      beside set leaf b inside = inr (among_told (v next) set leaf b inside)
 
       pub escapes_leaf_on : (new set : List Board) → IsLeafAmong (v next) set → HasPutAll set positions new → SomeWalked top new (map v rest)
       escapes_leaf_on new set leaf has = (
@@ -315,7 +313,8 @@ still_low entries more n stay h =
 -- of what a leaf says an entry, it tells of its position
 leaf_tells : (note : Derivation) (entry : MateEntry) → IsLeafOf note entry → Tells note entry.at
 leaf_tells note entry leaf =
-    inr (subst (λ (rule : Rule). IsBeside rule (attacker_of note) (position_of note) entry.at) (sym leaf.leaf) (entry, leaf.beside, refl))
+    inr (subst (λ (rule : Rule). IsBeside rule (beside_of note) (position_of note) entry.at) (sym leaf.leaf)
+    (record { rank = entry.rank.number; at = entry.at }, leaf.beside, refl))
 
 met_mate : (attacker : Side) (top : Derivation) (entry : MateEntry) → conclusion_of top ≡ Mate → IsListedMate attacker top entry
     → IsMet top attacker entry.at
@@ -457,11 +456,7 @@ module _ {A : Type 0} (v : A → Derivation) where
         version = leaf.version;
         rank = rank;
         leaf = leaf.leaf;
-        beside = record {
-          among = record { entries = set; are = leaf.are; listed = leaf.listed };
-          listed = wanted.inside;
-          low = wanted_low set (position_of (v next)) rank entry wanted;
-        };
+        beside = wanted_told (v next) set rank leaf entry wanted;
       })
 
       leaf_on : (more : List MateEntry) → HasListedLeaf set (position_of (v next)) rank entries more → MatesWalked top more (map v rest)

@@ -1,32 +1,23 @@
--- What a note tells: its own position, and what a leaf is listed with.
-use Rattle.std.specs.Prelude.{◌≡◌, ◌≤◌, ◌⊎◌, ℕ, Contains}
-use Rattle.bit_boards.specs.declared.piece.Side.{Side}
+-- What a note tells: its own position, and what a leaf stands among.
+use Rattle.std.specs.Prelude.{◌≡◌, ◌<◌, ◌⊎◌, ℕ, List, Contains}
 use Rattle.board_core.specs.Board.{Board}
-use Rattle.mate_facts.specs.declared.entry.MateEntry.{MateEntry}
-use Rattle.hand_dominance.specs.declared.version.Version.{Version}
 use Rattle.notes.specs.declared.rule.Rule.{Rule}
 use Rattle.notes.specs.declared.rule.Rule.TheVariants.{MateLeaf, EscapeLeaf}
-use Rattle.notes.specs.Derivation.{Derivation, rule_of, attacker_of, position_of}
-use Rattle.notes.specs.Sets.{IsAmongMates, IsAmongEscapes}
+use Rattle.notes.specs.Derivation.{Derivation, Ranked, rule_of, position_of, beside_of}
 
--- The entry stands beside a position of this rank: both are listed among the entries of a mate, and
--- its own rank isn't greater.
-pub record IsEntryBeside (version : Version) (attacker : Side) (rank : ℕ) (own : Board) (entry : MateEntry) : Type 0 where
-  pub among : IsAmongMates version attacker rank own
-  pub listed : Contains among.entries entry
-  pub low : entry.rank.number ≤ rank
+-- A leaf of a mate, of this rank and about this position, tells of one of those that it stands
+-- among: that is of lower rank, or the leaf's own.
+pub record IsToldBeside (beside : List Ranked) (rank : ℕ) (own : Board) (one : Ranked) : Type 0 where
+  pub inside : Contains beside one
+  pub low : (one.rank < rank) ⊎ ((one.rank ≡ rank) × (one.at ≡ own))
 
--- The one position stands beside the other: both are positions of an escape.
-pub record IsPositionBeside (version : Version) (attacker : Side) (own b : Board) : Type 0 where
-  pub among : IsAmongEscapes version attacker own
-  pub listed : Contains among.positions b
+-- A leaf with this rule, which stands among these and is about the one position, tells of the
+-- other: of a mate one of lower rank or its own, of an escape any. Another note tells of none.
+abbrev pub IsBeside : Rule → List Ranked → Board → Board → Type 0
+IsBeside (MateLeaf version rank) beside own b = (one : Ranked) × IsToldBeside beside rank own one × (one.at ≡ b)
+IsBeside (EscapeLeaf version) beside own b = (one : Ranked) × Contains beside one × (one.at ≡ b)
+IsBeside rule beside own b = ⊥
 
--- A leaf with this rule, about the one position, stands beside the other; another note beside none.
-abbrev pub IsBeside : Rule → Side → Board → Board → Type 0
-IsBeside (MateLeaf version rank) attacker own b = (entry : MateEntry) × IsEntryBeside version attacker rank own entry × (entry.at ≡ b)
-IsBeside (EscapeLeaf version) attacker own b = IsPositionBeside version attacker own b
-IsBeside rule attacker own b = ⊥
-
--- A note tells of a position: it is its own, or stands beside it, where the note is a leaf.
+-- A note tells of a position: it is its own, or one that it tells of as a leaf.
 abbrev pub Tells : Derivation → Board → Type 0
-Tells note b = (position_of note ≡ b) ⊎ IsBeside (rule_of note) (attacker_of note) (position_of note) b
+Tells note b = (position_of note ≡ b) ⊎ IsBeside (rule_of note) (beside_of note) (position_of note) b

@@ -12,11 +12,11 @@ use Rattle.hand_dominance.specs.declared.version.Version.{Version}
 use Rattle.notes.specs.declared.rule.Rule.TheVariants.{MateBy, MateLeaf}
 use Rattle.notes.specs.declared.rule.Conclusion.{Conclusion}
 use Rattle.notes.specs.declared.rule.Conclusion.TheVariants.{Mate, Escape}
-use Rattle.notes.specs.Derivation.{Derivation, IsNoLeaf, IsOwn, rule_of, attacker_of, position_of, height_of, conclusion_of}
+use Rattle.notes.specs.Derivation.{Derivation, IsNoLeaf, IsOwn, rule_of, position_of, height_of, beside_of, conclusion_of}
 use Rattle.cert_extract.specs.declared.ends.ExtractEnd.{ExtractEnd}
 use Rattle.cert_extract.specs.declared.ends.ExtractEnd.TheVariants.{TooMany, NoMemory}
 use Rattle.cert_extract.specs.Tree.{IsIn}
-use Rattle.cert_extract.specs.Beside.{IsEntryBeside, Tells}
+use Rattle.cert_extract.specs.Beside.{IsToldBeside, Tells}
 use Rattle.cert_extract.specs.Walk.{IsWalk}
 
 -- What a certificate of a conclusion claims.
@@ -31,13 +31,13 @@ pub record IsStepOf (note : Derivation) (entry : MateEntry) : Type 0 where
   pub by : rule_of note ≡ MateBy entry.by
   pub high : height_of note ≡ 2 * entry.rank.number
 
--- A leaf says an entry: its position is listed with it, and the entry's rank isn't above the
--- leaf's.
+-- A leaf says an entry: it stands among the entry's position with its rank, which is lower, or the
+-- entry is its own.
 pub record IsLeafOf (note : Derivation) (entry : MateEntry) : Type 0 where
   pub version : Version
   pub rank : ℕ
   pub leaf : rule_of note ≡ MateLeaf version rank
-  pub beside : IsEntryBeside version (attacker_of note) rank (position_of note) entry
+  pub beside : IsToldBeside (beside_of note) rank (position_of note) (record { rank = entry.rank.number; at = entry.at })
 
 -- A mate's entry comes from the tree: a note in it says it, by a step or as a leaf.
 pub record IsMateFrom (tree : Derivation) (entry : MateEntry) : Type 0 where

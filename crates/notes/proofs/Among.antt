@@ -1,5 +1,5 @@
 -- What a note stands among, and the leaves of a set.
-use Rattle.std.proofs.Common.{◌<◌, ℕ, List, [], Contains, refl, subst}
+use Rattle.std.proofs.Common.{◌≡◌, ◌<◌, ℕ, List, [], Contains, ap, refl, subst}
 use Rattle.bit_boards.specs.declared.piece.Side.{Side}
 use Rattle.bit_boards.specs.Kind.{other}
 use Rattle.board_core.specs.Board.{Board, kings_of}
@@ -7,8 +7,14 @@ use Rattle.mate_facts.specs.declared.entry.MateEntry.{MateEntry}
 use Rattle.hand_dominance.specs.declared.version.Version.{Version}
 use Rattle.notes.specs.declared.rule.Rule.{Rule}
 use Rattle.notes.specs.declared.rule.Rule.TheVariants.{MateLeaf, EscapeLeaf}
-use Rattle.notes.specs.Derivation.{IsNoLeaf, step_over}
-use Rattle.notes.specs.Sets.{AreMates, AreEscapes, IsProblemOf}
+use Rattle.notes.specs.Derivation.{IsNoLeaf, Ranked, step_among}
+use Rattle.notes.specs.Set.{entries_of, positions_of, ranked_of, entries_with, positions_with, ranked_with}
+use Rattle.notes.specs.Sets.{AreMates, AreEscapes, IsProblemOf, ranked, unranked}
+use Rattle.notes.specs.declared.set.Set.{Set}
+use Rattle.notes.specs.declared.set.Set.TheVariants as sets
+use Rattle.std.specs.Prelude.{Option, Some, None}
+use Rattle.std.specs.declared.sync.Arc.{Arc}
+use Rattle.std.specs.declared.alloc.Global.{Global}
 use Rattle.notes.specs.Valid.{IsInPlay, StandsAmong, meets}
 
 -- what is no leaf stands among none
@@ -30,10 +36,10 @@ module _ (version : Version) (attacker : Side) (entries : List MateEntry) (entry
   pub mate_play : IsInPlay attacker entry.at
   mate_play = in_play attacker entry.at (are.problems entry there)
 
-  pub mate_meets : (height : ℕ)
-      → meets (MateLeaf version entry.rank.number) (step_over (MateLeaf version entry.rank.number) attacker entry.at [] height) []
-  mate_meets height = (
-    record { entries = entries; are = are; listed = record { entry = entry; listed = there; same = refl; has_rank = refl } },
+  pub mate_meets : (height : ℕ) (beside : List Ranked) → beside ≡ ranked entries
+      → meets (MateLeaf version entry.rank.number) (step_among (MateLeaf version entry.rank.number) attacker entry.at [] height beside) []
+  mate_meets height beside these = (
+    record { entries = entries; are = are; listed = record { entry = entry; listed = there; same = refl; has_rank = refl }; these = these },
     refl,
     refl,
   )
@@ -47,8 +53,26 @@ module _ (version : Version) (attacker : Side) (positions : List Board) (b : Boa
   pub escape_play : IsInPlay attacker b
   escape_play = in_play attacker b (are.problems b there)
 
-  pub escape_meets : (height : ℕ) → meets (EscapeLeaf version) (step_over (EscapeLeaf version) attacker b [] height) []
-  escape_meets height = (record { positions = positions; are = are; listed = there }, refl, refl)
+  pub escape_meets : (height : ℕ) (beside : List Ranked) → beside ≡ unranked positions
+      → meets (EscapeLeaf version) (step_among (EscapeLeaf version) attacker b [] height beside) []
+  escape_meets height beside these = (record { positions = positions; are = are; listed = there; these = these }, refl, refl)
 
   pub escape_stands : StandsAmong (EscapeLeaf version) attacker b [] positions
   escape_stands = (are, there, refl)
+
+-- what a set has, by its entries or its positions alone
+pub ranked_mates : (set : Option (Arc Set Global)) → positions_with set ≡ [] → ranked_with set ≡ ranked (entries_with set)
+ranked_mates None none = refl
+ranked_mates (Some set) none = by_set set.value none
+  where
+    by_set : (it : Set) → positions_of it ≡ [] → ranked_of it ≡ ranked (entries_of it)
+    by_set (sets.Mate entries) none = refl
+    by_set (sets.Escape positions) none = ap unranked none
+
+pub ranked_escapes : (set : Option (Arc Set Global)) → entries_with set ≡ [] → ranked_with set ≡ unranked (positions_with set)
+ranked_escapes None none = refl
+ranked_escapes (Some set) none = by_set set.value none
+  where
+    by_set : (it : Set) → entries_of it ≡ [] → ranked_of it ≡ unranked (positions_of it)
+    by_set (sets.Mate entries) none = ap ranked none
+    by_set (sets.Escape positions) none = refl

@@ -10,14 +10,21 @@ use Rattle.notes.specs.declared.rule.Rule.TheVariants.{MateEnd, MateAll, MateBy,
 use Rattle.notes.specs.declared.rule.Conclusion.{Conclusion}
 use Rattle.notes.specs.declared.rule.Conclusion.TheVariants.{Mate, Escape}
 
+-- A position that a leaf stands among, with its rank; 0 where it is one of an escape.
+pub record Ranked : Type 0 where
+  pub rank : ℕ
+  pub at : Board
+
 -- A step: its rule, the side that attacks, the position that it is about, its tag (the keys,
--- rising, of the positions on whose repetition it depends), and its height.
+-- rising, of the positions on whose repetition it depends), its height, and what a leaf stands
+-- among, which is nothing of any other step.
 pub record Step : Type 0 where
   pub rule : Rule
   pub attacker : Side
   pub position : Board
   pub tag : List Key
   pub height : ℕ
+  pub beside : List Ranked
 
 -- A derivation: its last step, and the derivations under it, in their order.
 mutual
@@ -44,9 +51,19 @@ listed-derivations [] = λ i. []
 listed-derivations (note ∷ notes) = λ i. note ∷ listed-derivations notes i
 
 -- The step with these parts.
+abbrev pub step_among : Rule → Side → Board → List Key → ℕ → List Ranked → Step
+step_among its_rule its_attacker its_position its_tag its_height its_beside = record {
+  rule = its_rule;
+  attacker = its_attacker;
+  position = its_position;
+  tag = its_tag;
+  height = its_height;
+  beside = its_beside;
+}
+
+-- The step with these parts, which stands among none.
 abbrev pub step_over : Rule → Side → Board → List Key → ℕ → Step
-step_over its_rule its_attacker its_position its_tag its_height =
-    record { rule = its_rule; attacker = its_attacker; position = its_position; tag = its_tag; height = its_height }
+step_over its_rule its_attacker its_position its_tag its_height = step_among its_rule its_attacker its_position its_tag its_height []
 
 -- The note whose last step has these parts, over these notes.
 abbrev pub note_over : Rule → Side → Board → List Key → ℕ → List Derivation → Derivation
@@ -80,6 +97,10 @@ tag_of note = (step_of note).tag
 -- A note's height.
 abbrev pub height_of : Derivation → ℕ
 height_of note = (step_of note).height
+
+-- What a leaf stands among; nothing of another note.
+abbrev pub beside_of : Derivation → List Ranked
+beside_of note = (step_of note).beside
 
 -- What a rule concludes.
 abbrev pub concluded : Rule → Conclusion
@@ -144,13 +165,13 @@ abbrev mutual
 abbrev pub carried : Side → Board → Derivation → Derivation
 carried attacker b note = note_over (Carry (conclusion_of note)) attacker b [] (height_of note) (note ∷ [])
 
--- A leaf: the position is listed with this rank among the entries of a mate.
-abbrev pub mate_leaf : Version → Side → Board → ℕ → Derivation
-mate_leaf version attacker b rank = note_over (MateLeaf version rank) attacker b [] (2 * rank) []
+-- A leaf: the position is listed with this rank among these of a mate.
+abbrev pub mate_leaf : Version → Side → List Ranked → Board → ℕ → Derivation
+mate_leaf version attacker beside b rank = derived (step_among (MateLeaf version rank) attacker b [] (2 * rank) beside) none_under
 
--- A leaf: the position is one of some of an escape.
-abbrev pub escape_leaf : Version → Side → Board → Derivation
-escape_leaf version attacker b = note_over (EscapeLeaf version) attacker b [] 1 []
+-- A leaf: the position is one of these of an escape.
+abbrev pub escape_leaf : Version → Side → List Ranked → Board → Derivation
+escape_leaf version attacker beside b = derived (step_among (EscapeLeaf version) attacker b [] 1 beside) none_under
 
 -- The note itself; where the rule carries a note, that one's source.
 abbrev pub source_by : Rule → Derivation → Derivation → Derivation

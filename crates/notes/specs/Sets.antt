@@ -1,5 +1,5 @@
--- Positions that are known together: the entries of a mate of which each bears out the others, and
--- the positions of an escape that are closed. What an accepted certificate lists is such a set.
+-- Positions that are known together: the entries of a mate, each of which is borne out by them all,
+-- and the positions of an escape that are closed. What an accepted certificate lists is such a set.
 use Rattle.std.specs.Prelude.{◌≡◌, ℕ, List, Contains, filter, map, nat_lt}
 use Rattle.bit_boards.specs.declared.piece.Side.{Side}
 use Rattle.board_core.specs.Board.{Board}
@@ -8,7 +8,7 @@ use Rattle.mate_facts.specs.declared.entry.MateEntry.{MateEntry}
 use Rattle.mate_facts.specs.Entries.{IsListedWith}
 use Rattle.hand_dominance.specs.declared.version.Version.{Version}
 use Rattle.hand_dominance.specs.BorneOut.{AreBorneOut, AreClosed, AreKept}
-use Rattle.notes.specs.Derivation.{Derivation, mate_leaf, escape_leaf}
+use Rattle.notes.specs.Derivation.{Derivation, Ranked, mate_leaf, escape_leaf}
 
 -- A problem in which the attacker is to move.
 pub record IsProblemOf (attacker : Side) (b : Board) : Type 0 where
@@ -28,27 +28,42 @@ pub record AreEscapes (version : Version) (attacker : Side) (positions : List Bo
   pub kept : AreKept positions
   pub closed : AreClosed version positions attacker
 
--- The position is listed with this rank among the entries of a mate.
-pub record IsAmongMates (version : Version) (attacker : Side) (rank : ℕ) (b : Board) : Type 0 where
+-- The positions of a mate's entries, with their ranks.
+abbrev pub ranked : List MateEntry → List Ranked
+ranked entries = map (λ entry. record { rank = entry.rank.number; at = entry.at }) entries
+
+-- The positions of an escape, without a rank.
+abbrev pub unranked : List Board → List Ranked
+unranked positions = map (λ b. record { rank = 0; at = b }) positions
+
+-- The position is listed with this rank among the entries of a mate, which are these.
+pub record IsAmongMates (version : Version) (attacker : Side) (rank : ℕ) (b : Board) (beside : List Ranked) : Type 0 where
   pub entries : List MateEntry
   pub are : AreMates version attacker entries
   pub listed : IsListedWith entries rank b
+  pub these : beside ≡ ranked entries
 
--- The position is one of an escape.
-pub record IsAmongEscapes (version : Version) (attacker : Side) (b : Board) : Type 0 where
+-- The position is one of an escape, whose positions are these.
+pub record IsAmongEscapes (version : Version) (attacker : Side) (b : Board) (beside : List Ranked) : Type 0 where
   pub positions : List Board
   pub are : AreEscapes version attacker positions
   pub listed : Contains positions b
+  pub these : beside ≡ unranked positions
 
 -- The entries that a leaf can be about: those whose rank isn't above 2,048, half the greatest
 -- height of a note.
 abbrev pub low_entries : List MateEntry → List MateEntry
 low_entries entries = filter (λ entry. nat_lt entry.rank.number 2049) entries
 
+-- The leaves of some entries of a mate, which stand among these.
+abbrev pub mate_leaves_among : Version → Side → List Ranked → List MateEntry → List Derivation
+mate_leaves_among version attacker beside entries =
+    map (λ entry. mate_leaf version attacker beside entry.at entry.rank.number) (low_entries entries)
+
 -- The leaves of a mate's entries.
 abbrev pub mate_leaves_of : Version → Side → List MateEntry → List Derivation
-mate_leaves_of version attacker entries = map (λ entry. mate_leaf version attacker entry.at entry.rank.number) (low_entries entries)
+mate_leaves_of version attacker entries = mate_leaves_among version attacker (ranked entries) entries
 
 -- The leaves of an escape's positions.
 abbrev pub escape_leaves_of : Version → Side → List Board → List Derivation
-escape_leaves_of version attacker positions = map (escape_leaf version attacker) positions
+escape_leaves_of version attacker positions = map (escape_leaf version attacker (unranked positions)) positions

@@ -17,7 +17,7 @@ use Rattle.notes.specs.declared.rule.Rule.{Rule}
 use Rattle.notes.specs.declared.rule.Rule.TheVariants.{MateEnd, MateAll, MateBy, EscapeEnd, EscapeBy, EscapeRepeat, EscapeAll, Carry, MateLeaf, EscapeLeaf}
 use Rattle.notes.specs.declared.rule.Conclusion.{Conclusion}
 use Rattle.notes.specs.declared.rule.Conclusion.TheVariants.{Mate, Escape}
-use Rattle.notes.specs.Derivation.{Step, Derivation, Derivations, derived, none_under, one_under, listed, rule_of, attacker_of, position_of, tag_of, conclusion_of, height_by, version_in}
+use Rattle.notes.specs.Derivation.{Step, Derivation, Derivations, derived, none_under, one_under, listed, rule_of, attacker_of, position_of, tag_of, conclusion_of, height_by, version_in, IsNoLeaf}
 use Rattle.mate_facts.specs.declared.entry.MateEntry.{MateEntry}
 use Rattle.mate_facts.specs.Entries.{IsListedWith}
 use Rattle.notes.specs.Sets.{AreMates, AreEscapes, IsAmongMates, IsAmongEscapes}
@@ -115,11 +115,11 @@ meets (EscapeRepeat evasion) s notes = IsEvasion s.attacker s.position evasion �
     × IsKeyAlone s.tag (after s.position evasion)
 meets EscapeAll s notes = EscapesAfterAll s.attacker s.position notes × JoinsTags s.tag s.position notes
 meets (Carry conclusion) s notes = CarriesOne conclusion s.attacker s.position notes × (s.tag ≡ [])
-meets (MateLeaf version rank) s notes = IsAmongMates version s.attacker rank s.position × (notes ≡ []) × (s.tag ≡ [])
-meets (EscapeLeaf version) s notes = IsAmongEscapes version s.attacker s.position × (notes ≡ []) × (s.tag ≡ [])
+meets (MateLeaf version rank) s notes = IsAmongMates version s.attacker rank s.position s.beside × (notes ≡ []) × (s.tag ≡ [])
+meets (EscapeLeaf version) s notes = IsAmongEscapes version s.attacker s.position s.beside × (notes ≡ []) × (s.tag ≡ [])
 
 -- A step meets its rule at a position as play has it; its tag rises; its height is the one by its
--- rule, and at most 4,096.
+-- rule, and at most 4,096; and it stands among nothing, unless it is a leaf.
 pub record IsStep (s : Step) (notes : List Derivation) : Type 0 where
   pub kept : IsKept s.position
   pub play : IsInPlay s.attacker s.position
@@ -127,6 +127,7 @@ pub record IsStep (s : Step) (notes : List Derivation) : Type 0 where
   pub rising : IsRising s.tag
   pub height : s.height ≡ height_by s.rule notes
   pub low : s.height ≤ 4096
+  pub alone : IsNoLeaf s.rule → s.beside ≡ []
 
 -- A note is valid where each of its steps is.
 abbrev mutual

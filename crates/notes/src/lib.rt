@@ -9,8 +9,8 @@
 //! tree (`specs/Derivation.antt`); its type keeps that every step of it meets its rule
 //! (`specs/Valid.antt`); [`Note::laws`] says what is then true (`specs/Truth.antt`). A note that
 //! depends on no repetition may be carried to other hands ([`carry`]), and lent by keys alone
-//! ([`may_be_lent`], `specs/Lending.antt`). What was found before, and listed where each entry
-//! bears out the others, is told by leaves ([`mate_leaves`], [`escape_leaves`], `specs/Sets.antt`).
+//! ([`may_be_lent`], `specs/Lending.antt`). What was found before, and listed with all that
+//! bears it out, is told by leaves ([`mate_leaves`], [`escape_leaves`], `specs/Sets.antt`).
 #![tactic(auto)]
 
 mod carried;

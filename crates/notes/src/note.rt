@@ -1,8 +1,8 @@
 // A note, and how one is made over others.
 ghost use Rattle.std.specs.Prelude.{◌≡◌, ◌+◌, ◌≤◌, ◌↔◌, [], IfOk, IsTrue};
-ghost use Rattle.notes.specs.Derivation.{derivations, step_over, note_over, height_by, conclusion_of, rule_of, attacker_of, position_of, tag_of, height_of, source_of, under_of, version_by, version_in, IsNoLeaf, IsOwn};
+ghost use Rattle.notes.specs.Derivation.{derivations, derived, none_under, step_among, step_over, note_over, height_by, conclusion_of, rule_of, attacker_of, position_of, tag_of, height_of, source_of, under_of, version_by, version_in, IsNoLeaf, IsOwn};
 ghost use Rattle.notes.specs.Valid.{IsInPlay, IsValid, AreValid, StandsAmong, meets};
-ghost use Rattle.notes.specs.Set.{entries_of, positions_of};
+ghost use Rattle.notes.specs.Set.{entries_of, positions_of, ranked_of};
 ghost use Rattle.notes.specs.Truth.{IsTrueNote, NotesAreTrue};
 ghost use Rattle.hand_dominance.specs.declared.version.Version.TheVariants.{One};
 ghost use Rattle.notes.specs.Standing.{AreEntriesAbout, ArePositionsAbout};
@@ -73,19 +73,19 @@ struct Node {
 impl Model for Note {
     ghost use Rattle.std.specs.Coded.{codes};
     ghost use Rattle.std.proofs.Common.{arith};
-    ghost use Rattle.notes.specs.Derivation.{Derivation, note_over, steps_of};
+    ghost use Rattle.notes.specs.Derivation.{Derivation, derivations, derived, step_among, steps_of};
     ghost use Rattle.notes.specs.Code.{coded_derivation};
     ghost use Rattle.notes.specs.Valid.{Keeps};
-    ghost use Rattle.notes.specs.Set.{entries_with, positions_with};
+    ghost use Rattle.notes.specs.Set.{entries_with, positions_with, ranked_with};
     ghost use Rattle.notes.specs.Steps.{most_le-steps};
 
     ghost Value = { Derivation };
 
     ghost coded = { coded_derivation (Prim.hlevel codes) };
 
-    ghost view = { λ n. note_over n.node.value.rule n.node.value.attacker n.node.value.position n.node.value.tag n.node.value.height n.node.value.under.items };
+    ghost view = { λ n. derived (step_among n.node.value.rule n.node.value.attacker n.node.value.position n.node.value.tag n.node.value.height (ranked_with n.node.value.set)) (derivations n.node.value.under.items) };
 
-    ghost invariant = { λ n. Keeps (note_over n.node.value.rule n.node.value.attacker n.node.value.position n.node.value.tag n.node.value.height n.node.value.under.items) n.node.value.version (entries_with n.node.value.set) (positions_with n.node.value.set) };
+    ghost invariant = { λ n. Keeps (derived (step_among n.node.value.rule n.node.value.attacker n.node.value.position n.node.value.tag n.node.value.height (ranked_with n.node.value.set)) (derivations n.node.value.under.items)) n.node.value.version (entries_with n.node.value.set) (positions_with n.node.value.set) };
 
     ghost size = { steps_of };
 
@@ -142,13 +142,16 @@ impl Note {
         set: &Arc<Set>,
     ) -> Result<Note, AllocError>
         requires play { IsInPlay attacker position.now }
-        requires rule { meets rule (step_over rule attacker position.now [] height) [] }
+        requires rule { meets rule (step_among rule attacker position.now [] height
+            (ranked_of set.now.value)) [] }
+        requires leaf { ¬ IsNoLeaf rule }
         requires height { height ≡ height_by rule [] }
         requires low { height ≤ 4096 }
         requires version { version ≡ version_by rule One }
         requires set { StandsAmong rule attacker position.now (entries_of set.now.value)
             (positions_of set.now.value) }
-        ensures { IfOk result (λ note. note ≡ note_over rule attacker position.now [] height []) }
+        ensures { IfOk result (λ note. note ≡ derived (step_among rule attacker position.now []
+            height (ranked_of set.now.value)) none_under) }
     {
         position.laws();
         let tag = Tag::empty(alloc);
@@ -213,8 +216,9 @@ impl Note {
         &self.node.tag
     }
 
-    /// How high its tree is: as high as the note that it carries, where it carries one; else 1 more
-    /// than the greatest height under it, 1 where nothing is; at most 4,096. Takes no memory.
+    /// How high its tree is: as high as the note that it carries, where it carries one; twice the
+    /// rank of a mate's leaf; else 1 more than the greatest height under it, 1 where nothing is; at
+    /// most 4,096. Takes no memory.
     pub fn height(&self) -> u32
         ensures { result ≡ height_of self.now }
     {
@@ -236,7 +240,7 @@ impl Note {
     }
 
     /// The version of a certificate that says what it does: [`Version::Two`] exactly where a note
-    /// is carried in its tree. Takes no memory.
+    /// is carried in its tree, or a leaf of it is of that version. Takes no memory.
     pub fn version(&self) -> Version
         ensures { result ≡ version_in self.now }
     {

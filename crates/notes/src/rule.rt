@@ -37,8 +37,8 @@ pub enum Rule {
     /// that this position dominates, an escape of one that dominates it. (Nagai 2002: pieces in
     /// hand that a proof or a disproof doesn't need.)
     Carry(Conclusion),
-    /// A leaf: the position is listed with this rank among the entries of a mate, in this version,
-    /// of which each bears out the others.
+    /// A leaf: the position is listed with this rank among the entries of a mate, each of which is
+    /// borne out by them all, in this version.
     MateLeaf(Version, u32),
     /// A leaf: the position is one of some of an escape, in this version, that are closed.
     EscapeLeaf(Version),

@@ -38,7 +38,7 @@ loop-next-preserved-in-Continue-branch-3 c =
     let leads = sym c.rule.ensures ∙ c.in-EscapeLeaf.is in
     let stands = c.positions.ensures.leaf c.in-EscapeLeaf.field-0 leads in
     let leaf : IsLeafAmong c.in-Some.next.now set =
-    record { version = c.in-EscapeLeaf.field-0; leaf = leads; are = stands.0; listed = stands.1 } in
+    record { version = c.in-EscapeLeaf.field-0; leaf = leads; are = stands.0; listed = stands.1; these = stands.2 } in
     let put = put_new c.in_ok-list_position.field-0 positions mid (position_of c.in-Some.next.now) c.if-branch.true
     (subst (λ (b : Board). HasPutIf c.in_ok-list_position.field-0 positions b mid) c.position.ensures c.in_ok-list_position.ensures.listed) in
     let has = put_behind set c.args.most positions (position_of c.in-Some.next.now) mid c.list_set.new.positions.items stands.1 put.1 c.in_ok-list_set.ensures.put in
@@ -112,7 +112,7 @@ returns-in_err-list_set-clause-too_many c =
     let leads = sym c.rule.ensures ∙ c.in-EscapeLeaf.is in
     let stands = c.positions.ensures.leaf c.in-EscapeLeaf.field-0 leads in
     let leaf : IsLeafAmong c.in-Some.next.now set =
-    record { version = c.in-EscapeLeaf.field-0; leaf = leads; are = stands.0; listed = stands.1 } in
+    record { version = c.in-EscapeLeaf.field-0; leaf = leads; are = stands.0; listed = stands.1; these = stands.2 } in
     let put = put_new c.in_ok-list_position.field-0 positions mid (position_of c.in-Some.next.now) c.if-branch.true
     (subst (λ (b : Board). HasPutIf c.in_ok-list_position.field-0 positions b mid) c.position.ensures c.in_ok-list_position.ensures.listed) in
     let end = c.in_err-list_set.field-0.0 in

@@ -41,7 +41,7 @@ loop-next-preserved-in-Continue-branch-2 c =
     let leads = sym c.rule.ensures ∙ c.in-MateLeaf.is in
     let stands = c.entries-set.ensures.leaf c.in-MateLeaf.field-0 rank leads in
     let leaf : IsLeafWith c.in-Some.next.now set rank =
-    record { version = c.in-MateLeaf.field-0; leaf = leads; are = stands.0; listed = stands.1 } in
+    record { version = c.in-MateLeaf.field-0; leaf = leads; are = stands.0; listed = stands.1; these = stands.2 } in
     let met = subst (λ (b : Board). HasMetLeaf set b rank entries more) c.position.ensures c.in_ok-list_leaf.ensures.met in
     let its = next_pending (λ n. n.now) c.args.version c.args.problem.now.position c.args.note.now entries c.loop-next.pending.items c.pop.new.self.items
     c.in-Some.next c.in-Some.ensures.items c.loop-next.invariant.walk in
@@ -62,7 +62,7 @@ returns-in_err-list_leaf-clause-too_many c =
     let leads = sym c.rule.ensures ∙ c.in-MateLeaf.is in
     let stands = c.entries-set.ensures.leaf c.in-MateLeaf.field-0 rank leads in
     let leaf : IsLeafWith c.in-Some.next.now set rank =
-    record { version = c.in-MateLeaf.field-0; leaf = leads; are = stands.0; listed = stands.1 } in
+    record { version = c.in-MateLeaf.field-0; leaf = leads; are = stands.0; listed = stands.1; these = stands.2 } in
     let its = next_pending (λ n. n.now) c.args.version c.args.problem.now.position c.args.note.now entries c.loop-next.pending.items c.pop.new.self.items
     c.in-Some.next c.in-Some.ensures.items c.loop-next.invariant.walk in
     let end = c.in_err-list_leaf.field-0.0 in

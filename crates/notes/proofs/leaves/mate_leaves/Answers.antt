@@ -3,7 +3,7 @@ use Rattle.std.proofs.lemmas.Option.{slice_get_read}
 use Rattle.bit_boards.specs.declared.piece.Side.{Side}
 use Rattle.list_laws.proofs.Standing.{contained}
 use Rattle.mate_facts.specs.declared.entry.MateEntry.{MateEntry}
-use Rattle.notes.specs.Set.{entries_of, positions_of}
+use Rattle.notes.specs.Set.{entries_of, positions_of, ranked_of}
 use Rattle.notes.specs.Sets.{AreMates}
 use Rattle.notes.specs.Valid.{StandsAmong}
 use Rattle.notes.specs.declared.set.Set.{Set}
@@ -27,7 +27,7 @@ leaf-requires-clause-rule c =
     let at = slice_get_read items (length items) c.loop-entry.entry-index c.entry-item.result refl c.loop-entry-test.true c.entry-item.is in
     let there = subst (λ (all : List MateEntry). Contains all c.entry-item.result) same (contained items c.loop-entry.entry-index c.entry-item.result at) in
     let are = subst (λ (side : Side). AreMates c.args.version side c.args.entries.items) (sym c.attacker-attacker.ensures) c.requires in
-    mate_meets c.args.version c.attacker-attacker.result c.args.entries.items c.entry-item.result are there 0
+    mate_meets c.args.version c.attacker-attacker.result c.args.entries.items c.entry-item.result are there 0 _ (ap ranked_of c.in_ok-set.ensures.ok)
 
 pub leaf-requires-clause-set : goal.leaf-requires-clause-set
 leaf-requires-clause-set c =
