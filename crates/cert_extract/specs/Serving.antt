@@ -16,7 +16,8 @@ HoldsOf version Mate attacker from to = Covers version attacker to from
 HoldsOf version Escape attacker from to = Covers version attacker from to
 
 -- The note serves for the position, in this version: its last step carries none; it concludes this
--- for the attacker, which holds of the position too; and in version 1 none is carried in its tree.
+-- for the attacker, which holds of the position too; and in version 1 none is carried in its tree,
+-- nor is a leaf of it of version 2.
 pub record Serves (version : Version) (conclusion : Conclusion) (attacker : Side) (position : Board) (note : Derivation) : Type 0 where
   pub own : IsOwn note
   pub concludes : conclusion_of note ≡ conclusion

@@ -47,9 +47,8 @@ use std::alloc::Global;
 /// walked depth first, in the order of the notes, and from a carried note to the one that it was
 /// carried from; a position that is met again is walked again only where the note is a lower mate.
 /// It lists `most` positions at most, and one at least, which stands for the problem's. Errors: the
-/// walk meets more
-/// than `most` different positions (always, where `most` is 0), not counting those that stand only
-/// under notes that it passes by; want of memory.
+/// walk meets more than `most` different positions (always, where `most` is 0), not counting those
+/// that stand only under notes that it passes by; want of memory.
 pub fn extract(
     alloc: Global,
     problem: &Problem,
