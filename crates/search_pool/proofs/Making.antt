@@ -13,6 +13,7 @@ use Rattle.notes.specs.declared.rule.Rule.{Rule}
 use Rattle.notes.specs.declared.rule.Rule.TheVariants.{MateEnd, MateAll, MateBy, EscapeEnd, EscapeBy, EscapeRepeat, EscapeAll, Carry, MateLeaf, EscapeLeaf}
 use Rattle.notes.specs.Derivation.{Step, Derivation, Derivations, derived, none_under, one_under, derivations, height_by, listed, under_of, rule_of, attacker_of, position_of, tag_of, IsNoLeaf}
 use Rattle.notes.specs.Valid.{IsStep, IsValid, IsKeyAlone, JoinsTags, meets}
+use Rattle.visit_log.specs.declared.parts.Child.{Child}
 use Rattle.visit_log.specs.Frame.{Task, FrameView}
 use Rattle.visit_log.specs.Round.{IsMade, node_in}
 use Rattle.visit_log.specs.Children.{deciding, rule_with}
