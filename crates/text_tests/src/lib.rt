@@ -33,3 +33,5 @@ mod sfen;
 mod shortest;
 #[cfg(test)]
 mod solutions;
+#[cfg(test)]
+mod told_lines;
