@@ -1,8 +1,9 @@
 -- The command that clap found, by its name.
-use Rattle.std.proofs.Common.{◌≡◌, ap₂, inl, inr, List, Option, Some, None, codes, subst}
+use Rattle.std.proofs.Common.{◌≡◌, ◌⊎◌, ap₂, inl, inr, List, Option, Some, None, codes, subst}
 use Rattle.std.specs.Prelude.{IsSomeAnd, option_map}
 use Rattle.std.proofs.lemmas.Option.{same_Some}
 use Rattle.clap.specs.Words.{Row, Text}
+use Rattle.cmd_collection.specs.Words.{IsForCollection}
 use Rattle.cmd_solve.specs.Words.{IsForSolve}
 use Rattle.program_words.specs.Commands.{commands}
 
@@ -46,3 +47,26 @@ cook_given o rows given is = elim (subst (λ (q : Option (Text × List Row)). Is
     ]
   ]
 ]
+
+-- it isn't the first of these
+behind : {First Others : Type 0} → First ⊎ Others → (First → ⊥) → Others
+behind (inl first) isnt = absurd (isnt first)
+behind (inr others) isnt = others
+
+-- `collection` is given what it wants
+pub collection_given : (o : Option (Text × List Row)) (rows : List Row) → IsSomeAnd o commands.IsGiven → o ≡ Some (codes "collection", rows)
+    → IsForCollection rows
+collection_given o rows given is =
+    let all = subst (λ (q : Option (Text × List Row)). IsSomeAnd q commands.IsGiven) is given in
+    let no_solve = behind all (λ it. let no = it.0 in absurd (cc)) in
+    let no_shortest = behind no_solve (λ it. let no = it.0 in absurd (cc)) in
+    let no_cook = behind no_shortest (λ it. let no = it.0 in absurd (cc)) in
+    let no_check = behind no_cook (λ it. let no = it.0 in absurd (cc)) in
+    elim (behind no_check (λ it. let no = it.0 in absurd (cc))) [
+      | inl collection ↦ collection.1
+      | inr more ↦
+          let no_solution = behind more (λ it. let no = it.0 in absurd (cc)) in
+          let no_record = behind no_solution (λ it. let no = it.0 in absurd (cc)) in
+          let no_upgrade = behind no_record (λ it. let no = it.0 in absurd (cc)) in
+          absurd (behind no_upgrade (λ it. let no = it.0 in absurd (cc)))
+    ]
