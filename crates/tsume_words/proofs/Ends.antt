@@ -10,11 +10,12 @@ use Rattle.search_limits.specs.Sizes.{SettingsView}
 use Rattle.clap.specs.Kinds.{IsAmong, Kinds}
 use Rattle.clap.specs.declared.error.kind.ErrorKind.{ErrorKind}
 use Rattle.clap.specs.Simple.{subcommand_of}
-use Rattle.tsume_words.specs.Meaning.{Asks, CommandMeaning, FailFirst, HasTestLaws, IsClapsEnd, IsEnd, IsHelp, IsOutcome, IsReading, IsRefused, FailsAt, IsTakenByClap, ProgramMeaning, Tests}
-use Rattle.tsume_words.specs.Meaning.{all_words, are_sound, asked_by, clap_faults, file_by, given_by, if_sound, no_tests, search_tests, unless_faulty}
+use Rattle.tsume_words.specs.Meaning.{Asks, CommandMeaning, FailFirst, HasTestLaws, IsClapsEnd, IsClashOf, IsEnd, IsHelp, IsOutcome, IsReading, IsRefused, FailsAt, IsTakenByClap, ProgramMeaning, Tests}
+use Rattle.tsume_words.specs.Meaning.{all_words, are_sound, asked_by, clap_faults, file_by, given_by, if_sound, is_without, no_tests, search_tests, unless_faulty, without_clash}
 use Rattle.search_limits.specs.declared.faults.Size.TheVariants.{Rows, Shards}
 use Rattle.tsume_words.specs.declared.faults.WordFault.{WordFault}
-use Rattle.tsume_words.specs.declared.faults.WordFault.TheVariants.{Clap, NotPowerOfTwo, MoreShardsThanRows}
+use Rattle.tsume_words.specs.declared.faults.WordFault.TheVariants.{Clap, NotPowerOfTwo, MoreShardsThanRows, Clash}
+use Rattle.tsume_words.specs.declared.faults.Clash.{Clash as ClashKind}
 use Rattle.tsume_words.specs.declared.faults.WordsEnd.{WordsEnd}
 use Rattle.tsume_words.specs.declared.faults.WordsEnd.TheVariants.{Help, Fault, NoMemory}
 
@@ -40,11 +41,14 @@ unsound law (NotPowerOfTwo Rows) n fails sound = fails (sound_parts law n sound)
 unsound law (NotPowerOfTwo Shards) n fails sound = fails.1 (sound_parts law n sound).1
 unsound law MoreShardsThanRows n fails sound = (sound_parts law n sound).2 fails.2
 unsound law (Clap text) n fails sound = fails
+unsound law (Clash which) n fails sound = fails
 
 -- only one test is the first to fail
 one_first : (f g : WordFault) (n : SettingsView) → FailFirst f n → FailFirst g n → g ≡ f
 one_first (Clap text) g n a b = absurd a
 one_first f (Clap text) n a b = absurd b
+one_first (Clash which) g n a b = absurd a
+one_first f (Clash which) n a b = absurd b
 one_first (NotPowerOfTwo Rows) (NotPowerOfTwo Rows) n a b = refl
 one_first (NotPowerOfTwo Shards) (NotPowerOfTwo Shards) n a b = refl
 one_first MoreShardsThanRows MoreShardsThanRows n a b = refl
@@ -62,6 +66,55 @@ search_test_laws law numbers = record {
   one = λ f g v a b. one_first f g (numbers v) a b;
   own = λ text v failed. failed;
 }
+
+-- a clash is one alone, and none where none was found
+one_clash : (found : Option ClashKind) (f g : WordFault) → IsClashOf found f → IsClashOf found g → g ≡ f
+one_clash found (Clash a) (Clash b) is its = ap Clash (same a b (sym its ∙ is))
+  where
+    same : (a b : ClashKind) → Some b ≡ Some a → b ≡ a
+    same a b e = cc
+one_clash found (Clap text) g is its = absurd is
+one_clash found (NotPowerOfTwo size) g is its = absurd is
+one_clash found MoreShardsThanRows g is its = absurd is
+one_clash found f (Clap text) is its = absurd its
+one_clash found f (NotPowerOfTwo size) is its = absurd its
+one_clash found f MoreShardsThanRows is its = absurd its
+
+found_clash : (found : Option ClashKind) (f : WordFault) → IsClashOf found f → is_without found ≡ true → ⊥
+found_clash found (Clash which) is none = go (sym (ap is_without is) ∙ none)
+  where
+    go : false ≡ true → ⊥
+    go e = absurd cc
+found_clash found (Clap text) is none = is
+found_clash found (NotPowerOfTwo size) is none = is
+found_clash found MoreShardsThanRows is none = is
+
+both_true : (a b : Bool) → (a && b) ≡ true → (a ≡ true) × (b ≡ true)
+both_true true true e = (refl, refl)
+both_true true false e = absurd cc
+both_true false b e = absurd cc
+
+-- tests keep their laws where one is put behind them that no two options clash
+pub clash_laws : {View : Type 0} (tests : Tests View) (clash : View → Option ClashKind) → HasTestLaws tests → HasTestLaws (without_clash tests clash)
+clash_laws {View = View} tests clash laws = record {
+  unsound = unsound_here;
+  one = one_here;
+  own = own_here;
+}
+  where
+    unsound_here : (f : WordFault) (v : View) → (without_clash tests clash).IsFirstFailed f v → (without_clash tests clash).is_sound v ≡ true → ⊥
+    unsound_here f v (inl failed) sound = laws.unsound f v failed (both_true (tests.is_sound v) (is_without (clash v)) sound).0
+    unsound_here f v (inr failed) sound = found_clash (clash v) f failed.1 (both_true (tests.is_sound v) (is_without (clash v)) sound).1
+
+    one_here : (f g : WordFault) (v : View) → (without_clash tests clash).IsFirstFailed f v → (without_clash tests clash).IsFirstFailed g v → g ≡ f
+    one_here f g v (inl a) (inl b) = laws.one f g v a b
+    one_here f g v (inl a) (inr b) = absurd (laws.unsound f v a b.0)
+    one_here f g v (inr a) (inl b) = absurd (laws.unsound g v b a.0)
+    one_here f g v (inr a) (inr b) = one_clash (clash v) f g a.1 b.1
+
+    own_here : (text : String Global) (v : View) → (without_clash tests clash).IsFirstFailed (Clap text) v → ⊥
+    own_here text v (inl failed) = laws.own text v failed
+    own_here text v (inr failed) = failed.1
 
 -- ---- the reading of a program's words
 
@@ -141,6 +194,7 @@ module _ {View Answer : Type 0} (program : ProgramMeaning View) (view : Answer �
           refuses (Clap text) by fails = absurd (laws.own text w by)
           refuses (NotPowerOfTwo size) by fails = fails
           refuses MoreShardsThanRows by fails = fails
+          refuses (Clash which) by fails = fails
 
       go : (o : Option View) → given_by program words ≡ o → IsSomeAnd o (λ asked. IsOutcome program.tests view asked r) → IsReading program view file words r
       go None is h = absurd h
@@ -162,6 +216,7 @@ module _ {View Answer : Type 0} (program : ProgramMeaning View) (view : Answer �
   promised_by_clap words NoMemory kind claps (inr among) = promised_by_memory words
   promised_by_clap words (Fault (NotPowerOfTwo size)) kind claps (inr among) = absurd claps
   promised_by_clap words (Fault MoreShardsThanRows) kind claps (inr among) = absurd claps
+  promised_by_clap words (Fault (Clash which)) kind claps (inr among) = absurd claps
   promised_by_clap words (Fault (Clap text)) kind claps (inr among) = record {
     command = tt;
     file = tt;

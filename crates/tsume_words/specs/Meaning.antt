@@ -14,7 +14,8 @@ use Rattle.search_limits.specs.Settings.{IsFirstOdd, HaveMoreShards, settings_in
 use Rattle.search_limits.specs.Sizes.{SettingsView}
 use Rattle.search_limits.specs.declared.settings.Settings.{Settings}
 use Rattle.tsume_words.specs.declared.faults.WordFault.{WordFault}
-use Rattle.tsume_words.specs.declared.faults.WordFault.TheVariants.{Clap, NotPowerOfTwo, MoreShardsThanRows}
+use Rattle.tsume_words.specs.declared.faults.WordFault.TheVariants.{Clap, NotPowerOfTwo, MoreShardsThanRows, Clash}
+use Rattle.tsume_words.specs.declared.faults.Clash.{Clash as ClashKind}
 use Rattle.tsume_words.specs.declared.faults.WordsEnd.{WordsEnd}
 use Rattle.tsume_words.specs.declared.faults.WordsEnd.TheVariants.{Help, Fault, NoMemory}
 
@@ -40,12 +41,31 @@ abbrev pub FailFirst : WordFault → SettingsView → Type 0
 FailFirst (NotPowerOfTwo size) n = IsFirstOdd size n
 FailFirst MoreShardsThanRows n = HaveMoreShards n
 FailFirst (Clap text) n = ⊥
+FailFirst (Clash which) n = ⊥
 
 -- The tests of the numbers of a search.
 abbrev pub search_tests : {View : Type 0} → (View → SettingsView) → Tests View
 search_tests numbers = record {
   is_sound = λ view. are_sound (numbers view);
   IsFirstFailed = λ fault view. FailFirst fault (numbers view);
+}
+
+-- No clash was found.
+abbrev pub is_without : Option ClashKind → Bool
+is_without None = true
+is_without (Some which) = false
+
+-- The fault is the clash that was found.
+abbrev pub IsClashOf : Option ClashKind → WordFault → Type 0
+IsClashOf found (Clash which) = found ≡ Some which
+IsClashOf found other = ⊥
+
+-- These tests, and behind them that no two options are given that don't go together, where this
+-- finds the first such two.
+abbrev pub without_clash : {View : Type 0} → Tests View → (View → Option ClashKind) → Tests View
+without_clash tests clash = record {
+  is_sound = λ view. tests.is_sound view && is_without (clash view);
+  IsFirstFailed = λ fault view. tests.IsFirstFailed fault view ⊎ ((tests.is_sound view ≡ true) × IsClashOf (clash view) fault);
 }
 
 -- The outcome of the tests of a search, on these numbers: they are sound and stand in the settings,
@@ -173,6 +193,7 @@ IsClapsEnd kind (Help text) = is_help kind ≡ true
 IsClapsEnd kind (Fault (Clap text)) = is_help kind ≡ false
 IsClapsEnd kind (Fault (NotPowerOfTwo size)) = ⊥
 IsClapsEnd kind (Fault MoreShardsThanRows) = ⊥
+IsClapsEnd kind (Fault (Clash which)) = ⊥
 IsClapsEnd kind NoMemory = ⊤
 
 -- Why the words are refused: clap's first fault is no request, or this test after clap is the first

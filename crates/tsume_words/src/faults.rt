@@ -16,6 +16,19 @@ pub enum WordFault {
     NotPowerOfTwo(Size),
     /// There are more shards than rows.
     MoreShardsThanRows,
+    /// Two options are given that don't go together.
+    Clash(Clash),
+}
+
+/// Which two options are given that don't go together.
+#[derive(Clone, Copy, Debug, PartialEq, Eq)]
+pub enum Clash {
+    /// A library is of SFEN alone, and the problem is said to be KIF.
+    LibraryWithKif,
+    /// What a collection printed has no bounds.
+    CollectionWithBound,
+    /// What a collection printed is of many problems, and one is given.
+    CollectionWithProblem,
 }
 
 impl fmt::Display for WordFault {
@@ -30,6 +43,9 @@ impl fmt::Display for WordFault {
             WordFault::NotPowerOfTwo(Size::Rows) => "rows is no power of two",
             WordFault::NotPowerOfTwo(Size::Shards) => "shards is no power of two",
             WordFault::MoreShardsThanRows => "more shards than rows",
+            WordFault::Clash(Clash::LibraryWithKif) => "library with kif",
+            WordFault::Clash(Clash::CollectionWithBound) => "collection with bound",
+            WordFault::Clash(Clash::CollectionWithProblem) => "collection with problem",
         })
     }
 }

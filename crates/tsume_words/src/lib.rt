@@ -20,7 +20,7 @@ mod reading;
 mod watch;
 
 pub use command::CommandWords;
-pub use faults::{WordFault, WordsEnd};
+pub use faults::{Clash, WordFault, WordsEnd};
 pub use form::{Format, ProblemForm};
 pub use given::{
     expansions, file, is_flagged, number, number_if_given, problem_form, search_watch, settings,
