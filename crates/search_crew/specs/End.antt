@@ -14,7 +14,9 @@ use Rattle.visit_log.specs.Machine.{end_of}
 use Rattle.visit_log.specs.Run.{WorkerView, IsReached}
 use Rattle.visit_log.specs.Sound.{IsAnswer}
 use Rattle.visit_log.specs.Visit.{Exchange, IsVisitLog}
-use Rattle.search_pool.specs.End.{IsAloneUntil, HeedsStop, polls_after}
+use Rattle.notes.specs.Derivation.{Derivation}
+use Rattle.unit_desk.specs.Known.{ReachesAt}
+use Rattle.search_pool.specs.End.{IsAloneUntil, IsUntilWith, IsSolved, HeedsStop, polls_after}
 use Rattle.search_pool.specs.declared.end.SearchEnd.{SearchEnd}
 use Rattle.search_pool.specs.declared.end.SearchEnd.TheVariants.{Solved, Unknown}
 
@@ -109,3 +111,18 @@ FirstHeeded heeds before after = ⊥
 pub record IsSearchEnd (problem : Board) (s : SettingsView) (before after : List Signal) (end : SearchEnd) : Type 0 where
   pub alone : s.workers ≡ 1 → FirstHeeded (λ old new. IsAloneUntil problem s old new end × HeedsStop old new end) before after
   pub crew : 2 ≤ s.workers → IsCrewEnd problem s before after end
+
+-- 4. FROM NOTES THAT ARE KNOWN.
+
+-- None of the notes is about the problem's position, or may be carried to it.
+abbrev pub NoneReaches : Board → List Derivation → Type 0
+NoneReaches problem notes = (place : ℕ) → ¬ ReachesAt problem notes place
+
+-- How a search with these settings ended in which these notes were known before anybody searched:
+-- with one worker as the search of one worker does in which they are, which heeds its stop unless a
+-- note reaches the problem; with more as a crew does; and solved, where a note reaches the problem.
+pub record IsSearchEndWith (notes : List Derivation) (problem : Board) (s : SettingsView) (before after : List Signal) (end : SearchEnd) : Type 0 where
+  pub alone : s.workers ≡ 1
+      → FirstHeeded (λ old new. IsUntilWith notes problem s old new end × (NoneReaches problem notes → HeedsStop old new end)) before after
+  pub crew : 2 ≤ s.workers → IsCrewEnd problem s before after end
+  pub solved : (place : ℕ) → ReachesAt problem notes place → IsSolved end

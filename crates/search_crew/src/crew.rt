@@ -1,5 +1,5 @@
 // A search by several workers.
-ghost use Rattle.std.specs.Prelude.{◌≡◌, ◌+◌, ◌-◌, ◌<◌, ◌≤◌, ◌++◌, ℕ, suc, List, [], IfOk, IfSome, IfNone, length, map, reverse, sum_by};
+ghost use Rattle.std.specs.Prelude.{◌≡◌, ◌+◌, ◌-◌, ◌<◌, ◌≤◌, ◌++◌, ℕ, suc, List, [], All, IfOk, IfSome, IfNone, length, map, reverse, sum_by};
 ghost use Rattle.std.specs.Vec.{vec_capacity};
 ghost use Rattle.board_core.specs.Board.{Board};
 ghost use Rattle.search_gate.specs.Polls.{ArePolled};
@@ -7,6 +7,7 @@ ghost use Rattle.search_gate.specs.Stop.{Signal};
 ghost use Rattle.search_limits.specs.Settings.{settings_in};
 ghost use Rattle.search_pool.specs.End.{IsSolution};
 ghost use Rattle.table_shard.specs.Row.{lent_to};
+ghost use Rattle.unit_desk.specs.Known.{IsKnown};
 ghost use Rattle.visit_log.specs.declared.words.WorkEnd.TheVariants.{Posted, Spent, NoRoom};
 ghost use Rattle.word_desk.specs.WordDesk.{unused};
 ghost use Rattle.worker_counts.specs.declared.view.TheConstants.{MOST_SEATS};
@@ -17,7 +18,7 @@ ghost use Rattle.search_crew.specs.Inside.{AreFresh, ClosesCrew, CrewTells, IsAt
 use crate::closing::{Words, gather};
 use crate::lane::{Lane, work_all};
 use bit_boards::Side;
-use notes::HEIGHT_LIMIT;
+use notes::{HEIGHT_LIMIT, Note};
 use search_gate::{Gate, Stop};
 use search_limits::{Cause, Settings};
 use search_pool::{Crew, SearchEnd, search_alone_until};
@@ -281,6 +282,14 @@ impl<J: Job + Send + Sync, K: Job + Send + Sync> Kept<J, K> {
             table: self.table.emptied(),
             seat: self.seat,
         }
+    }
+
+    // Takes in notes that are known before anyone searches, for the attacker. Errors: want of memory
+    // alone.
+    pub(crate) fn take_all<R: Wait>(&self, wait: &R, notes: &[Note]) -> Result<(), AllocError>
+        requires { All (IsKnown J.ATTACKER) notes.now }
+    {
+        self.table.take_all(wait, notes)
     }
 
     // A search by several workers, of the job's attacker, over this table, which comes back. Every
