@@ -6,7 +6,7 @@ use Rattle.search_limits.specs.declared.expansions.TheConstants.{MOST_EXPANSIONS
 use Rattle.tsume_words.specs.declared.watch.TheConstants.{MOST_DEADLINE}
 use Rattle.tsume_words.proofs.Offered.{Each, GivesValue, IsFirst, flag_given, level_gives, number_given, number_if_any}
 use Rattle.tsume_words.specs.Meaning.{IsGivenWhereTaken, shape_of}
-use Rattle.cmd_solve.specs.Words.{IsForSolve}
+use Rattle.cmd_solve.specs.Words.{IsForSearch}
 use Rattle.cmd_cook.specs.Line.{cook_line}
 use Rattle.cmd_cook.specs.Words.{cook_words}
 
@@ -17,7 +17,7 @@ firsts = (refl, (refl, (refl, (refl, (refl, (refl, (refl, (refl, (refl, (refl, (
 
 -- behind the line of moves, of which any text is taken
 given : (words : List Text) → Each (GivesValue (rows_after (shape_of cook_line).rules [] words)) (shape_of cook_line).rules
-    → IsForSolve (rows_after (shape_of cook_line).rules [] words)
+    → IsForSearch (rows_after (shape_of cook_line).rules [] words)
 unfolding cook_line
 given words all = record {
   workers = number_given _ 1 MOST_WORKERS _ all.1.0 refl refl refl;

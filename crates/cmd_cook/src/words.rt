@@ -5,7 +5,7 @@ ghost use Rattle.cmd_cook.specs.Line.{line_option};
 
 use crate::Cook;
 use clap::{Arg, ArgMatches, Command};
-use cmd_solve::{Solve, search_options};
+use cmd_solve::{search_asked, search_options};
 use std::alloc::{AllocError, Global};
 use tsume_words::{CommandWords, WordsEnd, file, text, text_option};
 
@@ -52,7 +52,7 @@ impl CommandWords for Cook {
     }
 
     fn read(alloc: Global, given: &ArgMatches<'_>) -> Result<Cook, WordsEnd> {
-        let solve = Solve::read(alloc, given)?;
+        let solve = search_asked(given)?;
         let line = text(alloc, given, "line")?;
         Ok(Cook { solve, line })
     }

@@ -1,3 +1,3 @@
 -- What of `solve` is offered to the crates above; they cite no other lemma of this one.
 pub use Rattle.cmd_solve.proofs.Promises.{unbegun_solve}
-pub use Rattle.cmd_solve.proofs.Taken.{search_is_given, solve_is_given, solve_test_laws}
+pub use Rattle.cmd_solve.proofs.Taken.{solve_is_given, solve_test_laws}

@@ -1,8 +1,8 @@
 -- The line of `solve`, and of what is asked the same, in clap's own terms.
 use Rattle.std.specs.Prelude.{codes}
-use Rattle.clap.specs.Words.{App, Rule, Text, new_app, with_rule}
+use Rattle.clap.specs.Words.{App, Rule, new_app, with_rule}
 use Rattle.search_limits.specs.declared.settings.TheConstants.{MOST_WORKERS}
-use Rattle.tsume_words.specs.Options.{deadline_option, expansions_option, file_word, kif_flag, number_option, progress_flag, rest_flag, room_option, rows_option, shards_option}
+use Rattle.tsume_words.specs.Options.{deadline_option, expansions_option, file_word, flag_option, kif_flag, number_option, progress_flag, rest_flag, room_option, rows_option, shards_option}
 
 -- The workers are 1 to 64, and 1 where nothing is said.
 abbrev pub workers_option : Rule
@@ -29,6 +29,10 @@ with_search line = with_rule
     progress_flag)
     file_word
 
--- The line of a command of this name that is asked what `solve` is.
-unfoldable pub search_line : Text → App
-search_line name = with_search (new_app name)
+-- The flag that a library stands behind the problem.
+abbrev pub library_flag : Rule
+library_flag = flag_option (codes "library")
+
+-- `solve` has that flag, and what is asked of a search.
+unfoldable pub solve_line : App
+solve_line = with_search (with_rule (new_app (codes "solve")) library_flag)

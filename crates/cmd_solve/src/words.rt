@@ -1,21 +1,34 @@
 // The words of `solve`. Lines of help end below 80 columns, where a test looks.
-ghost use Rattle.std.specs.Prelude.{◌≡◌, IfOk, codes, false};
+ghost use Rattle.std.specs.Prelude.{◌≡◌, IfOk, MatchResult, codes, false, true};
 ghost use Rattle.clap.specs.Words.{app_of, found_of, rows_of, rule_of};
 ghost use Rattle.clap.specs.declared.builder.command.Command.TheViews.{out-Command as fields_of};
 ghost use Rattle.search_limits.specs.Sizes.{IsFromTo};
 ghost use Rattle.search_limits.specs.declared.settings.TheConstants.{MOST_WORKERS};
 ghost use Rattle.tsume_words.specs.Given.{HasNumber, number_of};
-ghost use Rattle.cmd_solve.specs.Line.{with_search, workers_option};
+ghost use Rattle.tsume_words.specs.Meaning.{FailFirst, are_sound};
+ghost use Rattle.cmd_solve.specs.Asked.{solve_in};
+ghost use Rattle.cmd_solve.specs.Line.{library_flag, with_search, workers_option};
+ghost use Rattle.cmd_solve.specs.Words.{IsForSearch as IsForIt, search_of};
 
 use crate::Solve;
 use clap::{Arg, ArgMatches, Command};
 use search_limits::MOST_WORKERS;
 use std::alloc::{AllocError, Global};
 use tsume_words::{
-    CommandWords, WordsEnd, deadline_option, expansions_option, file, file_word, kif_flag, number,
-    number_option, problem_form, progress_flag, rest_flag, room_option, rows_option, search_watch,
-    settings, shards_option,
+    Clash, CommandWords, Format, WordFault, WordsEnd, deadline_option, expansions_option, file,
+    file_word, flag_option, is_flagged, kif_flag, number, number_option, problem_form,
+    progress_flag, rest_flag, room_option, rows_option, search_watch, settings, shards_option,
 };
+
+/// What the words of `solve` ask for.
+#[derive(Clone, Copy, Debug, PartialEq, Eq)]
+pub struct SolveWords {
+    /// What is asked of the problem.
+    pub solve: Solve,
+    /// Whether a library stands behind the problem. A run of [`solve`](crate::solve) reads a
+    /// problem all the same: another crate reads both.
+    pub library: bool,
+}
 
 fn workers_option<'a>(alloc: Global) -> Arg<'a>
     ensures rule { rule_of result ≡ workers_option }
@@ -28,6 +41,20 @@ fn workers_option<'a>(alloc: Global) -> Arg<'a>
         u64::from(MOST_WORKERS),
         "1",
         "Workers, a thread each (1 to 64)",
+    )
+}
+
+fn library_flag<'a>(alloc: Global) -> Arg<'a>
+    ensures rule { rule_of result ≡ library_flag }
+    ensures local { result.global ≡ false }
+{
+    flag_option(
+        alloc,
+        "library",
+        "Certificates stand behind the problem's line, of this\n\
+         problem or of others: each is checked, and the search\n\
+         begins with what they show. A library of 1000000\n\
+         entries takes some 1 GB. Off unless given",
     )
 }
 
@@ -61,14 +88,31 @@ pub fn search_options<'a>(alloc: Global, line: Command<'a>) -> Result<Command<'a
         ))
 }
 
-impl CommandWords for Solve {
-    ghost use Rattle.cmd_solve.specs.Asked.{solve_in};
-    ghost use Rattle.cmd_solve.specs.Meaning.{SolveView};
-    ghost use Rattle.cmd_solve.specs.Words.{solve_words};
+/// What clap gives for a search, whichever command asks for it, tested. Errors: the first test that
+/// fails.
+pub fn search_asked(given: &ArgMatches<'_>) -> Result<Solve, WordFault>
+    requires { IsForIt (rows_of (found_of given.now)) }
+    ensures { MatchResult result
+        (λ asked. (solve_in asked ≡ search_of (rows_of (found_of given.now)))
+        × (are_sound (search_of (rows_of (found_of given.now))).settings ≡ true))
+        (λ fault. FailFirst fault (search_of (rows_of (found_of given.now))).settings) }
+{
+    let form = problem_form(given);
+    let watch = search_watch(given);
+    let settings = settings(given, workers(given))?;
+    Ok(Solve {
+        settings,
+        form,
+        watch,
+    })
+}
 
-    ghost View = { SolveView };
+impl CommandWords for SolveWords {
+    ghost use Rattle.cmd_solve.specs.Words.{SolveWordsView, solve_view, solve_words};
 
-    ghost view = { solve_in };
+    ghost View = { SolveWordsView };
+
+    ghost view = { solve_view };
 
     ghost meaning = { solve_words };
 
@@ -80,22 +124,23 @@ impl CommandWords for Solve {
                  counts, also one that only delays (the convention that leaves out useless ones\n\
                  isn't applied), so a mate may be longer than a problem's title says; nor need\n\
                  the mate be the shortest.\n\n\
-                 Status: 0 a mate or none, 1 gave up, 2 words refused, 3 no problem, 4 reading\n\
-                 failed, 5 writing failed, 6 out of memory.\n\n\
+                 With --library the input is the problem's line, `library 1 K`, K certificates\n\
+                 and `end library`, 268435456 bytes at most (SFEN alone, no --kif). The first\n\
+                 certificate that isn't valid is told: `refused library I E W`, status 7.\n\n\
+                 Status: 0 a mate or none, 1 gave up, 2 words refused, 3 no problem or library,\n\
+                 4 reading failed, 5 writing failed, 6 out of memory, 7 library refused.\n\n\
                  Example:\n  echo '4k4/9/4P4/9/9/9/9/9/9 b G 1' | tsume solve --expansions 100000",
             );
-        search_options(alloc, line)
+        search_options(alloc, line.arg(library_flag(alloc))?)
     }
 
-    fn read(_alloc: Global, given: &ArgMatches<'_>) -> Result<Solve, WordsEnd> {
-        let form = problem_form(given);
-        let watch = search_watch(given);
-        let settings = settings(given, workers(given))?;
-        Ok(Solve {
-            settings,
-            form,
-            watch,
-        })
+    fn read(_alloc: Global, given: &ArgMatches<'_>) -> Result<SolveWords, WordsEnd> {
+        let library = is_flagged(given, "library");
+        let solve = search_asked(given)?;
+        if library && solve.form.format == Format::Kif {
+            return Err(WordsEnd::Fault(WordFault::Clash(Clash::LibraryWithKif)));
+        }
+        Ok(SolveWords { solve, library })
     }
 
     fn file(alloc: Global, given: &ArgMatches<'_>) -> Result<Option<String>, AllocError> {
