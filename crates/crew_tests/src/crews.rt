@@ -14,8 +14,8 @@ use std::sync::atomic::{AtomicU64, Ordering};
 use std::test::Fail;
 use std::thread::yield_now;
 
-// What a search ended with: what its note concludes, or the cause.
-fn told(end: &SearchEnd) -> (Option<Conclusion>, Option<Cause>) {
+/// What a search ended with: what its note concludes, or the cause.
+pub(crate) fn told(end: &SearchEnd) -> (Option<Conclusion>, Option<Cause>) {
     match end {
         SearchEnd::Solved(note) => (Some(note.conclusion()), None),
         SearchEnd::Unknown(cause, _) => (None, Some(*cause)),

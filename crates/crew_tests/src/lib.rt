@@ -1,6 +1,6 @@
 //! Tests of searches by several workers, each in a thread of its own: how they end, what each has
-//! drawn, and that two in turn do what a world of two does; and of cook reports, which make many
-//! searches.
+//! drawn, that two in turn do what a world of two does, and that they begin with what is known; and
+//! of cook reports, which make many searches.
 //!
 //! They call public calls alone. Without tests this crate is empty.
 #![tactic(auto)]
@@ -11,6 +11,8 @@ mod cooks;
 mod crews;
 #[cfg(test)]
 mod in_turn;
+#[cfg(test)]
+mod known;
 #[cfg(test)]
 mod problems;
 #[cfg(test)]

@@ -4,7 +4,7 @@ use Rattle.std.specs.Prelude.{IsSomeAnd, option_map}
 use Rattle.std.proofs.lemmas.Option.{same_Some}
 use Rattle.clap.specs.Words.{Row, Text}
 use Rattle.cmd_collection.specs.Words.{IsForCollection}
-use Rattle.cmd_solve.specs.Words.{IsForSolve}
+use Rattle.cmd_solve.specs.Words.{IsForSearch}
 use Rattle.program_words.specs.Commands.{commands}
 
 -- what was found is the name and the rows that are told of it
@@ -15,7 +15,7 @@ found_is (Some b) f name rows named told =
     ap₂ (λ (n : Text) (rs : List Row). Some (n, rs)) (same_Some (f b).0 name named) (same_Some (f b).1 rows told)
 
 -- `cook` is given what it wants
-pub cook_given : (o : Option (Text × List Row)) (rows : List Row) → IsSomeAnd o commands.IsGiven → o ≡ Some (codes "cook", rows) → IsForSolve rows
+pub cook_given : (o : Option (Text × List Row)) (rows : List Row) → IsSomeAnd o commands.IsGiven → o ≡ Some (codes "cook", rows) → IsForSearch rows
 cook_given o rows given is = elim (subst (λ (q : Option (Text × List Row)). IsSomeAnd q commands.IsGiven) is given) [
   | inl solve ↦ solve.1
   | inr more ↦ elim more [

@@ -11,10 +11,10 @@ use Rattle.search_limits.specs.Sizes.{SettingsView}
 use Rattle.tsume_words.specs.declared.faults.WordFault.{WordFault}
 use Rattle.tsume_words.specs.declared.faults.WordFault.TheVariants.{Clap}
 use Rattle.tsume_words.specs.Meaning.{HasTestLaws, IsTakenByClap, all_words}
-use Rattle.tsume_words.proofs.Offered.{Each, GivesIfNamed, help_alone, search_test_laws, taken_gives}
-use Rattle.program_words.specs.Commands.{commands, numbers_of}
+use Rattle.tsume_words.proofs.Offered.{Each, GivesIfNamed, clash_laws, help_alone, search_test_laws, taken_gives}
+use Rattle.program_words.specs.Commands.{clash_in, commands, numbers_of}
 use Rattle.program_words.specs.Line.{tsume_line}
-use Rattle.program_words.specs.Meaning.{FailFirstIfAny, are_sound_if_any, command_tests}
+use Rattle.program_words.specs.Meaning.{FailFirstIfAny, are_sound_if_any, command_tests, number_tests}
 
 -- what holds of the first, and of each behind it
 infixr 4 ◌and◌
@@ -32,7 +32,7 @@ pub record IsFit (line : App) : Type 0 where
 
 -- in the order of the help, whose own command is the last
 pub fit : IsFit tsume_line
-unfolding tsume_line Rattle.cmd_solve.specs.Line.search_line Rattle.cmd_shortest.specs.Line.shortest_line Rattle.cmd_cook.specs.Line.cook_line Rattle.cmd_check.specs.Line.check_line Rattle.cmd_survey.specs.Line.survey_line Rattle.cmd_collection.specs.Line.collection_line Rattle.cmd_solution.specs.Line.solution_line Rattle.cmd_record.specs.Line.record_line Rattle.cmd_upgrade.specs.Line.upgrade_line Rattle.cmd_usi.specs.Line.usi_line clap_on_literals
+unfolding tsume_line Rattle.cmd_solve.specs.Line.solve_line Rattle.cmd_shortest.specs.Line.shortest_line Rattle.cmd_cook.specs.Line.cook_line Rattle.cmd_check.specs.Line.check_line Rattle.cmd_survey.specs.Line.survey_line Rattle.cmd_collection.specs.Line.collection_line Rattle.cmd_solution.specs.Line.solution_line Rattle.cmd_record.specs.Line.record_line Rattle.cmd_upgrade.specs.Line.upgrade_line Rattle.cmd_usi.specs.Line.usi_line clap_on_literals
 fit = record {
   simple = refl;
   alone = refl;
@@ -59,8 +59,8 @@ command_where_taken words o taken is =
     subst (λ (q : Option (Text × List Row)). IsSomeAnd q commands.IsGiven) (sym (is ∙ got.1)) got.2
 
 -- the tests of numbers that may be given have the laws of tests
-pub command_test_laws : PowersHaveOneBit → HasTestLaws command_tests
-command_test_laws law = record {
+number_test_laws : PowersHaveOneBit → HasTestLaws number_tests
+number_test_laws law = record {
   unsound = λ f view failed sound. unsound f (numbers_of view) failed sound;
   one = λ f g view s t. one f g (numbers_of view) s t;
   own = λ text view failed. own text (numbers_of view) failed;
@@ -77,3 +77,7 @@ command_test_laws law = record {
     own : (text : String Global) (n : Option SettingsView) → FailFirstIfAny (Clap text) n → ⊥
     own text None failed = failed
     own text (Some n) failed = (search_test_laws law (λ (v : SettingsView). v)).own text n failed
+
+-- so have all tests of what words ask for
+pub command_test_laws : PowersHaveOneBit → HasTestLaws command_tests
+command_test_laws law = clash_laws number_tests clash_in (number_test_laws law)

@@ -4,6 +4,7 @@ use Rattle.std.specs.Str.{bytes_eq}
 use Rattle.clap.specs.Words.{App, Row, Text, with_subcommand}
 use Rattle.search_limits.specs.Sizes.{SettingsView}
 use Rattle.tsume_words.specs.Meaning.{CommandMeaning}
+use Rattle.tsume_words.specs.declared.faults.Clash.{Clash}
 use Rattle.cmd_solve.specs as solve
 use Rattle.cmd_shortest.specs as shortest
 use Rattle.cmd_cook.specs as cook
@@ -19,7 +20,7 @@ use Rattle.program_words.specs.declared.command.Command.TheVariants as asks
 
 -- What words ask for: what one of the commands is asked.
 pub data CommandView : Type 0 where
-  to_solve : solve.Meaning.SolveView → CommandView
+  to_solve : solve.Words.SolveWordsView → CommandView
   to_shortest : shortest.Asked.ShortestView → CommandView
   to_cook : cook.Asked.CookView → CommandView
   to_check : check.Words.CheckView → CommandView
@@ -32,7 +33,7 @@ pub data CommandView : Type 0 where
 
 -- What a command is asked.
 abbrev pub command_view : Command → CommandView
-command_view (asks.Solve asked) = to_solve (solve.Asked.solve_in asked)
+command_view (asks.Solve asked) = to_solve (solve.Words.solve_view asked)
 command_view (asks.Shortest asked) = to_shortest (shortest.Asked.shortest_in asked)
 command_view (asks.Cook asked) = to_cook (cook.Asked.cook_in asked)
 command_view (asks.Check asked) = to_check (check.Words.check_view asked)
@@ -45,10 +46,16 @@ command_view (asks.Usi asked) = to_usi
 
 -- The numbers of the search that is asked for, where the words give them: they are tested.
 abbrev pub numbers_of : CommandView → Option SettingsView
-numbers_of (to_solve asked) = Some asked.settings
+numbers_of (to_solve asked) = Some asked.solve.settings
 numbers_of (to_cook asked) = Some asked.solve.settings
 numbers_of (to_collect asked) = Some asked.settings
 numbers_of other = None
+
+-- The two options that are asked for and don't go together, the first such.
+abbrev pub clash_in : CommandView → Option Clash
+clash_in (to_solve asked) = solve.Words.clash_of asked
+clash_in (to_check asked) = check.Words.clash_of asked
+clash_in other = None
 
 -- What the words of commands are: the program's line with theirs, in their order; and by the name
 -- of one and what clap found for it, what it wants of clap, what is asked for, before its tests,

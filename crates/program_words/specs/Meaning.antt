@@ -2,11 +2,11 @@
 use Rattle.std.specs.Prelude.{Result, Bool, true, List, Option, Some, None, option_map, string_bytes}
 use Rattle.clap.specs.Words.{Text}
 use Rattle.search_limits.specs.Sizes.{SettingsView}
-use Rattle.tsume_words.specs.Meaning.{Asks, FailFirst, IsEnd, IsReading, IsRefused, FailsAt, MayAsk, ProgramMeaning, Tests, are_sound, asked_by, file_by}
+use Rattle.tsume_words.specs.Meaning.{Asks, FailFirst, IsEnd, IsReading, IsRefused, FailsAt, MayAsk, ProgramMeaning, Tests, are_sound, asked_by, file_by, without_clash}
 use Rattle.tsume_words.specs.declared.faults.WordFault.{WordFault}
 use Rattle.tsume_words.specs.declared.faults.WordsEnd.{WordsEnd}
 use Rattle.program_words.specs.declared.command.Asked.{Asked}
-use Rattle.program_words.specs.Commands.{CommandView, commands, numbers_of, command_view}
+use Rattle.program_words.specs.Commands.{CommandView, clash_in, commands, numbers_of, command_view}
 use Rattle.program_words.specs.Line.{tsume_line}
 
 -- Numbers that are given pass the tests of a search.
@@ -19,12 +19,17 @@ abbrev pub FailFirstIfAny : WordFault → Option SettingsView → Type 0
 FailFirstIfAny fault None = ⊥
 FailFirstIfAny fault (Some numbers) = FailFirst fault numbers
 
--- The tests of what words ask for are those of the numbers of its search.
-abbrev pub command_tests : Tests CommandView
-command_tests = record {
+-- The tests of the numbers of its search.
+abbrev pub number_tests : Tests CommandView
+number_tests = record {
   is_sound = λ view. are_sound_if_any (numbers_of view);
   IsFirstFailed = λ fault view. FailFirstIfAny fault (numbers_of view);
 }
+
+-- The tests of what words ask for are those of the numbers of its search, and behind them that no
+-- two options are given that don't go together.
+abbrev pub command_tests : Tests CommandView
+command_tests = without_clash number_tests clash_in
 
 -- What the words of the program mean: what those of its commands do.
 abbrev pub program : ProgramMeaning CommandView

@@ -3,8 +3,8 @@
 /// What one of the commands is asked.
 #[derive(Debug, Drop)]
 pub enum Command {
-    /// Solve the problem that is read.
-    Solve(cmd_solve::Solve),
+    /// Solve the problem that is read, perhaps with a library behind it.
+    Solve(cmd_solve::SolveWords),
     /// Tell of each first check of the problem that is read whether it mates, or of those along a
     /// line from it.
     Cook(cmd_cook::Cook),

@@ -17,7 +17,7 @@ use tsume_words::{CommandWords, WordsEnd};
 macro_rules! with_each_command {
     ($then:ident, $($given:ident),*) => {
         $then!($($given),*;
-            "solve" Solve cmd_solve::Solve,
+            "solve" Solve cmd_solve::SolveWords,
             "shortest" Shortest cmd_shortest::Shortest,
             "cook" Cook cmd_cook::Cook,
             "check" Check cmd_check::Check,

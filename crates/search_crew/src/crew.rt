@@ -284,8 +284,8 @@ impl<J: Job + Send + Sync, K: Job + Send + Sync> Kept<J, K> {
         }
     }
 
-    // Takes in notes that are known before anyone searches, for the attacker. Errors: want of memory
-    // alone.
+    // Takes in notes that are known before anyone searches, for the attacker. Errors: want of
+    // memory alone.
     pub(crate) fn take_all<R: Wait>(&self, wait: &R, notes: &[Note]) -> Result<(), AllocError>
         requires { All (IsKnown J.ATTACKER) notes.now }
     {

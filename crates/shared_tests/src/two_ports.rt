@@ -20,7 +20,7 @@ use search_gate::{OpenGate, QuietStop};
 use shared_table::{BlackJob, LockedRows, RowSeat, SharedTable, WhiteJob};
 use shogi_rules::Problem;
 use std::alloc::{AllocError, Global};
-use std::process::Abort;
+use std::slice;
 use std::sync::Wait;
 use std::test::Fail;
 use table_port::{Cut, Seats, TablePort, Watch};
@@ -161,6 +161,30 @@ fn two_ports_see_what_the_other_leaves(rt: HostRuntime) -> Result<(), Fail> {
     let mut three = port_of(&rt, &table, &desk, &mut seat, &mut desk_seat, &gate, 3);
     let seen = looked(alloc, &mut three, &key)?;
     same(&rt, "once the table is emptied", seen, None);
+    Ok(())
+}
+
+#[test]
+fn a_table_shows_what_was_known(rt: HostRuntime) -> Result<(), Fail> {
+    let alloc = rt.alloc();
+    let problem = alone(&rt);
+    if problem.attacker() != Side::Black {
+        return Err(Fail::from("white attacks"));
+    }
+    let Some(note) = escape(alloc, &problem)? else {
+        return Err(Fail::from("no note"));
+    };
+    if note.attacker() != Side::Black {
+        return Err(Fail::from("a note for white"));
+    }
+    let settings = settings(&rt, 100, 10);
+    let (table, mut seat) = SharedTable::<BlackJob, WhiteJob>::make(alloc, &settings)?;
+    let (desk, mut desk_seat) = WordDesk::make(alloc, &problem, &settings)?;
+    table.take_all(&rt, slice::from_ref(&note))?;
+    let gate = OpenGate;
+    let mut port = port_of(&rt, &table, &desk, &mut seat, &mut desk_seat, &gate, 1);
+    let seen = looked(alloc, &mut port, &key(&problem.position))?;
+    same(&rt, "what was known", seen, Some((0, 0, 0)));
     Ok(())
 }
 

@@ -11,11 +11,13 @@ use Rattle.one_run.specs.Outside.{Shown, IsUntouched}
 use Rattle.one_run.specs.Stops.{Signals, AreUnused}
 use Rattle.one_run.specs.Written.{Statement, IsStatedRun}
 use Rattle.cmd_solve.specs.Headline.{IsSolveRun}
+use Rattle.cmd_library.specs.Headline.{IsLibraryRun}
 use Rattle.cmd_shortest.specs.Headline.{IsShortestRun}
 use Rattle.cmd_cook.specs.Headline.{IsCookRun}
 use Rattle.cmd_check.specs.Asked.{IsFaultInWords, AnyProblemIsSound}
 use Rattle.cmd_check.specs.Headline.{IsCheckRun}
 use Rattle.cmd_bound.specs.Headline.{IsBoundRun}
+use Rattle.cmd_certificates.specs.Headline.{IsCertificatesRun}
 use Rattle.cmd_survey.specs.Headline.{IsSurveyRun}
 use Rattle.cmd_collection.specs.Headline.{IsCollectionRun}
 use Rattle.cmd_record.specs.Headline.{IsRecordRun}
@@ -70,15 +72,19 @@ help_meaning = record { IsTrue = λ text. ⊤; text_of = string_bytes }
 -- and nothing was written.
 abbrev pub IsKept : Ended → Option CommandView → List Word → Signals → Shown → Shown → Type 0
 IsKept (ends.Solve ended) (Some (to_solve asked)) words stops source sink =
-    IsSolveRun asked stops source sink ended
+    (asked.library ≡ false) × IsSolveRun asked.solve stops source sink ended
+IsKept (ends.Library ended) (Some (to_solve asked)) words stops source sink =
+    (asked.library ≡ true) × IsLibraryRun asked.solve stops source sink ended
 IsKept (ends.Shortest ended) (Some (to_shortest asked)) words stops source sink =
     IsShortestRun asked (first_of stops) source sink ended × AreUnused (others_of stops)
 IsKept (ends.Cook ended) (Some (to_cook asked)) words stops source sink =
     IsCookRun asked stops source sink ended
 IsKept (ends.Check ended) (Some (to_check asked)) words stops source sink =
-    (asked.bound ≡ false) × IsCheckRun asked.problem source sink ended × AreUnused stops
+    (asked.collection ≡ false) × (asked.bound ≡ false) × IsCheckRun asked.problem source sink ended × AreUnused stops
 IsKept (ends.Bound ended) (Some (to_check asked)) words stops source sink =
-    (asked.bound ≡ true) × IsBoundRun asked.problem source sink ended × AreUnused stops
+    (asked.collection ≡ false) × (asked.bound ≡ true) × IsBoundRun asked.problem source sink ended × AreUnused stops
+IsKept (ends.Certificates ended) (Some (to_check asked)) words stops source sink =
+    (asked.collection ≡ true) × IsCertificatesRun source sink ended × AreUnused stops
 IsKept (ends.Survey ended) (Some (to_survey range)) words stops source sink =
     IsSurveyRun range sink ended × IsUnasked stops source
 IsKept (ends.Collection ended) (Some (to_collect asked)) words stops source sink =

@@ -19,6 +19,9 @@ use Rattle.run_telling.specs.Telling.{Telling, BeginsAsTold, MayFollowMoves, May
 use Rattle.cmd_collection.specs.Counts.{counts_status}
 use Rattle.cmd_shortest.specs.Text.{answer_status as shortest_status}
 use Rattle.cmd_bound.specs.Text.{bound_status}
+use Rattle.cmd_certificates.specs.Text.{certificates_status}
+use Rattle.cmd_library.specs.FaultText.{MayFollowLibrary, library_fault_text}
+use Rattle.cmd_library.specs.Text.{library_status}
 use Rattle.cmd_cook.specs.FaultText.{MayFollowCook, cook_fault_text}
 use Rattle.cmd_cook.specs.Text.{answer_status as cook_status}
 use Rattle.shortest_text.specs.FaultText.{shortest_fault_text}
@@ -40,7 +43,7 @@ use Rattle.tsume_app.specs.Run.{IsKept, GivesFault, GivesHelp, WantsMemory}
 -- How many expansions a search has that the user is told of while it runs; none where that wasn't
 -- asked for.
 abbrev pub limit_told : CommandView → Option ℕ
-limit_told (to_solve asked) = if asked.watch.progress then Some asked.settings.expansions else None
+limit_told (to_solve asked) = if asked.solve.watch.progress then Some asked.solve.settings.expansions else None
 limit_told (to_cook asked) = if asked.solve.watch.progress then Some asked.solve.settings.expansions else None
 limit_told (to_shortest asked) = if asked.watch.progress then Some asked.expansions else None
 limit_told other = None
@@ -84,10 +87,12 @@ by_refusing refusal = record { status = refusal_status refusal; telling = refusa
 -- a survey and of help.
 abbrev pub left_by : Ended → Left
 left_by (ends.Solve ended) = by_reading solution_status problem_fault_text MayFollowProblem ended
+left_by (ends.Library ended) = by_reading library_status library_fault_text MayFollowLibrary ended
 left_by (ends.Shortest ended) = by_reading shortest_status problem_fault_text MayFollowProblem ended
 left_by (ends.Cook ended) = by_reading cook_status cook_fault_text MayFollowCook ended
 left_by (ends.Check ended) = by_reading judgement_status certificate_fault_text (λ fault. IsPlain) ended
 left_by (ends.Bound ended) = by_reading bound_status shortest_fault_text (λ fault. IsPlain) ended
+left_by (ends.Certificates ended) = by_reading certificates_status (λ fault. []) (λ fault explanation. explanation ≡ []) ended
 left_by (ends.Survey ended) = by_writing (λ summary. 0) ended
 left_by (ends.Collection ended) = by_reading counts_status (λ fault. []) (λ fault explanation. explanation ≡ []) ended
 left_by (ends.Solution ended) = by_reading verdict_status moves_fault_text MayFollowMoves ended

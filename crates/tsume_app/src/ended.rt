@@ -62,6 +62,8 @@ pub enum Refusal {
 pub enum Ended {
     /// As `solve`.
     Solve(one_run::Ended<app_texts::Solution, ProblemFault>),
+    /// As `solve` where it is asked with a library.
+    Library(one_run::Ended<cmd_library::LibraryAnswer, cmd_library::LibraryTextFault>),
     /// As `shortest`.
     Shortest(one_run::Ended<cmd_shortest::ShortestAnswer, ProblemFault>),
     /// As `cook`.
@@ -70,6 +72,8 @@ pub enum Ended {
     Check(one_run::Ended<app_texts::Judgement, cert_text::CertFault>),
     /// As `check` where it is asked for a bound.
     Bound(one_run::Ended<cmd_bound::BoundJudgement, shortest_text::ShortestFault>),
+    /// As `check` where it is asked of what a collection printed.
+    Certificates(one_run::Ended<cmd_certificates::CollectionJudgement, cmd_collection::NoFault>),
     /// As `survey`.
     Survey(Written<cmd_survey::Summary>),
     /// As `collection`.
@@ -93,10 +97,12 @@ macro_rules! with_ending {
     ($ended:expr, $ending:ident => $then:expr) => {
         match $ended {
             Ended::Solve($ending) => $then,
+            Ended::Library($ending) => $then,
             Ended::Shortest($ending) => $then,
             Ended::Cook($ending) => $then,
             Ended::Check($ending) => $then,
             Ended::Bound($ending) => $then,
+            Ended::Certificates($ending) => $then,
             Ended::Survey($ending) => $then,
             Ended::Collection($ending) => $then,
             Ended::Solution($ending) => $then,
@@ -151,9 +157,10 @@ impl Refusal {
 impl Ended {
     /// The exit status: 0 for a verdict, an accepted certificate or bound, a survey, a solution, a
     /// record, a report, a session that was over, or help, 1 where a search gave up, 7 where a
-    /// certificate or a bound is refused; of a collection 3 where a line is no problem, else 1
-    /// where a search gave up, else 0; 2 where the words are refused, 3 where the input is, 4 where
-    /// the source failed, 5 where the sink failed, 6 for want of memory.
+    /// certificate, one of a library or of a collection, or a bound is refused; of a collection 3
+    /// where a line is no problem, else 1 where a search gave up, else 0; of its certificates 7,
+    /// else 3 where one is none, else 0; 2 where the words are refused, 3 where the input is, 4
+    /// where the source failed, 5 where the sink failed, 6 for want of memory.
     pub fn status(&self) -> u8
         ensures { result ≡ status_of self.now }
     {

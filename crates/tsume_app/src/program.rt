@@ -2,7 +2,7 @@
 ghost use Rattle.std.specs.Prelude.{◌≡◌, ◌<◌, ◌⊎◌, List, Option, Some, None, Err, IfOk, IfErr, option_map, string_bytes, length};
 ghost use Rattle.tsume_io.specs.Faults.{Rose};
 ghost use Rattle.program_words.specs.Commands.{CommandView, command_view};
-ghost use Rattle.program_words.specs.Commands.CommandView.{to_check};
+ghost use Rattle.program_words.specs.Commands.CommandView.{to_check, to_solve};
 ghost use Rattle.program_words.specs.Meaning.{AsksForHelp, FailsFirst, command_of, file_of};
 ghost use Rattle.tsume_words.specs.declared.faults.WordFault.{WordFault};
 ghost use Rattle.clap.specs.Words.{Text as Word};
@@ -13,6 +13,7 @@ ghost use Rattle.one_run.specs.Stops.{AreUnused, Signals, signals};
 ghost use Rattle.one_run.specs.Written.{IsStatedRun};
 ghost use Rattle.cmd_shortest.specs.Asked.{one_stop, shortest_in};
 ghost use Rattle.cmd_shortest.specs.Headline.{IsShortestRun};
+ghost use Rattle.cmd_solve.specs.Words.{solve_view};
 ghost use Rattle.cmd_check.specs.Asked.{IsFaultInWords, check_in};
 ghost use Rattle.cmd_check.specs.Words.{check_view};
 ghost use Rattle.tsume_app.specs.Run.{IsKept, GivesFault, GivesHelp, WantsMemory, help_meaning};
@@ -21,13 +22,15 @@ ghost use Rattle.tsume_app.specs.Told.{limit_told};
 use crate::ended::{Ended, Refusal};
 use app_texts::ProblemFault;
 use cmd_bound::check_with_bound;
+use cmd_certificates::check_collection;
 use cmd_check::{Check, asked_problem, check};
 use cmd_collection::{Onlooker, collection};
 use cmd_cook::{CheckOnlooker, cook};
+use cmd_library::solve_with_library;
 use cmd_record::record;
 use cmd_shortest::{LengthOnlooker, Shortest, ShortestAnswer, shortest};
 use cmd_solution::solution;
-use cmd_solve::solve;
+use cmd_solve::{SolveWords, solve};
 use cmd_survey::survey;
 use cmd_upgrade::upgrade;
 use cmd_usi::usi;
@@ -75,13 +78,42 @@ fn check_ended<R: Threads + Sync, S: Source, K: Sink>(
     problem_laws();
     match asked_problem(asked) {
         Ok(problem) => {
-            if asked.bound {
+            if asked.collection {
+                Ended::Certificates(check_collection(rt, alloc, asked, source, sink))
+            } else if asked.bound {
                 Ended::Bound(check_with_bound(rt, alloc, asked, &problem, source, sink))
             } else {
                 Ended::Check(check(rt, alloc, asked, &problem, source, sink))
             }
         }
         Err(fault) => Ended::Refused(Refusal::Asked(fault)),
+    }
+}
+
+// Solves, perhaps with a library behind the problem.
+fn solve_ended<
+    R: Threads + Wait + AllocGlobal + Sync,
+    S: Source,
+    K: Sink,
+    G: Gate,
+    T: Stop + Drop,
+>(
+    rt: &R,
+    asked: &SolveWords,
+    source: &mut S,
+    sink: &mut K,
+    gate: &G,
+    stops: &mut Vec<T>,
+) -> Ended
+    requires { length stops.old.items ≡ MOST_WORKERS }
+    ensures { (words : List Word) → IsKept result (Some (to_solve (solve_view asked.now))) words
+        (signals T.signal stops.old.items stops.new.items)
+        (shown S.left S.faults source.old source.new) (shown K.kept K.faults sink.old sink.new) }
+{
+    if asked.library {
+        Ended::Library(solve_with_library(rt, &asked.solve, source, sink, gate, stops))
+    } else {
+        Ended::Solve(solve(rt, &asked.solve, source, sink, gate, stops))
     }
 }
 
@@ -127,7 +159,7 @@ fn command_ended<
 {
     let alloc = rt.alloc();
     match command {
-        Command::Solve(asked) => Ended::Solve(solve(rt, asked, source, sink, gate, stops)),
+        Command::Solve(asked) => solve_ended(rt, asked, source, sink, gate, stops),
         Command::Shortest(asked) => {
             let stop = &mut stops[0];
             Ended::Shortest(shortest_ended(alloc, asked, source, sink, gate, stop))
@@ -217,8 +249,8 @@ fn limit_told(command: &Command) -> Option<u64>
 {
     match command {
         Command::Solve(asked) => {
-            if asked.watch.progress {
-                Some(asked.settings.expansions)
+            if asked.solve.watch.progress {
+                Some(asked.solve.settings.expansions)
             } else {
                 None
             }
