@@ -5,7 +5,7 @@ use cmd_check::Check;
 use cmd_collection::Collection;
 use cmd_cook::Cook;
 use cmd_shortest::Shortest;
-use cmd_solve::Solve;
+use cmd_solve::{Solve, SolveWords};
 use cmd_survey::SurveyRange;
 use program_words::{Asked, Command, read_words};
 use search_limits::Settings;
@@ -127,7 +127,17 @@ static ASKED: [(&str, &str); 40] = [
 ];
 
 // Further such lines.
-static ASKED_TOO: [(&str, &str); 42] = [
+static ASKED_TOO: [(&str, &str); 46] = [
+    (
+        "solve --library --rest --workers 2",
+        "solve 2 1000000 1000000000 65536 64 true with library",
+    ),
+    ("check --collection", "check printed"),
+    (
+        "check --collection --workers 3 --progress told.txt",
+        "check printed by 3 of told.txt",
+    ),
+    ("check --bound", "check bound"),
     ("survey --count 1", "survey 0 1 10000"),
     ("survey --count=10000", "survey 0 10000 10000"),
     ("survey --expansions 1", "survey 0 100 1"),
@@ -254,7 +264,19 @@ static ASKED_TOO: [(&str, &str); 42] = [
 ];
 
 // A line that is refused, and how its text begins.
-static REFUSED: [(&str, &str); 50] = [
+static REFUSED: [(&str, &str); 56] = [
+    ("solve --library --kif", "library with kif"),
+    ("solve --kif --library --rows 24", "rows is no power of two"),
+    ("check --collection --bound", "collection with bound"),
+    ("check --problem a --collection", "collection with problem"),
+    (
+        "check --problem a --collection --bound",
+        "collection with bound",
+    ),
+    (
+        "cook --library",
+        "error: unexpected argument '--library' found",
+    ),
     ("solve --rows 16 --shards 32", "more shards than rows"),
     ("", "Solves tsume-shogi problems"),
     ("dance", "error: unrecognized subcommand 'dance'"),
@@ -420,7 +442,12 @@ static REFUSED: [(&str, &str); 50] = [
 ];
 
 // A request for help or for the version, and a part of its text.
-static HELPED: [(&str, &str); 43] = [
+static HELPED: [(&str, &str); 45] = [
+    (
+        "solve --help",
+        "\n      --library         Certificates stand behind",
+    ),
+    ("check --help", "\n      --collection      Check"),
     ("--version", "tsume 0.1.0\n"),
     ("-V --help", "tsume 0.1.0\n"),
     ("--help", "Usage: tsume <COMMAND>\n"),
@@ -553,7 +580,7 @@ static HIDDEN: [&str; 2] = ["--workers", "--shards"];
 
 fn command_text(alloc: Global, command: &Command) -> Result<String, AllocError> {
     match command {
-        Command::Solve(asked) => search_text(alloc, "solve", asked),
+        Command::Solve(asked) => solve_text(alloc, asked),
         Command::Cook(asked) => cook_text(alloc, asked),
         Command::Shortest(asked) => shortest_text(alloc, asked),
         Command::Check(asked) => check_text(alloc, asked),
@@ -564,6 +591,14 @@ fn command_text(alloc: Global, command: &Command) -> Result<String, AllocError> 
         Command::Upgrade(_) => format!(in alloc; "upgrade"),
         Command::Usi(_) => format!(in alloc; "usi"),
     }
+}
+
+fn solve_text(alloc: Global, asked: &SolveWords) -> Result<String, AllocError> {
+    let solve = search_text(alloc, "solve", &asked.solve)?;
+    if asked.library {
+        return format!(in alloc; "{solve} with library");
+    }
+    Ok(solve)
 }
 
 fn search_text(alloc: Global, name: &str, asked: &Solve) -> Result<String, AllocError> {
@@ -618,6 +653,9 @@ fn check_text(alloc: Global, asked: &Check) -> Result<String, AllocError> {
         Some(problem) => format!(in alloc; "check {problem}")?,
         None => String::from_str(alloc, "check")?,
     };
+    let printed = if asked.collection { " printed" } else { "" };
+    let bound = if asked.bound { " bound" } else { "" };
+    let check = format!(in alloc; "{check}{printed}{bound}")?;
     match asked.workers {
         Some(workers) => format!(in alloc; "{check} by {workers}"),
         None => Ok(check),

@@ -46,10 +46,12 @@ fn own_written<A: Drop>(written: &Written<A>) -> (bool, usize) {
 fn answer_and_input(ended: &Ended) -> (bool, usize) {
     match ended {
         Ended::Solve(ended) => own(ended),
+        Ended::Library(ended) => own(ended),
         Ended::Shortest(ended) => own(ended),
         Ended::Cook(ended) => own(ended),
         Ended::Check(ended) => own(ended),
         Ended::Bound(ended) => own(ended),
+        Ended::Certificates(ended) => own(ended),
         Ended::Survey(ended) => own_written(ended),
         Ended::Collection(ended) => own(ended),
         Ended::Solution(ended) => own(ended),
