@@ -53,12 +53,18 @@ CASES = [
     (["solve", "--help"], "two-rooks.sfen"),
     (["check", "--workers", "2"], "rook-chases-king.cert"),
     (["check", "--workers", "64"], "two-rooks-mate.cert"),
+    (["check", "--bound"], "two-rooks-shortest.txt"),
+    (["check", "--collection", "--workers", "1"], "collection-told.txt"),
+    (["solve", "--library"], "two-rooks-with-library.txt"),
+    (["cook", "--line", "R*2b 5b4a 1c1a"], "two-rooks.sfen"),
+    (["upgrade"], "two-rooks-mate.cert"),
 ]
 CREWS = [
     (["solve", "--workers", "2"], "gold-drop-mates.sfen"),
     (["solve", "--workers", "2"], "two-rooks.sfen"),
     (["solve", "--workers", "2"], "second-pawn-on-the-file.sfen"),
     (["solve", "--workers", "64", "--rows", "16", "--shards", "1"], "two-rooks.sfen"),
+    (["solve", "--library", "--workers", "2"], "two-rooks-with-library.txt"),
 ]
 
 
