@@ -16,10 +16,16 @@ problem_option = text_option (codes "problem")
 abbrev pub bound_flag : Rule
 bound_flag = flag_option (codes "bound")
 
--- `check` has the workers, the problem, the two flags and the file.
+-- The flag that the text is what a collection printed with certificates.
+abbrev pub collection_flag : Rule
+collection_flag = flag_option (codes "collection")
+
+-- `check` has the workers, the problem, the three flags and the file.
 unfoldable pub check_line : App
 check_line = with_rule
     (with_rule
+    (with_rule
     (with_rule (with_rule (with_rule (new_app (codes "check")) workers_option) problem_option) bound_flag)
+    collection_flag)
     progress_flag)
     file_word

@@ -7,6 +7,7 @@
 #![tactic(auto)]
 
 mod asked;
+mod clash;
 mod judgement;
 mod running;
 mod words;

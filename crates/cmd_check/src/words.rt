@@ -6,15 +6,16 @@ ghost use Rattle.clap.specs.Words.{found_of, rows_of, rule_of};
 ghost use Rattle.search_limits.specs.Sizes.{IsFromTo};
 ghost use Rattle.search_limits.specs.declared.settings.TheConstants.{MOST_WORKERS};
 ghost use Rattle.tsume_words.specs.Given.{HasNumberIfAny, number_if_given};
-ghost use Rattle.cmd_check.specs.Line.{bound_flag, problem_option, workers_option};
+ghost use Rattle.cmd_check.specs.Line.{bound_flag, collection_flag, problem_option, workers_option};
 ghost use Rattle.tsume_words.specs.Options.{progress_flag};
 
+use crate::clash::clash_among;
 use clap::{Arg, ArgMatches, Command};
 use search_limits::MOST_WORKERS;
 use std::alloc::{AllocError, Global};
 use tsume_words::{
-    CommandWords, WordsEnd, file, file_word, flag_option, is_flagged, number_if_any_option,
-    number_if_given, text, text_option,
+    CommandWords, WordFault, WordsEnd, file, file_word, flag_option, is_flagged,
+    number_if_any_option, number_if_given, text, text_option,
 };
 
 /// What `check` is asked.
@@ -30,6 +31,10 @@ pub struct Check {
     /// Whether the text has a bound: behind a mate's certificate, or alone. A run of
     /// [`check`](crate::check) reads a certificate all the same: another crate reads the other.
     pub bound: bool,
+    /// Whether the text is what `collection --certificates` printed, of many certificates. It goes
+    /// with neither a bound nor a given problem. A run of [`check`](crate::check) reads one
+    /// certificate all the same: another crate reads the many.
+    pub collection: bool,
     /// Whether the user is told which problem was accepted.
     pub progress: bool,
     pub ghost workers_in_range: { ForSome workers (IsFromTo 1 MOST_WORKERS) },
@@ -80,6 +85,21 @@ fn bound_flag<'a>(alloc: Global) -> Arg<'a>
     )
 }
 
+fn collection_flag<'a>(alloc: Global) -> Arg<'a>
+    ensures rule { rule_of result ≡ collection_flag }
+    ensures local { result.global ≡ false }
+{
+    flag_option(
+        alloc,
+        "collection",
+        "Check what `collection --certificates` printed, parts\n\
+         of it too: the certificate behind each line that tells\n\
+         a mate or no mate, for its own problem. Neither with\n\
+         --bound nor --problem. Off unless given; it costs\n\
+         nothing",
+    )
+}
+
 // The flag has the name of that of a search, and another text.
 fn told_flag<'a>(alloc: Global) -> Arg<'a>
     ensures rule { rule_of result ≡ progress_flag }
@@ -122,13 +142,18 @@ impl CommandWords for Check {
                  and not moves.\n\n\
                  With --bound the answers are `accepted shortest N`: a mate in N of the\n\
                  attacker's moves, and none shorter; and `accepted none within N`.\n\n\
+                 With --collection there is such an answer for each line that tells a verdict,\n\
+                 behind the line's number, or `fault` and the fault of its certificate; last\n\
+                 comes `certificates C accepted A refused R fault F`.\n\n\
                  Status: 0 accepted, 7 refused, 2 words refused, 3 no certificate, 4 reading\n\
-                 failed, 5 writing failed, 6 out of memory.\n\n\
+                 failed, 5 writing failed, 6 out of memory. With --collection: 7 where one is\n\
+                 refused, else 3 where one is no certificate, else 0.\n\n\
                  Example:\n  tsume solve problem.sfen | tsume check",
             )
             .arg(workers_option(alloc))?
             .arg(problem_option(alloc))?
             .arg(bound_flag(alloc))?
+            .arg(collection_flag(alloc))?
             .arg(told_flag(alloc))?
             .arg(file_word(
                 alloc,
@@ -139,12 +164,17 @@ impl CommandWords for Check {
     fn read(alloc: Global, given: &ArgMatches<'_>) -> Result<Check, WordsEnd> {
         let workers = workers(given);
         let bound = is_flagged(given, "bound");
+        let collection = is_flagged(given, "collection");
         let progress = is_flagged(given, "progress");
         let problem = text(alloc, given, "problem")?;
+        if let Some(clash) = clash_among(collection, bound, &problem) {
+            return Err(WordFault::Clash(clash).into());
+        }
         Ok(Check {
             problem,
             workers,
             bound,
+            collection,
             progress,
         })
     }
