@@ -16,5 +16,5 @@ mod words;
 pub use asked::Solve;
 pub use running::{solve, solve_alone};
 pub use solution::{Question, solve_problem};
-pub use stops::arm_all;
+pub use stops::{arm_all, arm_each};
 pub use words::{SolveWords, search_asked, search_options};

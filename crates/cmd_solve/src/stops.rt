@@ -4,8 +4,8 @@ ghost use Rattle.search_gate.specs.Stop.{armed_with};
 
 use search_gate::Stop;
 
-/// Arms each stop, for a deadline or for none.
-pub(crate) fn arm_each<T: Stop>(stops: &mut [T], after_ms: Option<u64>)
+/// Arms each stop, for a deadline of so many milliseconds or for none.
+pub fn arm_each<T: Stop>(stops: &mut [T], after_ms: Option<u64>)
     ensures { map T.signal stops.new ≡ map (λ stop. armed_with (T.signal stop) after_ms) stops.old }
 {
     for stop in stops.iter_mut() {

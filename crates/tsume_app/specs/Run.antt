@@ -17,7 +17,7 @@ use Rattle.cmd_cook.specs.Headline.{IsCookRun}
 use Rattle.cmd_check.specs.Asked.{IsFaultInWords, AnyProblemIsSound}
 use Rattle.cmd_check.specs.Headline.{IsCheckRun}
 use Rattle.cmd_bound.specs.Headline.{IsBoundRun}
-use Rattle.cmd_certificates.specs.Headline.{IsCertificatesRun}
+use Rattle.cmd_certificates.specs.Headline.{IsCollectionRun as IsCertificatesRun}
 use Rattle.cmd_survey.specs.Headline.{IsSurveyRun}
 use Rattle.cmd_collection.specs.Headline.{IsCollectionRun}
 use Rattle.cmd_record.specs.Headline.{IsRecordRun}

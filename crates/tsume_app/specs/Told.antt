@@ -19,7 +19,7 @@ use Rattle.run_telling.specs.Telling.{Telling, BeginsAsTold, MayFollowMoves, May
 use Rattle.cmd_collection.specs.Counts.{counts_status}
 use Rattle.cmd_shortest.specs.Text.{answer_status as shortest_status}
 use Rattle.cmd_bound.specs.Text.{bound_status}
-use Rattle.cmd_certificates.specs.Text.{certificates_status}
+use Rattle.cmd_certificates.specs.Judged.{judged_status}
 use Rattle.cmd_library.specs.FaultText.{MayFollowLibrary, library_fault_text}
 use Rattle.cmd_library.specs.Text.{library_status}
 use Rattle.cmd_cook.specs.FaultText.{MayFollowCook, cook_fault_text}
@@ -92,7 +92,7 @@ left_by (ends.Shortest ended) = by_reading shortest_status problem_fault_text Ma
 left_by (ends.Cook ended) = by_reading cook_status cook_fault_text MayFollowCook ended
 left_by (ends.Check ended) = by_reading judgement_status certificate_fault_text (λ fault. IsPlain) ended
 left_by (ends.Bound ended) = by_reading bound_status shortest_fault_text (λ fault. IsPlain) ended
-left_by (ends.Certificates ended) = by_reading certificates_status (λ fault. []) (λ fault explanation. explanation ≡ []) ended
+left_by (ends.Certificates ended) = by_reading judged_status (λ fault. []) (λ fault explanation. explanation ≡ []) ended
 left_by (ends.Survey ended) = by_writing (λ summary. 0) ended
 left_by (ends.Collection ended) = by_reading counts_status (λ fault. []) (λ fault explanation. explanation ≡ []) ended
 left_by (ends.Solution ended) = by_reading verdict_status moves_fault_text MayFollowMoves ended

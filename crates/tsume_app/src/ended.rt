@@ -73,7 +73,7 @@ pub enum Ended {
     /// As `check` where it is asked for a bound.
     Bound(one_run::Ended<cmd_bound::BoundJudgement, shortest_text::ShortestFault>),
     /// As `check` where it is asked of what a collection printed.
-    Certificates(one_run::Ended<cmd_certificates::CollectionJudgement, cmd_collection::NoFault>),
+    Certificates(one_run::Ended<cmd_certificates::CollectionJudgement, cmd_certificates::NoFault>),
     /// As `survey`.
     Survey(Written<cmd_survey::Summary>),
     /// As `collection`.

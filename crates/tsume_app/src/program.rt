@@ -91,13 +91,7 @@ fn check_ended<R: Threads + Sync, S: Source, K: Sink>(
 }
 
 // Solves, perhaps with a library behind the problem.
-fn solve_ended<
-    R: Threads + Wait + AllocGlobal + Sync,
-    S: Source,
-    K: Sink,
-    G: Gate,
-    T: Stop + Drop,
->(
+fn solve_ended<R: Threads + Wait + AllocGlobal + Sync, S: Source, K: Sink, G: Gate, T: Stop + Drop>(
     rt: &R,
     asked: &SolveWords,
     source: &mut S,

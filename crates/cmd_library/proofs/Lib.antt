@@ -1,0 +1,6 @@
+pub mod Cutting
+pub mod Knowing
+pub mod Refusing
+pub mod Verdict
+pub mod Promises
+pub mod Offered

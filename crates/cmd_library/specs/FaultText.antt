@@ -1,0 +1,18 @@
+-- What is wrong with the text of a problem with a library behind it, in words.
+use Rattle.std.specs.Prelude.{◌≡◌, ℕ, List, []}
+use Rattle.app_texts.specs.FaultText.{problem_fault_text}
+use Rattle.library_text.specs.FaultText as library
+use Rattle.run_telling.specs.Telling.{MayFollowProblem}
+use Rattle.cmd_library.specs.declared.fault.LibraryTextFault.{LibraryTextFault}
+use Rattle.cmd_library.specs.declared.fault.LibraryTextFault.TheVariants.{Problem, Library}
+
+-- Why there is nothing to solve, in words: the problem's fault, or the library's.
+abbrev pub library_fault_text : LibraryTextFault → List ℕ
+library_fault_text (Problem fault) = problem_fault_text fault
+library_fault_text (Library fault) = library.library_fault_text fault
+
+-- What stands for a reader behind it: what may behind the problem's fault, and nothing behind the
+-- library's.
+abbrev pub MayFollowLibrary : LibraryTextFault → List ℕ → Type 0
+MayFollowLibrary (Problem fault) explanation = MayFollowProblem fault explanation
+MayFollowLibrary (Library fault) explanation = explanation ≡ []
