@@ -26,12 +26,12 @@ use Rattle.one_run.specs.declared.ended.Ended.TheVariants.{Answered, CutShort, F
 use Rattle.one_run.specs.declared.ended.Fault.TheVariants.{Text, TooLong, Read, NoMemory}
 use Rattle.one_run.proofs.Offered.{took_it, unbegun_run}
 use Rattle.one_run.specs.Outside.{Shown, IsUntouched}
-use Rattle.one_run.specs.Run.{IsBrokenOff, IsEnded, IsRun, IsWellPosed}
+use Rattle.one_run.specs.Run.{AreUsedTill, IsBrokenOff, IsEnded, IsRun, IsWellPosed}
 use Rattle.one_run.specs.Stops.{Signals, AreUnused, once_armed}
 use Rattle.cmd_solve.specs.Headline.{NamesMate, NamesNoMate}
 use Rattle.cmd_solve.specs.Meaning.{SolveView}
 use Rattle.cmd_library.specs.Answer.{HasRefused, IsFaultOf, IsPosed, IsSolutionWith, IsTrueAnswer, IsTrueWith, IsVerdictFoundWith}
-use Rattle.cmd_library.specs.Headline.{HasLibraryLeft, IsKnownText, IsLibraryRun, IsUnknownWith, IsVerdictWith, LineStandsForMate, LineStandsForNoMate}
+use Rattle.cmd_library.specs.Headline.{AreUsedFor, HasLibraryLeft, IsKnownText, IsLibraryRun, IsUnknownWith, IsVerdictWith, LineStandsForMate, LineStandsForNoMate}
 use Rattle.cmd_library.specs.Meaning.{library_meaning}
 use Rattle.cmd_library.specs.Notes.{IsKnownBy, notes_of}
 use Rattle.cmd_library.specs.declared.answer.LibraryAnswer.{LibraryAnswer}
@@ -221,6 +221,15 @@ posed_of laws asked left given = record {
   faultless = no_fault laws.reading laws.faultless asked.form given.input given.problem given.certificates given.posed;
 }
 
+-- the stops are used where a solution is told
+used_of : (asked : SolveView) (stops : Signals) (source sink : Shown) (ended : Ended LibraryAnswer LibraryTextFault)
+    → IsEnded (library_meaning asked) stops source sink ended → AreUsedTill (library_meaning asked) stops ended → AreUsedFor asked stops ended
+used_of asked stops source sink (Answered (Solved solution)) ended used = ended.decided.true_of.used
+used_of asked stops source sink (Answered (Refused refused)) ended used = ended.decided.true_of.1
+used_of asked stops source sink (CutShort (Solved solution)) ended used = ended.decided.true_of.used
+used_of asked stops source sink (CutShort (Refused refused)) ended used = ended.decided.true_of.1
+used_of asked stops source sink (Failed fault input) ended used = used
+
 -- a run of `solve --library` keeps all that it promises
 pub library_run : Laws → (asked : SolveView) (stops : Signals) (source sink : Shown) (ended : Ended LibraryAnswer LibraryTextFault)
     → IsRun (library_meaning asked) stops source sink ended → IsLibraryRun asked stops source sink ended
@@ -233,7 +242,7 @@ library_run laws asked stops source sink ended run = record {
   own_mate = λ c moves is. own_mate_of asked stops source sink c moves (at is);
   own_no_mate = λ c is. own_no_mate_of asked stops source sink c (at is);
   does = run.does;
-  used = run.used;
+  used = used_of asked stops source sink ended run.does run.used;
   counted = run.counted;
   complete = λ given sound kept. run.complete (posed_of laws asked source.told given) sound kept;
 }

@@ -14,10 +14,10 @@ use Rattle.tsume_words.specs.declared.form.ProblemForm.{ProblemForm}
 use Rattle.app_texts.specs.declared.answer.Solution.{Solution}
 use Rattle.app_texts.specs.declared.answer.Solution.TheVariants.{Mate, NoMate, Unknown}
 use Rattle.one_run.specs.declared.ended.Ended.{Ended}
-use Rattle.one_run.specs.declared.ended.Ended.TheVariants.{Answered}
+use Rattle.one_run.specs.declared.ended.Ended.TheVariants.{Answered, CutShort, Failed}
 use Rattle.one_run.specs.Outside.{Shown}
-use Rattle.one_run.specs.Run.{IsEnded, AreUsedTill, IsBrokenOff, IsCounted, IsAnswered, WantsMemory}
-use Rattle.one_run.specs.Stops.{Signals, once_armed}
+use Rattle.one_run.specs.Run.{IsEnded, AreUsedBefore, IsBrokenOff, IsCounted, IsAnswered, WantsMemory}
+use Rattle.one_run.specs.Stops.{Signals, AreUnused, AreUsed, once_armed}
 use Rattle.cmd_solve.specs.Headline.{NamesMate, NamesNoMate, StandsForMate, StandsForNoMate}
 use Rattle.cmd_solve.specs.Meaning.{SolveView}
 use Rattle.cmd_library.specs.declared.answer.LibraryAnswer.{LibraryAnswer}
@@ -82,6 +82,15 @@ pub record HasLibraryLeft (form : ProblemForm) (left : Option (List ℕ)) : Type
   pub short : length input ≤ MOST_LIBRARY_BYTES
   pub posed : IsPosed form input problem certificates
 
+-- The stops at the end of a run: used where a solution is told, and nowhere else; where memory is
+-- wanted, either.
+abbrev pub AreUsedFor : SolveView → Signals → Ended LibraryAnswer LibraryTextFault → Type 0
+AreUsedFor asked stops (Answered (Solved solution)) = AreUsed asked.settings.workers asked.watch.deadline stops
+AreUsedFor asked stops (Answered (Refused refused)) = AreUnused stops
+AreUsedFor asked stops (CutShort (Solved solution)) = AreUsed asked.settings.workers asked.watch.deadline stops
+AreUsedFor asked stops (CutShort (Refused refused)) = AreUnused stops
+AreUsedFor asked stops (Failed fault input) = AreUsedBefore (library_meaning asked) stops fault
+
 -- A run of `solve --library` kept all that it promises, clause by clause, for whoever hands it on.
 pub record IsLibraryRun (asked : SolveView) (stops : Signals) (source sink : Shown) (ended : Ended LibraryAnswer LibraryTextFault) : Type 0 where
   pub mate : (input : List ℕ) (c : Mating) (moves : List Move) → source.told ≡ Some input
@@ -99,7 +108,7 @@ pub record IsLibraryRun (asked : SolveView) (stops : Signals) (source sink : Sho
   pub own_mate : (c : Mating) (moves : List Move) → ended ≡ Answered (Solved (Mate c moves)) → NamesMate c moves
   pub own_no_mate : (c : Escaping) → ended ≡ Answered (Solved (NoMate c)) → NamesNoMate c
   pub does : IsEnded (library_meaning asked) stops source sink ended
-  pub used : AreUsedTill (library_meaning asked) stops ended
+  pub used : AreUsedFor asked stops ended
   pub counted : IsCounted source sink ended
   pub complete : HasLibraryLeft asked.form source.told → ¬ Rose source.faults source.faults_after
       → ¬ Rose sink.faults sink.faults_after

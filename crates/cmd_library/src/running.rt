@@ -8,12 +8,12 @@ ghost use Rattle.visit_log.specs.Run.{WorkerView};
 ghost use Rattle.tsume_io.specs.Faults.{Rose};
 ghost use Rattle.app_texts.specs.declared.answer.Solution.{Solution};
 ghost use Rattle.one_run.specs.Outside.{shown};
-ghost use Rattle.one_run.specs.Run.{IsEnded, AreUsedTill, IsBrokenOff, IsCounted, IsAnswered, IsRun, WantsMemory};
+ghost use Rattle.one_run.specs.Run.{IsEnded, IsBrokenOff, IsCounted, IsAnswered, IsRun, WantsMemory};
 ghost use Rattle.one_run.specs.Stops.{once_armed, signals};
 ghost use Rattle.cmd_solve.specs.Asked.{solve_in};
 ghost use Rattle.cmd_solve.specs.Headline.{NamesMate, NamesNoMate};
 ghost use Rattle.cmd_library.specs.Answer.{HasRefused};
-ghost use Rattle.cmd_library.specs.Headline.{HasLibraryLeft, IsKnownText, IsLibraryRun, IsUnknownWith, IsVerdictWith, LineStandsForMate, LineStandsForNoMate};
+ghost use Rattle.cmd_library.specs.Headline.{AreUsedFor, HasLibraryLeft, IsKnownText, IsLibraryRun, IsUnknownWith, IsVerdictWith, LineStandsForMate, LineStandsForNoMate};
 ghost use Rattle.cmd_library.specs.Meaning.{library_meaning};
 
 use crate::asked::WithLibrary;
@@ -172,7 +172,7 @@ pub fn solve_with_library<
     // Each stop is armed once, for the deadline or for none, where a solution is told, before any
     // is polled; and only the workers' are polled, worker w's at place w. Else no stop is used;
     // where memory is wanted, either.
-    ensures used { AreUsedTill (library_meaning (solve_in asked.now))
+    ensures used { AreUsedFor (solve_in asked.now)
         (signals T.signal stops.old.items stops.new.items) result }
 
     // The source's count of faults rises only where the run ends for it, and the sink's likewise.

@@ -67,6 +67,15 @@ returns-clause-own_no_mate g c =
     c.library_through.result c.library_through.ensures
     ).own_no_mate
 
+pub returns-clause-used : goal.returns-clause-used
+returns-clause-used g c =
+    (
+    library_run (record { reading = c.problem_laws.ensures; apart = c.library_laws.ensures.texts; faultless = c.library_laws.ensures.faultless; verdict = c.verdict_laws.ensures.once })
+    (solve_in c.args.asked.now) (signals g.T.Stop.signal c.args.stops.now.items c.library_through.new.stops.items)
+    (shown g.S.Source.left g.S.Source.faults c.args.source.now c.library_through.new.source) (shown g.K.Sink.kept g.K.Sink.faults c.args.sink.now c.library_through.new.sink)
+    c.library_through.result c.library_through.ensures
+    ).used
+
 pub returns-clause-complete : goal.returns-clause-complete
 returns-clause-complete g c =
     (
