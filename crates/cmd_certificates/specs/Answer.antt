@@ -44,8 +44,8 @@ IsTold line (Accepted claim entries) = IsLineAccepted line claim entries
 IsTold line (Refused entry why) = IsLineRefused line entry why
 IsTold line (Fault fault) = IsNoCertificate line.certificate fault ⊎ IsOfAnother line fault
 
--- A line that tells a verdict was judged so: under its number, as it is written, what is told of its
--- certificate is true.
+-- A line that tells a verdict was judged so: under its number, as it is written, what is told of
+-- its certificate is true.
 pub record IsLineJudged (line : ToldView) (judged : JudgedView) : Type 0 where
   pub number : judged.number ≡ line.number
   pub told : IsTold line judged.told

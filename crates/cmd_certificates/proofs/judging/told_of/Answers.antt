@@ -1,5 +1,5 @@
--- What was read is the text of one certificate; where it claims another verdict than the line tells,
--- its head is at fault, and else it is judged for its own problem.
+-- What was read is the text of one certificate; where it claims another verdict than the line
+-- tells, its head is at fault, and else it is judged for its own problem.
 use Rattle.std.proofs.Common.{inr, refl, sym}
 use Rattle.std.proofs.lemmas.Result.{IfOk-weaker}
 use Rattle.collection_text.specs.Told.{ToldView, seen}
