@@ -1,11 +1,11 @@
 -- An input has one first line, stands for one problem with one library, and has no fault then.
-use Rattle.std.proofs.Common.{◌≡◌, ◌∙◌, inl, inr, ℕ, List, [], ◌∷◌, ◌++◌, Ok, Err, ap, refl, subst, sym}
+use Rattle.std.proofs.Common.{◌≡◌, ◌∙◌, inl, inr, ℕ, List, Ok, Err, subst, sym}
 use Rattle.board_core.specs.Board.{Board}
 use Rattle.cert_text.specs.declared.certificate.Certificate.{Certificate}
 use Rattle.cert_text.specs.Reading.{Lacks}
 use Rattle.cert_text.proofs.Offered.{cut_same, not_lacks}
 use Rattle.library_text.specs.Laws.{LibraryTextsApart, LibraryTextsAreFaultless}
-use Rattle.library_text.specs.Reading.{HasFirstFault, IsTextOf}
+use Rattle.library_text.specs.Reading.{IsTextOf}
 use Rattle.tsume_words.specs.declared.form.ProblemForm.{ProblemForm}
 use Rattle.problem_answers.specs.Reading.{OneReading, StandsFor}
 use Rattle.cmd_library.specs.Answer.{IsFaultOf, IsPosed}

@@ -1,6 +1,6 @@
 -- What the notes of a library are, and which problems they reach.
-use Rattle.std.proofs.Common.{◌≡◌, ◌∙◌, ◌<◌, ◌≤◌, ◌⊎◌, inl, inr, Bool, true, false, ℕ, zero, suc, List, [], ◌∷◌, ◌++◌, Some, All, Contains, map, ap, refl, subst, sym, arith, if◌then◌else◌}
-use Rattle.std.specs.Prelude.{IsSomeAnd, Option, filter, nat_lt, slice_get}
+use Rattle.std.proofs.Common.{◌≡◌, ◌∙◌, ◌⊎◌, inl, inr, Bool, true, false, ℕ, zero, suc, List, [], ◌∷◌, ◌++◌, All, Contains, ap, refl, subst, sym, arith, if◌then◌else◌}
+use Rattle.std.specs.Prelude.{IsSomeAnd, Option, filter, nat_lt}
 use Rattle.std.specs.List.{flat_map}
 use Rattle.std.proofs.lemmas.Bool.{lt-ltb}
 use Rattle.std.proofs.lemmas.List.Elements.{All-append, All-map, All-nil, Contains-append_left, Contains-append_right}
@@ -17,7 +17,7 @@ use Rattle.cert_extract.specs.Known.{leaves_of}
 use Rattle.notes.specs.Derivation.{Derivation, escape_leaf, mate_leaf, position_of}
 use Rattle.notes.specs.Sets.{low_entries, ranked, unranked}
 use Rattle.unit_desk.specs.Known.{IsKnown, Reaches, ReachesAt}
-use Rattle.cmd_library.specs.Notes.{IsKnownBy, IsListedIn, Lists, leaves_for, notes_of}
+use Rattle.cmd_library.specs.Notes.{IsKnownBy, Lists, leaves_for, notes_of}
 
 -- 1. THE NOTES MAY BE KNOWN.
 

@@ -9,7 +9,7 @@ use Rattle.cert_text.specs.declared.certificate.Certificate.TheVariants as certi
 use Rattle.cert_text.specs.Certificate.{Mating, Escaping}
 use Rattle.cert_check.specs.Valid.{ValidMate, ValidEscape}
 use Rattle.play_line.specs.Line.{IsMainLine}
-use Rattle.library_check.specs.Refused.{AreValid, IsFirstRefused}
+use Rattle.library_check.specs.Refused.{IsFirstRefused}
 use Rattle.library_check.specs.declared.refused.Refused.{Refused as RefusedOne}
 use Rattle.library_text.specs.Laws.{LibraryTextsApart, LibraryTextsAreFaultless}
 use Rattle.search_limits.specs.Sizes.{SettingsView}

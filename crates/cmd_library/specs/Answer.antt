@@ -1,5 +1,5 @@
 -- When an answer to a problem with a library behind it is true, and a fault one of its text.
-use Rattle.std.specs.Prelude.{◌≡◌, ◌⊎◌, ℕ, List, Ok, Err}
+use Rattle.std.specs.Prelude.{◌⊎◌, ℕ, List, Ok, Err}
 use Rattle.board_core.specs.Board.{Board}
 use Rattle.notes.specs.Derivation.{Derivation}
 use Rattle.cert_text.specs.declared.certificate.Certificate.{Certificate}

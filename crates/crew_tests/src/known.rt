@@ -12,14 +12,20 @@ use search_limits::Cause;
 use search_pool::SearchEnd;
 use shogi_rules::Problem;
 use std::alloc::AllocError;
+use std::process::Abort;
 use std::slice;
+use std::sync::Wait;
 use std::test::Fail;
+use std::thread::Threads;
 
 // The mate by a gold, with a pawn more in the attacker's hand.
 const GOLD_AND_PAWN: &str = "4k4/9/4P4/9/9/9/9/9/9 b GP";
 
 // The note that a search of the mate by a gold finds, if the search of the problem may know it.
-fn gold_for(rt: &HostRuntime, known_to: &Problem) -> Result<Option<Note>, AllocError>
+fn gold_for<R: Abort + Threads + Wait + AllocGlobal + Sync>(
+    rt: &R,
+    known_to: &Problem,
+) -> Result<Option<Note>, AllocError>
     ensures { IfOk result (λ found. IfSome found (IsKnown known_to.now.position.side)) }
 {
     let gold = problem(rt, GOLD);
