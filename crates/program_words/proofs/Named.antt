@@ -17,7 +17,7 @@ found_is (Some b) f name rows named told =
 -- `cook` is given what it wants
 pub cook_given : (o : Option (Text × List Row)) (rows : List Row) → IsSomeAnd o commands.IsGiven → o ≡ Some (codes "cook", rows) → IsForSearch rows
 cook_given o rows given is = elim (subst (λ (q : Option (Text × List Row)). IsSomeAnd q commands.IsGiven) is given) [
-  | inl solve ↦ solve.1
+  | inl solve ↦ let no = solve.0 in absurd (cc)
   | inr more ↦ elim more [
     | inl shortest ↦ let no = shortest.0 in absurd (cc)
     | inr more ↦ elim more [
