@@ -283,11 +283,12 @@ pub fn told_limit(words: &WordsRead) -> Result<Option<u64>, AllocError>
     }
 }
 
-/// Whether the words ask that the user be told which problem was accepted. No clause depends on it.
+/// Whether the words ask that the user be told which problem was accepted, where it is one. No
+/// clause depends on it.
 pub(crate) fn tells_accepted(words: &WordsRead) -> bool {
     match words.reading() {
         Ok(asked) => match &asked.command {
-            Command::Check(asked) => asked.progress,
+            Command::Check(asked) => asked.progress && !asked.collection,
             _ => false,
         },
         Err(_) => false,
