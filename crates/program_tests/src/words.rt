@@ -545,7 +545,7 @@ static HELPED: [(&str, &str); 45] = [
     ),
     (
         "collection --rows 24 -h",
-        "power of two, 16 to 16777216. A row takes 1 KB, all at\n",
+        "power of two, 16 to 16777216. A row takes 1 KB when\n",
     ),
     (
         "help collection",

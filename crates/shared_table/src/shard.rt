@@ -43,8 +43,8 @@ impl<J: Job> Model for JobShard<J> {
 }
 
 impl<J: Job> JobShard<J> {
-    /// A shard of so many rows, at least one, that knows nothing yet: about 912 bytes a row.
-    /// Errors: want of memory alone.
+    /// A shard of so many rows, at least one, that knows nothing yet: about 924 bytes a row, most
+    /// of which is first touched when the row is entered. Errors: want of memory alone.
     pub fn make(alloc: Global, rows: usize) -> Result<JobShard<J>, AllocError>
         requires { 0 < rows }
         ensures { IfOk result (λ shard. shard ≡ replicate rows []) }

@@ -1,6 +1,6 @@
 mod Noted
 mod Rows
-mod Used
+mod Made
 mod Places
 mod Marks
 mod Emptied

@@ -7,6 +7,6 @@ pub mod Row
 pub mod Shard
 pub mod Spot
 pub mod Emptied
-pub mod Used
+pub mod Made
 pub mod Marks
 pub mod Known

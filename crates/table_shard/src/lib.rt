@@ -16,6 +16,7 @@
 mod entry;
 mod facts;
 mod hash;
+mod made_rows;
 mod pins;
 mod row;
 mod shard;

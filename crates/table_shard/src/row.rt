@@ -1,5 +1,5 @@
 // A row of eight slots.
-ghost use Rattle.std.specs.Prelude.{◌≡◌, ◌≢◌, ◌<◌, ◌≤◌, ◌++◌, ◌==◌, ◌↔◌, [], ◌∷◌, ℕ, IfSome, IfNone, Some, None, MatchOption, MatchResult, IsSomeAnd, All, IsTrue, false, length, slice_get, slice_set, slice_index, option_copied};
+ghost use Rattle.std.specs.Prelude.{◌≡◌, ◌≢◌, ◌<◌, ◌≤◌, ◌++◌, ◌↔◌, [], ◌∷◌, ℕ, IfSome, IfNone, Some, None, MatchOption, MatchResult, IsSomeAnd, All, IsTrue, false, length, slice_get, slice_set, slice_index, option_copied};
 ghost use Rattle.pn_numbers.specs.Numbers.{IsOpen};
 ghost use Rattle.table_shard.specs.Entry.{EntryView, IsEntry, IsFirstWithin, FitsKey};
 ghost use Rattle.table_shard.specs.Marks.{marks_of};
@@ -57,21 +57,6 @@ impl Row {
             marks: ArrayVec::new(),
             entries: ArrayVec::new(),
         }
-    }
-
-    // Whether all slots are free.
-    pub(crate) fn is_empty(&self) -> bool
-        ensures { result ≡ (length self.now == 0) }
-    {
-        self.entries.is_empty()
-    }
-
-    // Frees all slots.
-    pub(crate) fn clear(&mut self)
-        ensures { self.new ≡ [] }
-    {
-        self.marks.clear();
-        self.entries.clear();
     }
 
     // What is kept of every row. Does nothing.

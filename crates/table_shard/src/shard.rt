@@ -10,8 +10,8 @@ ghost use Rattle.table_shard.specs.Emptied.{AreUncounted};
 ghost use Rattle.table_shard.specs.Known.{TakesNote};
 
 use crate::hash::{Spot, hash_of, spot_at};
+use crate::made_rows::Rows;
 use crate::pins::{Pins, RowPins};
-use crate::row::Row;
 use board_core::{Key, Side, key};
 use notes::{Kept, Note, Seen, Update};
 use path_tags::Path;
@@ -32,40 +32,35 @@ use std::marker::Model;
 /// shard is made.
 #[derive(Drop)]
 pub struct Shard {
-    rows: Vec<Row>,
-    // The places of the rows that have entries.
-    used: Vec<usize>,
+    rows: Rows,
 }
 
 impl Model for Shard {
-    ghost use Rattle.std.specs.Prelude.{List, vec_capacity};
+    ghost use Rattle.std.specs.Prelude.{List};
     ghost use Rattle.std.specs.Coded.{codes};
     ghost use Rattle.table_shard.specs.contracts.row.Row as row;
     ghost use Rattle.table_shard.specs.Entry.{EntryView};
-    ghost use Rattle.table_shard.specs.Used.{IsShard};
+    ghost use Rattle.table_shard.specs.Made.{IsShard, rows_of};
 
     ghost Value = { List (List EntryView) };
 
     ghost coded = { Prim.hlevel (codes, row.the_row.coded) };
 
-    ghost view = { λ s. s.rows.items };
+    ghost view = { λ s. rows_of s.rows };
 
-    ghost invariant = { λ s. IsShard s.rows.items s.used.items (vec_capacity s.used) };
+    ghost invariant = { λ s. IsShard s.rows };
 }
 
 impl Shard {
     /// A shard of so many rows, which needs at least one, and all its memory but for that of the
-    /// notes: about 912 bytes a row. Errors: want of memory alone.
+    /// notes: about 924 bytes a row, of which all but four are first touched when the row is first
+    /// entered. Errors: want of memory alone, which 2^32 rows always are.
     pub fn make(alloc: Global, rows: usize) -> Result<Shard, AllocError>
         requires { 0 < rows }
         ensures { IfOk result (λ shard. shard ≡ replicate rows []) }
     {
-        let used = Vec::with_capacity(alloc, rows)?;
-        let mut made = Vec::with_capacity(alloc, rows)?;
-        while made.len() < rows {
-            made.push(Row::empty())?;
-        }
-        Ok(Shard { rows: made, used })
+        let rows = Rows::make(alloc, rows)?;
+        Ok(Shard { rows })
     }
 
     /// What the type keeps: it has a row, and each row has at most eight entries, each true, no two
@@ -75,7 +70,7 @@ impl Shard {
         ensures some { 0 < length self.now }
         ensures rows { All IsRow self.now }
     {
-        let _kept = &self.rows;
+        self.rows.laws();
     }
 
     /// Takes all entries out, for the search of another problem, and sets the counts beside each
@@ -86,9 +81,7 @@ impl Shard {
         ensures rows { self.new ≡ replicate (length self.old) [] }
         ensures pins { pins.new ≡ replicate (length self.old) (replicate 8 0) }
     {
-        while let Some(place) = self.used.pop() {
-            let row = &mut self.rows[place];
-            row.clear();
+        while let Some(place) = self.rows.free_last() {
             pins[place] = [0; 8];
         }
     }
@@ -98,9 +91,7 @@ impl Shard {
     pub fn clear(&mut self)
         ensures { self.new ≡ replicate (length self.old) [] }
     {
-        while let Some(place) = self.used.pop() {
-            self.rows[place].clear();
-        }
+        while self.rows.free_last().is_some() {}
     }
 
     /// Where it has the position of a key: in the row that a hash of the key's words without the
@@ -129,7 +120,7 @@ impl Shard {
         ensures some { IfSome result (λ slot. HoldsAt (row_of self.now key.now) slot key.now) }
         ensures none { IfNone result (Lacks (row_of self.now key.now) key.now) }
     {
-        self.rows[spot.place].slot_of(spot.mark, key)
+        self.rows.at(spot.place).slot_of(spot.mark, key)
     }
 
     // Whether the slot of the key's row has the key's entry.
@@ -137,7 +128,7 @@ impl Shard {
         requires { spot ≡ spot_of key.now (length self.now) }
         ensures { IsTrue result ↔ HoldsAt (row_of self.now key.now) slot key.now }
     {
-        self.rows[spot.place].holds(slot, key)
+        self.rows.at(spot.place).holds(slot, key)
     }
 
     /// What the table shows of a position to a worker on the path, the first that there is: Solved
@@ -161,7 +152,9 @@ impl Shard {
             (λ seen. LooksBy P.told to (row_of self.now key.now) key.now path.now pins.old seen
             pins.new) (λ _. pins.old ≡ pins.new) }
     {
-        self.rows[spot.place].look(to, spot.mark, key, path, pins)
+        self.rows
+            .at(spot.place)
+            .look(to, spot.mark, key, path, pins)
     }
 
     /// Enters a position: answers the slot of its entry. Where it has none, it gets one with these
@@ -179,16 +172,7 @@ impl Shard {
             pins.new }
         ensures kept { IsKeptAt (row_of self.new key.now) key.now result }
     {
-        let place = spot.place;
-        let is_new = self.rows[place].is_empty();
-        let row = &mut self.rows[place];
-        let kept = row.enter(spot.mark, key, numbers, pins);
-        row.laws();
-        if is_new {
-            // There is room for the place of each row.
-            self.used.push_reserved(place);
-        }
-        kept
+        self.rows.enter(spot.place, spot.mark, key, numbers, pins)
     }
 
     /// Leaves a position whose entry is in the slot, with what was found out. A note that holds on
@@ -203,9 +187,7 @@ impl Shard {
             ≡ with_row self.old key.now (left (row_of self.old key.now) slot update) }
         ensures stays { (other : Key) (place : ℕ) → StaysAt self.old self.new other place }
     {
-        let row = &mut self.rows[spot.place];
-        row.leave(slot as usize, update);
-        row.laws();
+        self.rows.leave(spot.place, slot as usize, update);
     }
 
     /// Leaves a position for which entering was answered this slot, as [`leave`](Shard::leave)

@@ -133,9 +133,9 @@ pub fn rows_option<'a>(alloc: Global) -> Arg<'a>
         MOST_ROWS,
         "65536",
         "Rows of the table in which it keeps what it knows, a\n\
-         power of two, 16 to 16777216. A row takes 1 KB, all at\n\
-         once. A larger table helps where the visits allowed\n\
-         aren't enough",
+         power of two, 16 to 16777216. A row takes 1 KB when\n\
+         it is used. A larger table helps where the visits\n\
+         allowed aren't enough",
     )
 }
 

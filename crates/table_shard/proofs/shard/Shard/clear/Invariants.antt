@@ -1,12 +1,10 @@
 use Rattle.std.proofs.Common.{◌≡◌, length}
-use Rattle.std.specs.Vec.{vec_capacity}
-use Rattle.table_shard.specs.Used.{IsShard}
+use Rattle.table_shard.specs.Made.{AreRows, rows_of}
 use Rattle.table_shard.proofs.shard.Shard.clear.Given as goal
 
--- it stays a shard, of as many rows
-abbrev pub invariant-loop-place : goal.invariant-loop-place
-invariant-loop-place l = IsShard l.self-inside.rows.items l.self-inside.used.items (vec_capacity l.self-inside.used)
-    × (length l.self-inside.rows.items ≡ length l.fn.self)
+-- the rows stay as they are to be, and as many
+abbrev pub invariant-loop-self : goal.invariant-loop-self
+invariant-loop-self l = AreRows l.self-inside.rows × (length (rows_of l.self-inside.rows) ≡ length l.fn.self)
 
-abbrev pub decreases-loop-place : goal.decreases-loop-place
-decreases-loop-place l = length l.self-inside.used.items
+abbrev pub decreases-loop-self : goal.decreases-loop-self
+decreases-loop-self l = length l.self-inside.rows.places.items
