@@ -3,8 +3,8 @@ use board_core::Move;
 use cert_check::Why;
 use cert_text::{Claim, EscapeCertificate, MateCertificate};
 use search_limits::Cause;
-use search_pool::Crew;
 use std::marker::Model;
+use worker_core::Crew;
 
 /// The moves of a mate: the attacker's and the defender's in turn, from the attacker's first.
 /// Contracts see the list.

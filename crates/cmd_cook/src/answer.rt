@@ -7,7 +7,7 @@ use board_core::Move;
 use cook_line::{Stage, has_unknown};
 use cook_report::{Line, Report};
 use run_telling::Status;
-use search_pool::Crew;
+use worker_core::Crew;
 
 /// What is told of the first checks of a problem.
 #[derive(Drop)]

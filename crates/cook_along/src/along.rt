@@ -16,11 +16,11 @@ use cook_report::report_laws;
 use cook_search::{CheckOnlooker, Ground, behind, cook};
 use evasions::answers;
 use search_gate::{Gate, Stop};
-use search_pool::Crew;
 use shogi_rules::{Problem, apply};
 use std::alloc::{AllocError, Global};
 use std::sync::Wait;
 use std::thread::Threads;
+use worker_core::Crew;
 
 // The problem at a turn, from that at the turn before it; at the first turn, from itself.
 fn at_turn(before: &Problem, moves: &[Move], turn: usize) -> Problem

@@ -17,11 +17,12 @@ use notes::Note;
 use search_crew::Tables;
 use search_gate::{Gate, Stop};
 use search_limits::Cause;
-use search_pool::{Crew, SearchEnd};
+use search_pool::SearchEnd;
 use shogi_rules::Problem;
 use std::alloc::{AllocError, Global};
 use std::sync::Wait;
 use std::thread::Threads;
+use worker_core::Crew;
 
 /// What searches go over and leave: their tables, their stops, and the workers of those that gave
 /// up.

@@ -11,11 +11,11 @@ use check_moves::checks;
 use cook_report::Report;
 use search_crew::Tables;
 use search_gate::{Gate, Stop};
-use search_pool::Crew;
 use std::alloc::AllocError;
 use std::mem;
 use std::sync::Wait;
 use std::thread::Threads;
+use worker_core::Crew;
 
 // The lines on all checks, in their order. Errors: want of memory alone.
 fn lines<R: Threads + Wait + AllocGlobal + Sync, G: Gate + CheckOnlooker, T: Stop + Drop>(

@@ -14,9 +14,9 @@ use cert_text::{Certificate, EscapeCertificate, MOST_ENTRIES, MateCertificate};
 use notes::Note;
 use play_line::main_line;
 use search_limits::Cause;
-use search_pool::Crew;
 use shogi_rules::Problem;
 use std::alloc::{AllocError, Global};
+use worker_core::Crew;
 
 fn mate(
     alloc: Global,

@@ -9,11 +9,12 @@ use cert_text::{Certificate, Claim, read_cert};
 use cmd_collection::{Counts, LineFault, Report, append_report, counts_text};
 use cmd_survey::{Summary, Tallies, summary_text};
 use search_limits::Cause;
-use search_pool::{Crew, Tally};
+use search_pool::Tally;
 use sfen_text::TextFault;
 use std::alloc::{AllocError, Global};
 use std::test::Fail;
 use usi_text::read_move;
+use worker_core::Crew;
 
 // The certificate of two rooks' mate, and one of no mate.
 const ROOKS: &str =

@@ -21,7 +21,7 @@ use bit_boards::Side;
 use notes::{HEIGHT_LIMIT, Note};
 use search_gate::{Gate, Stop};
 use search_limits::{Cause, Settings};
-use search_pool::{Crew, SearchEnd, search_alone_until};
+use search_pool::{SearchEnd, search_alone_until};
 use shared_table::{Job, LockedRows, RowSeat, SharedTable};
 use shogi_rules::Problem;
 use std::alloc::{AllocError, Global};
@@ -30,7 +30,7 @@ use std::thread::Threads;
 use table_port::{Cut, Seats, TablePort, Watch};
 use visit_log::WorkEnd;
 use word_desk::{DeskEnd, DeskSeat, WordDesk};
-use worker_core::Worker;
+use worker_core::{Crew, Worker};
 use worker_counts::CountSeat;
 
 // What all workers of a search stand on: its problem, whose attacker is the job's, how many they

@@ -11,7 +11,7 @@ use Rattle.board_core.proofs.moves.Move.TheSendSync as of_move
 use Rattle.board_core.proofs.sets.Sets.TheSendSync as of_sets
 use Rattle.board_core.proofs.hand.Hand.TheSendSync as of_hand
 use Rattle.board_core.proofs.position.Position.TheSendSync as of_position
-use Rattle.search_pool.specs.contracts.end.Crew as crew
+use Rattle.worker_core.specs.contracts.crew.Crew as crew
 use Rattle.search_pool.specs.contracts.table.Table as table
 use Rattle.worker_core.proofs.Offered.{worker_send}
 use Rattle.lone_port.proofs.Offered.{lone_send}

@@ -9,8 +9,8 @@ ghost use Rattle.search_pool.specs.Inside.{IsWatched, HadAll, IsCauseOf, MayBegi
 ghost use Rattle.worker_core.specs.Port.{Suits};
 ghost use Rattle.lone_port.specs.Lone.{alone_at_first, worker_at_first, book_of};
 
+use crate::SearchEnd;
 use crate::watched::Watched;
-use crate::{Crew, SearchEnd};
 use lone_port::LonePort;
 use notes::HEIGHT_LIMIT;
 use search_gate::{Gate, OpenGate, QuietStop, Stop};
@@ -18,7 +18,7 @@ use search_limits::{Cause, Settings};
 use shogi_rules::Problem;
 use std::alloc::{AllocError, Global};
 use visit_log::{WorkEnd, count_laws, visit_laws};
-use worker_core::{Worker, work};
+use worker_core::{Crew, Worker, work};
 
 // Has the worker work over a table and a desk that are watched, until it has ended, and says how.
 // They stay the same ones.

@@ -18,7 +18,7 @@ mod tally;
 mod watched;
 
 pub use alone::{search_alone, search_alone_counted, search_alone_gated, search_alone_until};
-pub use end::{Crew, SearchEnd};
+pub use end::SearchEnd;
 pub use filled::search_filled_until;
 pub use laws::alone_laws;
 pub use table::Table;

@@ -305,8 +305,8 @@ pub(crate) fn asks_for_session(words: &WordsRead) -> bool {
 
 /// Runs the program on the words of the command line, those behind the program's name, which were
 /// read ([`WordsRead::new`](program_words::WordsRead::new)). What they ask for is what clap says of
-/// them, and three tests after it; words that are refused end the run before anything is read. So
-/// does a request for help or for the version, whose text is written to the sink.
+/// them, and the tests of their command behind it; refused words end the run before anything is
+/// read. So does a request for help or for the version, whose text is written to the sink.
 ///
 /// `solve` reads a problem from the source, an SFEN or, with `--kif`, the board diagram of a KIF
 /// file in UTF-8; with `--rest` the defender is then given all pieces but kings that are neither on
@@ -371,8 +371,7 @@ pub fn run<
     ensures help { AsksForHelp words → ¬ Rose (K.faults sink.old) (K.faults sink.new)
         → GivesHelp result ⊎ WantsMemory result }
 
-    // Each of the three tests after clap is named where it is the first to fail, unless memory is
-    // wanted.
+    // Each test after clap is named where it is the first to fail, unless memory is wanted.
     ensures failed { (fault : WordFault) → FailsFirst words fault
         → (result ≡ Ended.Refused (Refusal.Words fault))
         ⊎ (result ≡ Ended.Refused Refusal.NoMemory) }

@@ -10,6 +10,7 @@
 //! log is a visit log.
 #![tactic(auto)]
 
+mod crew;
 mod machine;
 mod port;
 mod stack;
@@ -17,6 +18,7 @@ mod tops;
 mod worker;
 mod working;
 
+pub use crew::Crew;
 pub use port::Port;
 pub use worker::Worker;
 pub use working::{turn, work, work_until};
