@@ -41,7 +41,7 @@ def head_of(lines):
 def rows_of(lines):
     for number, line in enumerate(lines):
         found = DEFINED.match(line)
-        if not found or line.startswith(("pub mod", "pub use")) or line.startswith("infix"):
+        if not found or line.startswith("pub mod") or line.startswith("infix"):
             continue
         yield found.group(1), comment_of(lines, number) if number > 0 else ""
 

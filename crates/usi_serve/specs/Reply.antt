@@ -8,7 +8,7 @@ use Rattle.cert_text.specs.Entries.{line}
 use Rattle.app_texts.specs.declared.answer.Solution.{Solution}
 use Rattle.app_texts.specs.declared.answer.Solution.TheVariants.{Mate, NoMate, Unknown}
 use Rattle.one_run.specs.Stops.{Signals, AreUsed, once_armed}
-pub use Rattle.cmd_solve.specs.Answer.{IsTrueOf}
+use Rattle.cmd_solve.specs.Answer.{IsTrueOf}
 use Rattle.usi_serve.specs.declared.reply.Reply.{Reply}
 
 -- The line that tells of a solution: the answer of the USI protocol alone, for a mate with its
