@@ -17,7 +17,7 @@ use Rattle.board_core.specs.Board.{piece_at}
 use Rattle.board_core.specs.Sets.{is_of_side, is_slider}
 use Rattle.shogi_rules.specs.Rules.{Reaches}
 use Rattle.attack_lines.specs.Lines.{is_occupied_without}
-use Rattle.attack_lines.specs.Parts.{IsOnly, KeepsOff}
+use Rattle.attack_lines.specs.Parts.{IsAttackedOver, IsOnly, KeepsOff}
 use Rattle.attack_lines.proofs.Slid.{nothing_near}
 
 -- a square that is no longer left, and isn't the one just taken out, was gone before
@@ -130,3 +130,14 @@ kept_on_line near lined cells side s from to h i k =
           (ap is_slider is ∙ slider piece.kind piece.promoted piece.side piece.promotes _ _ _ slide)
     ])
     (ap (is_of_side side) is ∙ (ap (λ x. same_side x side) own ∙ same_side_itself side))
+
+-- ---- what is attacked over one set of occupied squares is so over another that has the same
+
+over_as : (p q : ℕ → Bool) → ((m : ℕ) → p m ≡ q m) → (side : Side) (from to : ℕ) (cell : Option Piece)
+    → IsSomeAnd cell (λ piece. (piece.side ≡ side) × (IsTrue (fits piece from to) × ((m : ℕ) → IsBetween from m to → p m ≡ false)))
+    → IsSomeAnd cell (λ piece. (piece.side ≡ side) × (IsTrue (fits piece from to) × ((m : ℕ) → IsBetween from m to → q m ≡ false)))
+over_as p q same side from to None h = absurd h
+over_as p q same side from to (Some piece) h = (h.0, (h.1.0, λ m between. sym (same m) ∙ h.1.1 m between))
+
+pub attacked_as : (p q : ℕ → Bool) → ((m : ℕ) → p m ≡ q m) → (cells : List (Option Piece)) (side : Side) (to : ℕ) → IsAttackedOver p cells side to → IsAttackedOver q cells side to
+attacked_as p q same cells side to a = (a.0, a.1, over_as p q same side a.0 to (piece_at cells a.0) a.2)

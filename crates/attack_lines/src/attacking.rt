@@ -6,8 +6,8 @@ ghost use Rattle.bit_boards.specs.Mask.{holds, Holds, count};
 ghost use Rattle.board_core.specs.Board.{piece_at};
 ghost use Rattle.board_core.specs.Sets.{is_of_side};
 ghost use Rattle.shogi_rules.specs.Rules.{AttacksFrom};
-ghost use Rattle.attack_lines.specs.Lines.{AttacksOver, AttacksWithout, IsShield, StopsAll};
-ghost use Rattle.attack_lines.specs.Parts.{IsOnly, KeepsOff};
+ghost use Rattle.attack_lines.specs.Lines.{AttacksOver, AttacksWithout, IsAttackedWithout, IsShield, StopsAll};
+ghost use Rattle.attack_lines.specs.Parts.{IsAttackedOver, IsOnly, KeepsOff};
 
 use bit_boards::{Mask, between, fits, lines, mask_laws};
 use board_core::{Position, Side, Square};
@@ -41,6 +41,19 @@ fn attackers_over(position: &Position, occupied: Mask, to: Square, by: Side) -> 
     found
 }
 
+// Whether a piece of the side reaches the square, as if just these squares were occupied.
+fn is_attacked_over(position: &Position, occupied: Mask, to: Square, by: Side) -> bool
+    ensures { IsTrue result ↔ IsAttackedOver (holds occupied) position.now.cells by to.number }
+{
+    let mut left = candidates(position, by, to);
+    while let Some(from) = left.pop_first() {
+        if attacks_over(position, occupied, from, to, by) {
+            return true;
+        }
+    }
+    false
+}
+
 /// The squares from which pieces of `by` attack the square. Takes no memory. (Rules of shogi:
 /// movement of the pieces.)
 pub fn attackers(position: &Position, to: Square, by: Side) -> Mask
@@ -72,6 +85,16 @@ pub fn attackers_without(position: &Position, lifted: Square, to: Square, by: Si
         ↔ ((from < 81) × AttacksWithout position.now.cells by lifted.number from to.number) }
 {
     attackers_over(position, position.all_occupied().without(lifted), to, by)
+}
+
+/// Whether a piece of `by` attacks the square once what stands on another one hinders them no more:
+/// whether [`attackers_without`] has a square; it stops at the first. Takes no memory. (Rules of
+/// shogi: movement of the pieces.)
+pub fn is_attacked_without(position: &Position, lifted: Square, to: Square, by: Side) -> bool
+    ensures { IsTrue result
+        ↔ IsAttackedWithout position.now.cells by lifted.number to.number }
+{
+    is_attacked_over(position, position.all_occupied().without(lifted), to, by)
 }
 
 // The one square of the set; the empty set where it has none, or more than one.

@@ -7,6 +7,8 @@ mod attacking;
 mod reach;
 mod sight;
 
-pub use attacking::{attackers, attackers_without, blocks, count_attackers, shields};
+pub use attacking::{
+    attackers, attackers_without, blocks, count_attackers, is_attacked_without, shields,
+};
 pub use reach::reached;
 pub use sight::Sight;

@@ -10,7 +10,7 @@ ghost use Rattle.legal_moves.specs.Steps.{KeepsKing, IsOpenTo, LeavesFor, MayGo,
 use crate::guard::Guard;
 use crate::landings::Landings;
 use crate::rows::{dead, promotable};
-use attack_lines::{attackers_without, blocks, reached};
+use attack_lines::{attackers_without, blocks, is_attacked_without, reached};
 use bit_boards::{Mask, mask_laws};
 use board_core::{Kind, Piece, Position, Square};
 use shogi_rules::legal_laws;
@@ -36,10 +36,10 @@ fn without_attacked(position: &Position, king: Square, to: Square, squares: Mask
         ↔ (Holds squares square
         × (square ≡ to.number → IsOpenTo position.now king.number to.number)) }
 {
-    if attackers_without(position, king, to, position.side().other()).is_empty() {
-        return squares;
+    if is_attacked_without(position, king, to, position.side().other()) {
+        return squares.without(to);
     }
-    squares.without(to)
+    squares
 }
 
 // Of these squares those to which the king may go from his.
@@ -168,8 +168,12 @@ impl Guard {
         ensures promoted { (to : ℕ) → Holds result.promoted to
             ↔ (Holds wanted.promoted to × IsLegalBoard position.now from.number to true) }
     {
-        // What a legal move has.
+        // What a legal move has, and that a set without squares holds none.
         legal_laws();
+        mask_laws();
+        if wanted.plain.or(wanted.promoted).is_empty() {
+            return wanted;
+        }
         match own_piece(position, from) {
             Some(piece) => self.piece_moves(position, piece, from, wanted),
             None => Landings {
@@ -190,14 +194,30 @@ impl Guard {
         !found.plain.or(found.promoted).is_empty()
     }
 
-    /// Whether the side to move has a legal move on the board. The guard must be that of this
-    /// position. Takes no memory. (Rules of shogi: legal moves.)
+    // Whether the king has a legal move.
+    fn has_king_move(&self, position: &Position) -> bool
+        requires { IsGuardOf position.now self.now }
+        ensures { IsTrue result → BoardMove position.now }
+    {
+        // What a legal move has.
+        legal_laws();
+        match self.king {
+            Some(king) => self.has_move_from(position, king),
+            None => false,
+        }
+    }
+
+    /// Whether the side to move has a legal move on the board; its king is asked first. The guard
+    /// must be that of this position. Takes no memory. (Rules of shogi: legal moves.)
     pub fn has_board_move(&self, position: &Position) -> bool
         requires { IsGuardOf position.now self.now }
         ensures { IsTrue result ↔ BoardMove position.now }
     {
         // What a legal move has.
         legal_laws();
+        if self.has_king_move(position) {
+            return true;
+        }
         let mut left = position.occupied(position.side());
         while let Some(from) = left.pop_first() {
             if self.has_move_from(position, from) {
