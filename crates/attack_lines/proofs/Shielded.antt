@@ -1,9 +1,10 @@
 -- What alone keeps a piece off: the one occupied square between; and that such a piece slides.
-use Rattle.std.proofs.Common.{◌≡◌, ℕ, ◌<◌, ◌==◌, ◌&&◌, ◌↔◌, List, Option, Some, None, Bool, true, false, not, is_some, IsTrue, IsSomeAnd, inl, inr, refl, sym, ap, subst, ◌∙◌, eq-eqb, ne_eqb}
-use Rattle.std.proofs.lemmas.Bool.{cases_Bool, cases_eq, and_from, or_cases, both_ways, not_from_true, not_from_false, false≢true}
+use Rattle.std.proofs.Common.{◌≡◌, ℕ, ◌<◌, ◌==◌, ◌&&◌, ◌||◌, ◌⊎◌, ◌≢◌, ◌↔◌, List, Option, Some, None, Bool, true, false, length, slice_set, not, is_some, IsTrue, IsSomeAnd, inl, inr, refl, sym, ap, subst, ◌∙◌, eq-eqb, ne_eqb}
+use Rattle.std.proofs.lemmas.Bool.{cases_Bool, cases_eq, and_from, or_cases, or_left, or_right, both_ways, not_from_true, not_from_false, false≢true}
 use Rattle.board_laws.proofs.Sides.{same_side_itself}
 use Rattle.board_laws.proofs.Squares.{line_back}
-use Rattle.board_laws.proofs.Cells.{empty_of}
+use Rattle.board_laws.proofs.Truth.{gone_before}
+use Rattle.board_laws.proofs.Cells.{empty_of, piece_at-set_same, piece_at-set_other}
 use Rattle.bit_boards.specs.declared.piece.Kind.{Kind}
 use Rattle.bit_boards.specs.declared.piece.Kind.TheVariants.{Pawn, Lance, Knight, Silver, Gold, Bishop, Rook, King}
 use Rattle.bit_boards.specs.declared.piece.Side.{Side}
@@ -16,8 +17,8 @@ use Rattle.bit_boards.specs.Movement.{fits, slides, goes_by_step, goes_by_slide,
 use Rattle.board_core.specs.Board.{piece_at}
 use Rattle.board_core.specs.Sets.{is_of_side, is_slider}
 use Rattle.shogi_rules.specs.Rules.{Reaches}
-use Rattle.attack_lines.specs.Lines.{is_occupied_without}
-use Rattle.attack_lines.specs.Parts.{IsAttackedOver, IsOnly, KeepsOff}
+use Rattle.attack_lines.specs.Lines.{is_occupied_without, AttacksWithout, IsAttackedWithout}
+use Rattle.attack_lines.specs.Parts.{AreOccupied, IsOnly, KeepsOff}
 use Rattle.attack_lines.proofs.Slid.{nothing_near}
 
 -- a square that is no longer left, and isn't the one just taken out, was gone before
@@ -131,13 +132,97 @@ kept_on_line near lined cells side s from to h i k =
     ])
     (ap (is_of_side side) is ∙ (ap (λ x. same_side x side) own ∙ same_side_itself side))
 
--- ---- what is attacked over one set of occupied squares is so over another that has the same
+-- ---- a piece reaches once another is lifted what it reaches where that cell is empty
 
-over_as : (p q : ℕ → Bool) → ((m : ℕ) → p m ≡ q m) → (side : Side) (from to : ℕ) (cell : Option Piece)
-    → IsSomeAnd cell (λ piece. (piece.side ≡ side) × (IsTrue (fits piece from to) × ((m : ℕ) → IsBetween from m to → p m ≡ false)))
-    → IsSomeAnd cell (λ piece. (piece.side ≡ side) × (IsTrue (fits piece from to) × ((m : ℕ) → IsBetween from m to → q m ≡ false)))
-over_as p q same side from to None h = absurd h
-over_as p q same side from to (Some piece) h = (h.0, (h.1.0, λ m between. sym (same m) ∙ h.1.1 m between))
+abbrev pub lifted_from : List (Option Piece) → ℕ → List (Option Piece)
+lifted_from cells lifted = slice_set cells lifted None
 
-pub attacked_as : (p q : ℕ → Bool) → ((m : ℕ) → p m ≡ q m) → (cells : List (Option Piece)) (side : Side) (to : ℕ) → IsAttackedOver p cells side to → IsAttackedOver q cells side to
-attacked_as p q same cells side to a = (a.0, a.1, over_as p q same side a.0 to (piece_at cells a.0) a.2)
+without_same : (is : Bool) (m : ℕ) → false ≡ (is && not (m == m))
+without_same is m = sym (not_so is (eq-eqb m m refl)) where
+  not_so : (is : Bool) {e : Bool} → e ≡ true → (is && not e) ≡ false
+  not_so true h = not_from_true _ h
+  not_so false h = refl
+
+without_other : (is other : Bool) → other ≡ false → is ≡ (is && not other)
+without_other true other e = sym (not_from_false _ e)
+without_other false other e = refl
+
+pub is_lifted : (cells : List (Option Piece)) (lifted : ℕ) → lifted < length cells → (mask : Mask)
+    → ((m : ℕ) → holds mask m ≡ is_occupied_without cells lifted m) → AreOccupied mask (lifted_from cells lifted)
+is_lifted cells lifted low mask is m = is m ∙ sym (at (cases_eq m lifted)) where
+  at : (m ≡ lifted) ⊎ (m ≢ lifted) → is_some (piece_at (lifted_from cells lifted) m) ≡ is_occupied_without cells lifted m
+  at (inl e) = subst (λ (x : ℕ). is_some (piece_at (lifted_from cells lifted) x) ≡ is_occupied_without cells lifted x) (sym e)
+      (ap is_some (piece_at-set_same cells lifted None low) ∙ without_same (is_some (piece_at cells lifted)) lifted)
+  at (inr n) = ap is_some (piece_at-set_other cells lifted m None n) ∙ without_other (is_some (piece_at cells m)) (m == lifted) (ne_eqb m lifted n)
+
+pub lifts : (cells : List (Option Piece)) (side : Side) (piece : Piece) (lifted from to : ℕ) (mask : Mask) (is : Bool) → lifted < length cells
+    → ((m : ℕ) → holds mask m ≡ is_occupied_without cells lifted m) → piece_at cells from ≡ Some piece → piece.side ≡ side
+    → IsTrue is ↔ ((to < 81) × Reaches (lifted_from cells lifted) piece from to) → IsTrue is ↔ ((to < 81) × AttacksWithout cells side lifted from to)
+lifts cells side piece lifted from to mask is low same there own reach =
+    let are = is_lifted cells lifted low mask same in (
+      (λ has.
+          let r = reach.0 has in (
+            r.0,
+            subst (Lifted cells side lifted from to) (sym there)
+                (own, (r.1.fit, λ m between. sym (same m) ∙ (are m ∙ ap is_some (r.1.clear m between)))),
+          )),
+      (λ a.
+          let l = subst (Lifted cells side lifted from to) there a.1 in
+          reach.1 (
+            a.0,
+            record {
+              fit = l.1.0;
+              clear = λ m between. empty_of (piece_at (lifted_from cells lifted) m) (sym (are m) ∙ (same m ∙ l.1.1 m between));
+            },
+          )),
+    )
+
+-- whoever attacks goes there over an empty board
+goes_there : (cells : List (Option Piece)) (side : Side) (lifted from to : ℕ) (cell : Option Piece) → Lifted cells side lifted from to cell
+    → IsSomeAnd cell (λ p. (p.side ≡ side) × IsTrue (fits p from to))
+goes_there cells side lifted from to None h = absurd h
+goes_there cells side lifted from to (Some piece) h = (h.0, h.1.0)
+
+-- ---- the squares that pieces attack, one piece after the other
+
+abbrev Candidates : List (Option Piece) → Side → ℕ → ℕ → Type 0
+Candidates cells side from to = IsSomeAnd (piece_at cells from) (λ p. (p.side ≡ side) × IsTrue (fits p from to))
+
+pub candidates_more : (cells : List (Option Piece)) (side : Side) (squares left rest found one more : Mask) (taken : ℕ)
+    → ((t : ℕ) → holds rest t ≡ (holds left t && not (t == taken))) → ((s : ℕ) → holds more s ≡ (holds found s || holds one s))
+    → ((from : ℕ) → from < 81 → Candidates cells side from taken → Holds one from)
+    → ((from to : ℕ) → from < 81 → Holds squares to → holds left to ≡ false → Candidates cells side from to → Holds found from)
+    → (from to : ℕ) → from < 81 → Holds squares to → holds rest to ≡ false → Candidates cells side from to → Holds more from
+candidates_more cells side squares left rest found one more taken is both now before from to low wanted gone c = both from ∙ elim (cases_eq to taken) [
+  | inl e ↦ or_right _ _ (now from low (subst (λ (x : ℕ). Candidates cells side from x) e c))
+  | inr n ↦ or_left _ _ (before from to low wanted (gone_before (holds left to) (holds rest to) to taken (is to) gone n) c)
+]
+
+pub none_attacked : (cells : List (Option Piece)) (side : Side) (lifted : ℕ) (squares left found : Mask) → ((s : ℕ) → holds found s ≡ false)
+    → ((from to : ℕ) → from < 81 → Holds squares to → Candidates cells side from to → Holds left from)
+    → ((to : ℕ) → Holds found to → IsAttackedWithout cells side lifted to)
+    × ((from to : ℕ) → from < 81 → holds left from ≡ false → Holds squares to → AttacksWithout cells side lifted from to → Holds found to)
+none_attacked cells side lifted squares left found none all = (
+  (λ to has. absurd (both_ways (holds found to) (none to) has)),
+  (λ from to low gone wanted a.
+      absurd (both_ways (holds left from) gone (all from to low wanted (goes_there cells side lifted from to (piece_at cells from) a)))),
+)
+
+pub attacked_more : (cells : List (Option Piece)) (side : Side) (lifted : ℕ) (squares left rest found one more : Mask) (taken : ℕ) → taken < 81
+    → ((t : ℕ) → Holds squares t → t < 81)
+    → ((t : ℕ) → holds rest t ≡ (holds left t && not (t == taken))) → ((s : ℕ) → holds more s ≡ (holds found s || holds one s))
+    → ((to : ℕ) → Holds one to ↔ ((to < 81) × AttacksWithout cells side lifted taken to))
+    → ((to : ℕ) → Holds found to → IsAttackedWithout cells side lifted to)
+    × ((from to : ℕ) → from < 81 → holds left from ≡ false → Holds squares to → AttacksWithout cells side lifted from to → Holds found to)
+    → ((to : ℕ) → Holds more to → IsAttackedWithout cells side lifted to)
+    × ((from to : ℕ) → from < 81 → holds rest from ≡ false → Holds squares to → AttacksWithout cells side lifted from to → Holds more to)
+attacked_more cells side lifted squares left rest found one more taken at on_board is both now before = (
+  (λ to has. elim (or_cases (holds found to) (holds one to) (sym (both to) ∙ has)) [
+    | inl h ↦ before.0 to h
+    | inr h ↦ (taken, at, ((now to).0 h).1)
+  ]),
+  (λ from to low gone wanted a. both to ∙ elim (cases_eq from taken) [
+    | inl e ↦ or_right _ _ ((now to).1 (on_board to wanted, subst (λ (x : ℕ). AttacksWithout cells side lifted x to) e a))
+    | inr n ↦ or_left _ _ (before.1 from to low (gone_before (holds left from) (holds rest from) from taken (is from) gone n) wanted a)
+  ]),
+)

@@ -1,6 +1,6 @@
 -- What is seen along lines is where pieces slide to and from; and pieces reach what they step or
 -- slide to.
-use Rattle.std.proofs.Common.{◌≡◌, ℕ, ◌<◌, ◌&&◌, ◌||◌, ◌↔◌, List, Option, Bool, false, nat_lt, IsTrue, inl, inr, refl, sym, ap, subst, ◌∙◌}
+use Rattle.std.proofs.Common.{◌≡◌, ℕ, ◌<◌, ◌&&◌, ◌||◌, ◌⊎◌, ◌↔◌, List, Option, Bool, false, nat_lt, IsTrue, inl, inr, refl, sym, ap, subst, ◌∙◌}
 use Rattle.std.proofs.lemmas.Bool.{ltb-true, lt-ltb, and_parts, and_from, or_left, or_right, or_cases}
 use Rattle.bit_boards.specs.declared.piece.Kind.TheVariants.{Lance, Bishop, Rook}
 use Rattle.bit_boards.specs.declared.piece.Side.{Side}
@@ -169,3 +169,26 @@ reaching near cells piece a b n all step slide within whole one two = (
     | inr is ↦ or_right _ _ (two.1 (r.0, record { slide = is; clear = r.1.clear }))
   ])),
 )
+
+-- ---- what is seen in one of four directions, by the sets of two of them and of the two others
+
+pub crossed : {A B C D : Type 0} (all one two a c d b : Bool) → all ≡ (one || two) → one ≡ (a || c) → two ≡ (d || b)
+    → (IsTrue a ↔ A) → (IsTrue c ↔ C) → (IsTrue d ↔ D) → (IsTrue b ↔ B) → IsTrue all ↔ (A ⊎ (B ⊎ (C ⊎ D)))
+crossed {A} {B} {C} {D} all one two a c d b whole first second is-a is-c is-d is-b = (
+  (λ has. elim (or_cases one two (sym whole ∙ has)) [
+    | inl h ↦ elim (or_cases a c (sym first ∙ h)) [
+      | inl x ↦ inl (is-a.0 x)
+      | inr x ↦ inr (inr (inl (is-c.0 x)))
+    ]
+    | inr h ↦ elim (or_cases d b (sym second ∙ h)) [
+      | inl x ↦ inr (inr (inr (is-d.0 x)))
+      | inr x ↦ inr (inl (is-b.0 x))
+    ]
+  ]),
+  back,
+) where
+  back : (A ⊎ (B ⊎ (C ⊎ D))) → IsTrue all
+  back (inl x) = whole ∙ or_left one two (first ∙ or_left a c (is-a.1 x))
+  back (inr (inl x)) = whole ∙ or_right one two (second ∙ or_right d b (is-b.1 x))
+  back (inr (inr (inl x))) = whole ∙ or_left one two (first ∙ or_right a c (is-c.1 x))
+  back (inr (inr (inr x))) = whole ∙ or_right one two (second ∙ or_left d b (is-d.1 x))

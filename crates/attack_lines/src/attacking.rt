@@ -1,14 +1,16 @@
 // Who attacks a square, who stands between, and what stops an attack.
-ghost use Rattle.std.specs.Prelude.{◌≡◌, ◌<◌, ◌≤◌, ◌↔◌, ℕ, IsTrue, true};
+ghost use Rattle.std.specs.Prelude.{◌≡◌, ◌<◌, ◌≤◌, ◌↔◌, ℕ, IsTrue, IsSomeAnd, true};
 ghost use Rattle.bit_boards.specs.declared.piece.Side.{Side};
 ghost use Rattle.bit_boards.specs.declared.mask.Mask.{Mask};
 ghost use Rattle.bit_boards.specs.Mask.{holds, Holds, count};
+ghost use Rattle.bit_boards.specs.Movement.{fits};
 ghost use Rattle.board_core.specs.Board.{piece_at};
 ghost use Rattle.board_core.specs.Sets.{is_of_side};
 ghost use Rattle.shogi_rules.specs.Rules.{AttacksFrom};
 ghost use Rattle.attack_lines.specs.Lines.{AttacksOver, AttacksWithout, IsAttackedWithout, IsShield, StopsAll};
-ghost use Rattle.attack_lines.specs.Parts.{IsAttackedOver, IsOnly, KeepsOff};
+ghost use Rattle.attack_lines.specs.Parts.{IsOnly, KeepsOff};
 
+use crate::reach::reached_over;
 use bit_boards::{Mask, between, fits, lines, mask_laws};
 use board_core::{Position, Side, Square};
 use shogi_rules::candidates;
@@ -39,19 +41,6 @@ fn attackers_over(position: &Position, occupied: Mask, to: Square, by: Side) -> 
         }
     }
     found
-}
-
-// Whether a piece of the side reaches the square, as if just these squares were occupied.
-fn is_attacked_over(position: &Position, occupied: Mask, to: Square, by: Side) -> bool
-    ensures { IsTrue result ↔ IsAttackedOver (holds occupied) position.now.cells by to.number }
-{
-    let mut left = candidates(position, by, to);
-    while let Some(from) = left.pop_first() {
-        if attacks_over(position, occupied, from, to, by) {
-            return true;
-        }
-    }
-    false
 }
 
 /// The squares from which pieces of `by` attack the square. Takes no memory. (Rules of shogi:
@@ -87,14 +76,53 @@ pub fn attackers_without(position: &Position, lifted: Square, to: Square, by: Si
     attackers_over(position, position.all_occupied().without(lifted), to, by)
 }
 
-/// Whether a piece of `by` attacks the square once what stands on another one hinders them no more:
-/// whether [`attackers_without`] has a square; it stops at the first. Takes no memory. (Rules of
-/// shogi: movement of the pieces.)
-pub fn is_attacked_without(position: &Position, lifted: Square, to: Square, by: Side) -> bool
-    ensures { IsTrue result
-        ↔ IsAttackedWithout position.now.cells by lifted.number to.number }
+// Squares with pieces of the side, among them all whose piece would go to one of the squares on an
+// empty board.
+fn candidates_for(position: &Position, by: Side, squares: Mask) -> Mask
+    ensures { (from to : ℕ) → from < 81 → Holds squares to
+        → IsSomeAnd (piece_at position.now.cells from) (λ piece. (piece.side ≡ by)
+        × IsTrue (fits piece from to)) → Holds result from }
 {
-    is_attacked_over(position, position.all_occupied().without(lifted), to, by)
+    let mut found = Mask::empty();
+    let mut left = squares;
+    while let Some(to) = left.pop_first() {
+        found = found.or(candidates(position, by, to));
+    }
+    found
+}
+
+// The squares that the side's piece on this one attacks once what stands on another one hinders it
+// no more; none where no piece of that side stands there.
+fn attacked_from(position: &Position, lifted: Square, from: Square, by: Side) -> Mask
+    ensures { (to : ℕ) → Holds result to
+        ↔ ((to < 81) × AttacksWithout position.now.cells by lifted.number from.number to) }
+{
+    // Every position has 81 squares, and sets hold nothing else.
+    position.laws();
+    mask_laws();
+    match position.piece_at(from) {
+        Some(piece) if piece.side == by => {
+            reached_over(position.all_occupied().without(lifted), piece, from)
+        }
+        _ => Mask::empty(),
+    }
+}
+
+/// Of these squares those that pieces of `by` attack once what stands on another square hinders
+/// them no more: as [`attackers_without`] has it of each, but each piece is gone over once. Takes no
+/// memory. (Rules of shogi: movement of the pieces.)
+pub fn attacked_without(position: &Position, lifted: Square, squares: Mask, by: Side) -> Mask
+    ensures { (to : ℕ) → Holds result to
+        ↔ (Holds squares to × IsAttackedWithout position.now.cells by lifted.number to) }
+{
+    // Sets hold nothing but squares of the board.
+    mask_laws();
+    let mut found = Mask::empty();
+    let mut left = candidates_for(position, by, squares);
+    while let Some(from) = left.pop_first() {
+        found = found.or(attacked_from(position, lifted, from, by));
+    }
+    found.and(squares)
 }
 
 // The one square of the set; the empty set where it has none, or more than one.

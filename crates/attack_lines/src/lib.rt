@@ -8,7 +8,7 @@ mod reach;
 mod sight;
 
 pub use attacking::{
-    attackers, attackers_without, blocks, count_attackers, is_attacked_without, shields,
+    attacked_without, attackers, attackers_without, blocks, count_attackers, shields,
 };
 pub use reach::reached;
 pub use sight::Sight;

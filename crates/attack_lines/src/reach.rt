@@ -4,37 +4,40 @@ ghost use Rattle.bit_boards.specs.Mask.{Holds};
 ghost use Rattle.bit_boards.specs.declared.piece.Piece.{Piece};
 ghost use Rattle.shogi_rules.specs.Rules.{Reaches};
 ghost use Rattle.attack_lines.specs.Lines.{IsSeenOver, IsSeenStraight, IsSeenDiagonal, IsSightOf};
-ghost use Rattle.attack_lines.specs.Parts.{ahead_of, SlidesTo};
+ghost use Rattle.attack_lines.specs.Parts.{ahead_of, AreOccupied, SlidesTo};
 
 use crate::sight::Sight;
 use bit_boards::{Direction, Mask, mask_laws, open_ray, ray, steps, steps_to};
 use board_core::{Kind, Piece, Position, Side, Square};
 
-// The squares seen from the square in the direction.
-fn seen(position: &Position, from: Square, direction: Direction) -> Mask
-    ensures { (to : ℕ) → Holds result to ↔ IsSeenOver position.now.cells direction from.number to }
+// The squares seen from the square in the direction, where just these squares are occupied.
+fn seen(occupied: Mask, from: Square, direction: Direction) -> Mask
+    ensures { (cells : List (Option Piece)) → AreOccupied occupied cells → (to : ℕ)
+        → Holds result to ↔ IsSeenOver cells direction from.number to }
 {
-    ray(from, direction, position.all_occupied())
+    ray(from, direction, occupied)
 }
 
-fn straight(position: &Position, from: Square) -> Mask
-    ensures { (to : ℕ) → Holds result to ↔ IsSeenStraight position.now.cells from.number to }
+fn straight(occupied: Mask, from: Square) -> Mask
+    ensures { (cells : List (Option Piece)) → AreOccupied occupied cells → (to : ℕ)
+        → Holds result to ↔ IsSeenStraight cells from.number to }
 {
-    let upright = seen(position, from, Direction::Up).or(seen(position, from, Direction::Down));
-    let across = seen(position, from, Direction::Left).or(seen(position, from, Direction::Right));
+    let upright = seen(occupied, from, Direction::Up).or(seen(occupied, from, Direction::Down));
+    let across = seen(occupied, from, Direction::Left).or(seen(occupied, from, Direction::Right));
     upright.or(across)
 }
 
-fn diagonal(position: &Position, from: Square) -> Mask
-    ensures { (to : ℕ) → Holds result to ↔ IsSeenDiagonal position.now.cells from.number to }
+fn diagonal(occupied: Mask, from: Square) -> Mask
+    ensures { (cells : List (Option Piece)) → AreOccupied occupied cells → (to : ℕ)
+        → Holds result to ↔ IsSeenDiagonal cells from.number to }
 {
-    let rising = seen(position, from, Direction::UpRight).or(seen(
-        position,
+    let rising = seen(occupied, from, Direction::UpRight).or(seen(
+        occupied,
         from,
         Direction::DownLeft,
     ));
-    let falling = seen(position, from, Direction::UpLeft).or(seen(
-        position,
+    let falling = seen(occupied, from, Direction::UpLeft).or(seen(
+        occupied,
         from,
         Direction::DownRight,
     ));
@@ -51,17 +54,27 @@ fn ahead(side: Side) -> Direction
     }
 }
 
-// The squares to which the piece slides from a square.
-fn slides(position: &Position, piece: Piece, from: Square) -> Mask
-    ensures { (to : ℕ) → Holds result to
-        ↔ ((to < 81) × SlidesTo position.now.cells piece from.number to) }
+// The squares to which the piece slides from a square, where just these squares are occupied.
+fn slides(occupied: Mask, piece: Piece, from: Square) -> Mask
+    ensures { (cells : List (Option Piece)) → AreOccupied occupied cells → (to : ℕ)
+        → Holds result to ↔ ((to < 81) × SlidesTo cells piece from.number to) }
 {
     match (piece.kind, piece.promoted) {
-        (Kind::Lance, false) => seen(position, from, ahead(piece.side)),
-        (Kind::Bishop, _) => diagonal(position, from),
-        (Kind::Rook, _) => straight(position, from),
+        (Kind::Lance, false) => seen(occupied, from, ahead(piece.side)),
+        (Kind::Bishop, _) => diagonal(occupied, from),
+        (Kind::Rook, _) => straight(occupied, from),
         _ => Mask::empty(),
     }
+}
+
+// The squares that the piece reaches from a square, where just these squares are occupied.
+pub(crate) fn reached_over(occupied: Mask, piece: Piece, from: Square) -> Mask
+    ensures { (cells : List (Option Piece)) → AreOccupied occupied cells → (to : ℕ)
+        → Holds result to ↔ ((to < 81) × Reaches cells piece from.number to) }
+{
+    // No square lies between those of a step.
+    mask_laws();
+    steps(piece, from).or(slides(occupied, piece, from))
 }
 
 /// The squares that the piece reaches from a square by one step or slide, whatever stands there.
@@ -70,9 +83,7 @@ pub fn reached(position: &Position, piece: Piece, from: Square) -> Mask
     ensures { (to : ℕ) → Holds result to
         ↔ ((to < 81) × Reaches position.now.cells piece from.number to) }
 {
-    // No square lies between those of a step.
-    mask_laws();
-    steps(piece, from).or(slides(position, piece, from))
+    reached_over(position.all_occupied(), piece, from)
 }
 
 impl Sight {
@@ -83,8 +94,8 @@ impl Sight {
     {
         Sight {
             square,
-            straight: straight(position, square),
-            diagonal: diagonal(position, square),
+            straight: straight(position.all_occupied(), square),
+            diagonal: diagonal(position.all_occupied(), square),
         }
     }
 

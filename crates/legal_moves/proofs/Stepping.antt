@@ -1,10 +1,9 @@
 -- Which squares are left of those to which a piece goes.
-use Rattle.std.proofs.Common.{◌≡◌, ◌≢◌, ◌<◌, ◌&&◌, ◌==◌, ◌↔◌, inl, inr, ℕ, Option, Some, None, Bool, true, false, not, length, sym, ap, subst, ◌∙◌, refl, IsTrue, nat_lt, ◌||◌}
+use Rattle.std.proofs.Common.{◌≡◌, ◌≢◌, ◌<◌, ◌&&◌, ◌⊎◌, ◌↔◌, inl, inr, ℕ, Option, Some, None, Bool, true, false, not, length, sym, ap, subst, ◌∙◌, refl, IsTrue, nat_lt, ◌||◌}
 use Rattle.std.specs.Prelude.{IsSomeAnd}
 use Rattle.std.proofs.lemmas.Bool.{lt-ltb, both_ways}
-use Rattle.std.proofs.lemmas.Bool.{cases_eq}
+use Rattle.std.proofs.lemmas.Bool.{cases_Bool}
 use Rattle.board_laws.proofs.Sides.{same_side_itself, same_side_is}
-use Rattle.board_laws.proofs.Truth.{others_left, gone_before}
 use Rattle.bit_boards.specs.declared.piece.Kind.TheVariants.{King}
 use Rattle.bit_boards.specs.declared.piece.Side.{Side}
 use Rattle.bit_boards.specs.declared.piece.Piece.{Piece}
@@ -17,7 +16,8 @@ use Rattle.shogi_rules.specs.Rules.{IsInCheck, IsOwn, Reaches, promotion_fits, a
 use Rattle.shogi_rules.specs.Laws.{LegalBoardMoves}
 use Rattle.board_core.specs.Sets.{is_of_side}
 use Rattle.bit_boards.specs.Piece.{is_dead}
-use Rattle.bit_boards.specs.Kind.{same_side}
+use Rattle.bit_boards.specs.Kind.{same_side, other}
+use Rattle.attack_lines.specs.Lines.{IsAttackedWithout}
 use Rattle.legal_moves.specs.declared.guard.Guard.{Guard}
 use Rattle.legal_moves.specs.Legal.{IsLegalBoard, IsGuarded, AreGuarding, IsGuardOf}
 use Rattle.legal_moves.specs.Steps.{KeepsKing, IsOpenTo, LeavesFor, MayGo, MovesFrom}
@@ -25,30 +25,19 @@ use Rattle.attack_laws.proofs.Arrived.{some_of, some_by}
 use Rattle.legal_moves.proofs.Masked.{shared, first_of, second_of, remains, not_taken, from_first, from_second, either_of}
 use Rattle.legal_moves.proofs.Sheltered.{Leaves, IsOnlyKing, king_by, safe_of, stopping_of, king_safe_of, king_none_of, kingless_moved}
 
--- one more of the king's squares
-pub steps_more : (b : Board) (king to : ℕ) (wanted left rest safe safer : Mask) → Holds left to → ((t : ℕ) → holds rest t ≡ (holds left t && not (t == to)))
-    → ((t : ℕ) → Holds safer t ↔ (Holds safe t × (t ≡ to → IsOpenTo b king to)))
-    → ((t : ℕ) → Holds left t → Holds safe t × Holds wanted t)
-    → ((t : ℕ) → holds left t ≡ false → Holds safe t ↔ (Holds wanted t × IsOpenTo b king t))
-    → ((t : ℕ) → Holds rest t → Holds safer t × Holds wanted t) × ((t : ℕ) → holds rest t ≡ false → Holds safer t ↔ (Holds wanted t × IsOpenTo b king t))
-steps_more b king to wanted left rest safe safer found taken judged still done = (
-  (λ t is.
-      let was = others_left (holds left t) (holds rest t) t to (taken t) is in
-      let there = still t was.0 in
-      ((judged t).1 (there.0, (λ e. absurd (was.1 e))), there.1)),
-  (λ t gone. elim (cases_eq t to) [
-    | inl e ↦
-        let there = still t (subst (λ (x : ℕ). Holds left x) (sym e) found) in (
-          (λ is. (there.1, subst (λ (x : ℕ). IsOpenTo b king x) (sym e) (((judged t).0 is).1 e))),
-          (λ both. (judged t).1 (there.0, (λ _. subst (λ (x : ℕ). IsOpenTo b king x) e both.1))),
-        )
-    | inr n ↦
-        let before = done t (gone_before (holds left t) (holds rest t) t to (taken t) gone n) in (
-          (λ is. before.0 ((judged t).0 is).0),
-          (λ both. (judged t).1 (before.1 both, (λ e. absurd (n e)))),
-        )
-  ]),
-)
+-- the king's squares that nothing attacks once he has left
+pub open_steps : (b : Board) (king : ℕ) (wanted attacked safe : Mask) → ((s : ℕ) → holds safe s ≡ (holds wanted s && not (holds attacked s)))
+    → ((to : ℕ) → Holds attacked to ↔ (Holds wanted to × IsAttackedWithout b.cells (other b.side) king to))
+    → (to : ℕ) → Holds safe to ↔ (Holds wanted to × IsOpenTo b king to)
+open_steps b king wanted attacked safe is are to = (
+  (λ has.
+      let w = first_of _ _ _ (is to) has in
+      (w, λ from low attacks. both_ways (holds attacked to) (not_taken _ _ _ (is to) has) ((are to).1 (w, (from, low, attacks))))),
+  (λ both. remains _ _ _ (is to) both.0 (free (cases_Bool (holds attacked to)) both.1)),
+) where
+  free : (Holds attacked to) ⊎ (holds attacked to ≡ false) → IsOpenTo b king to → holds attacked to ≡ false
+  free (inl has) unattacked = let a = ((are to).0 has).1 in absurd (unattacked a.0 a.1 a.2)
+  free (inr none) unattacked = none
 
 leaves : MasksOnBoard → (b : Board) (piece : Piece) (from : Square) (squares : Mask) (to : ℕ) → length b.cells ≡ 81 → LeavesFor b from.number piece squares
     → Holds squares to → Leaves b from.number to piece

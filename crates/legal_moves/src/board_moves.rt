@@ -10,7 +10,7 @@ ghost use Rattle.legal_moves.specs.Steps.{KeepsKing, IsOpenTo, LeavesFor, MayGo,
 use crate::guard::Guard;
 use crate::landings::Landings;
 use crate::rows::{dead, promotable};
-use attack_lines::{attackers_without, blocks, is_attacked_without, reached};
+use attack_lines::{attacked_without, attackers_without, blocks, reached};
 use bit_boards::{Mask, mask_laws};
 use board_core::{Kind, Piece, Position, Square};
 use shogi_rules::legal_laws;
@@ -30,29 +30,13 @@ fn own_piece(position: &Position, square: Square) -> Option<Piece>
     }
 }
 
-// The set without the square, where the king would be attacked there.
-fn without_attacked(position: &Position, king: Square, to: Square, squares: Mask) -> Mask
-    ensures { (square : ℕ) → Holds result square
-        ↔ (Holds squares square
-        × (square ≡ to.number → IsOpenTo position.now king.number to.number)) }
-{
-    if is_attacked_without(position, king, to, position.side().other()) {
-        return squares.without(to);
-    }
-    squares
-}
-
 // Of these squares those to which the king may go from his.
 fn king_steps(position: &Position, king: Square, wanted: Mask) -> Mask
     ensures { (to : ℕ) → Holds result to
         ↔ (Holds wanted to × IsOpenTo position.now king.number to) }
 {
-    let mut safe = wanted;
-    let mut left = wanted;
-    while let Some(to) = left.pop_first() {
-        safe = without_attacked(position, king, to, safe);
-    }
-    safe
+    let by = position.side().other();
+    wanted.minus(attacked_without(position, king, wanted, by))
 }
 
 // The squares on which a piece that left a square stops whoever attacks the king then.

@@ -1,6 +1,4 @@
-use Rattle.attack_lines.proofs.Sights.{reaching}
 use Rattle.attack_lines.proofs.reach.reached.Goals as goal
 
 pub returns : goal.returns
-returns c to = reaching c.mask_laws.ensures.steps c.args.position.now.cells c.args.piece c.args.from.number to to _ _ _ (λ low. (c.args.from.on_board, low))
-    (c.or.ensures to) (c.steps.ensures to) (c.slides.ensures to)
+returns c = c.reached_over.ensures c.args.position.now.cells c.all_occupied.ensures

@@ -1,7 +1,13 @@
-use Rattle.legal_moves.proofs.Stepping.{steps_more}
+use Rattle.std.proofs.Common.{◌↔◌, ℕ, subst, rules}
+use Rattle.bit_boards.specs.declared.piece.Side.{Side}
+use Rattle.bit_boards.specs.Mask.{Holds}
+use Rattle.attack_lines.specs.Lines.{IsAttackedWithout}
+use Rattle.legal_moves.proofs.Stepping.{open_steps}
 use Rattle.legal_moves.proofs.board_moves.king_steps.Goals as goal
 
-pub loop-to-preserved : goal.loop-to-preserved
-loop-to-preserved c =
-    steps_more c.args.position.now c.args.king.number c.in-Some.to.number c.args.wanted c.loop-to.left c.pop_first.new.self c.loop-to.safe c.without_attacked-safe.result
-    c.in-Some.ensures.found c.in-Some.ensures.rest c.without_attacked-safe.ensures c.loop-to.invariant.0 c.loop-to.invariant.1
+pub returns : goal.returns
+returns c =
+    let b = c.args.position.now in
+    let king = c.args.king.number in
+    let P : Side → Type 0 = λ s. (to : ℕ) → Holds c.attacked_without.result to ↔ (Holds c.args.wanted to × IsAttackedWithout b.cells s king to) in
+    open_steps b king c.args.wanted c.attacked_without.result c.minus.result c.minus.ensures (subst P (search rules) c.attacked_without.ensures)
