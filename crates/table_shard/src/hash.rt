@@ -18,9 +18,11 @@ fn hashed(hash: u64, word: u64) -> u64
     ensures hash { result ≡ hashed hash word }
     ensures low { result < MODULUS }
 {
-    let product = (u128::from(hash) + u128::from(word)) * u128::from(MULTIPLIER);
-    let once = (product >> 61) + (product & u128::from(MODULUS));
-    let twice = ((once >> 61) + (once & u128::from(MODULUS))) as u64;
+    // The word is brought down first, since that doesn't wait for the hash.
+    let low = (word >> 61) + (word & MODULUS);
+    let product = u128::from(hash + low) * u128::from(MULTIPLIER);
+    let once = (product >> 61) as u64 + (product & u128::from(MODULUS)) as u64;
+    let twice = (once >> 61) + (once & MODULUS);
     if twice >= MODULUS {
         return twice - MODULUS;
     }
