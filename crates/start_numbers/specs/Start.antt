@@ -1,17 +1,21 @@
 -- The numbers of a position of which none are known, from the position before it and the move.
-use Rattle.std.specs.Prelude.{◌≡◌, ◌<◌, ◌+◌, ◌*◌, ◌==◌, ◌↔◌, ℕ, List, length, Bool, nat_le, nat_lt, is_some, if◌then◌else◌}
+use Rattle.std.specs.Prelude.{◌≡◌, ◌<◌, ◌+◌, ◌*◌, ◌==◌, ◌↔◌, ℕ, List, [], length, Bool, nat_le, nat_lt, is_some, if◌then◌else◌}
 use Rattle.bit_boards.specs.declared.piece.Side.{Side}
 use Rattle.bit_boards.specs.declared.mask.Mask.{Mask}
 use Rattle.bit_boards.specs.Kind.{other}
 use Rattle.bit_boards.specs.Mask.{Holds, count}
 use Rattle.board_core.specs.declared.moves.Move.{Move}
 use Rattle.board_core.specs.declared.moves.Move.TheVariants as moves
+use Rattle.board_core.specs.declared.keys.Key.{Key}
 use Rattle.board_core.specs.Board.{Board, piece_at}
+use Rattle.board_core.specs.Kept.{IsKept}
+use Rattle.board_core.specs.Key.{key_of}
 use Rattle.board_core.specs.Order.{Lists}
 use Rattle.shogi_rules.specs.Rules.{AttacksFrom, after}
 use Rattle.shogi_rules.specs.Tsume.{IsCheck, IsEvasion}
 use Rattle.evasions.specs.Answers.{answers_of}
 use Rattle.pn_numbers.specs.declared.numbers.Numbers.{Numbers}
+use Rattle.pn_numbers.specs.Numbers.{IsOpen}
 
 -- The square to which a move goes.
 abbrev pub destination : Move → ℕ
@@ -63,3 +67,18 @@ IsStartOfCheck attacker b by numbers =
 abbrev pub IsStartOfEvasion : Side → Board → Move → Numbers → Type 0
 IsStartOfEvasion attacker b by numbers =
     (checks : List Move) → Lists (IsCheck attacker (after b by)) checks → numbers ≡ start_of_evasion (length checks)
+
+-- What is known of the numbers with which the position after a move begins: they are from 1 to the
+-- cap; those after the attacker's check or after the defender's evasion; the proof number after a
+-- check is 1 exactly where it leaves no evasion, and the disproof number after an evasion is 1
+-- exactly where it leaves no check.
+pub record IsStartOf (attacker : Side) (b : Board) (by : Move) (numbers : Numbers) : Type 0 where
+  pub in_range : IsOpen numbers
+  pub check : b.side ≡ attacker → IsStartOfCheck attacker b by numbers
+  pub evasion : b.side ≡ other attacker → IsStartOfEvasion attacker b by numbers
+  pub mate : b.side ≡ attacker → (evasions : List Move) → Lists (IsEvasion attacker (after b by)) evasions → (numbers.pn ≡ 1) ↔ (evasions ≡ [])
+  pub safe : b.side ≡ other attacker → (checks : List Move) → Lists (IsCheck attacker (after b by)) checks → (numbers.dn ≡ 1) ↔ (checks ≡ [])
+
+-- The numbers begin the position after a move at whichever position has the key.
+abbrev pub IsStartBehind : Side → Key → Move → Numbers → Type 0
+IsStartBehind attacker key by numbers = (b : Board) → IsKept b → key_of b ≡ key.0 → IsStartOf attacker b by numbers

@@ -3,6 +3,8 @@
 //! search's, since most children of visited positions are such.
 #![tactic(auto)]
 
+mod kept_starts;
 mod starting;
 
+pub use kept_starts::Starts;
 pub use starting::start;

@@ -15,12 +15,13 @@ ghost use Rattle.visit_log.specs.Sound.{IsListed};
 use crate::listing::{children_of, node_at};
 use crate::making::note_of;
 use crate::reckoning::{Reckoned, entry_to, first_due, is_fresh, is_solved, reckon};
-use crate::telling::{next_round, tell};
+use crate::telling::{Here, next_round, tell};
 use board_core::{Key, Position};
 use notes::{Kept, Note, NoteEnd, Seen};
 use path_tags::Path;
 use pn_numbers::{Child as Counted, Node, Numbers};
 use shogi_rules::Problem;
+use start_numbers::Starts;
 use std::alloc::{AllocError, Global};
 use std::marker::Model;
 use std::mem::size_of;
@@ -243,8 +244,8 @@ impl Frame {
     }
 
     /// The child at the place was looked at. Where the table has no entry of it, its start numbers
-    /// are reckoned here; a note that is lent is carried to it. Errors: want of memory for that
-    /// alone, and then nothing has changed.
+    /// are reckoned here, or told of those that are kept; a note that is lent is carried to it.
+    /// Errors: want of memory for that alone, and then nothing has changed.
     pub fn look(
         &mut self,
         alloc: Global,
@@ -252,6 +253,7 @@ impl Frame {
         worker: u32,
         place: usize,
         seen: Seen,
+        starts: &mut Starts,
     ) -> Result<(), AllocError>
         requires listed { (path : List Key)
             × IsListed (task_for problem.now.position worker) path self.old
@@ -268,10 +270,15 @@ impl Frame {
         ensures unchanged { OnErr result (self.new ≡ self.old) }
     {
         let _ = worker;
+        let here = Here {
+            position: &self.position,
+            key: &self.key,
+        };
         tell(
             alloc,
             problem,
-            &self.position,
+            starts,
+            here,
             &mut self.children,
             place,
             seen,

@@ -1,5 +1,6 @@
 // What a look at a child tells, and what its visit leaves.
 ghost use Rattle.std.specs.Prelude.{◌≡◌, ◌<◌, Some, IsSome, OnErr, OnOk, length, map, slice_get, slice_set};
+ghost use Rattle.board_core.specs.Key.{key_of};
 ghost use Rattle.shogi_rules.specs.Rules.{IsQuiet};
 ghost use Rattle.visit_log.specs.declared.parts.Child.{Child};
 ghost use Rattle.visit_log.specs.declared.parts.Look.TheVariants.{Fresh};
@@ -7,38 +8,49 @@ ghost use Rattle.visit_log.specs.Round.{Sight, Tells, told, staled, staled_look,
 ghost use Rattle.visit_log.specs.Machine.{IsLending};
 ghost use Rattle.visit_frame.specs.Telling.{MayTell};
 
-use board_core::Position;
+use board_core::{Key, Position};
 use notes::{Note, Seen, carry};
 use pn_numbers::Numbers;
 use shogi_rules::{Problem, apply};
-use start_numbers::start;
+use start_numbers::Starts;
 use std::alloc::{AllocError, Global};
 use visit_log::{Child, Left, Look};
 
-// The child at the place was looked at. A note that is lent is carried to it. Errors: want of
-// memory for that alone, and then nothing changes.
+// The position of a visit, and its key.
+#[derive(Clone, Copy)]
+pub(crate) struct Here<'a> {
+    pub(crate) position: &'a Position,
+    pub(crate) key: &'a Key,
+}
+
+// The child at the place was looked at. Start numbers are asked of those that are kept, and a note
+// that is lent is carried to the child. Errors: want of memory for that alone, and then nothing
+// changes.
 pub(crate) fn tell(
     alloc: Global,
     problem: &Problem,
-    position: &Position,
+    starts: &mut Starts,
+    here: Here,
     children: &mut [Child],
     place: usize,
     seen: Seen,
 ) -> Result<(), AllocError>
-    requires quiet { IsQuiet position.now }
-    requires known { MayTell problem.now.position.side position.now children.old place seen }
+    requires quiet { IsQuiet here.position.now }
+    requires key { here.key.now.0 ≡ key_of here.position.now }
+    requires known { MayTell problem.now.position.side here.position.now children.old place seen }
     ensures told { OnOk result
         ((sight : Sight) × (sight.place ≡ place) × (sight.seen ≡ seen)
         × (slice_get children.old place ≡ Some sight.child)
-        × Tells problem.now.position.side position.now sight.child.by seen sight.start
+        × Tells problem.now.position.side here.entry.position.now sight.child.by seen sight.start
         × (children.new ≡ slice_set children.old place
-        (told problem.now.position.side position.now sight.child seen sight.start))) }
+        (told problem.now.position.side here.entry.position.now sight.child seen sight.start))) }
     ensures lost { OnErr result (IsLending seen) }
     ensures unchanged { OnErr result (children.new ≡ children.old) }
 {
+    let position = here.position;
     match seen {
         Seen::New => {
-            let numbers = start(problem, position, children[place].by);
+            let numbers = starts.start(alloc, problem, position, here.key, children[place].by);
             show(children, place, numbers, 0);
             Ok(())
         }

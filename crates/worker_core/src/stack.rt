@@ -18,19 +18,21 @@ use notes::{Kept, Note, NoteEnd, Seen};
 use path_tags::Path;
 use pn_numbers::Numbers;
 use shogi_rules::{Problem, apply};
+use start_numbers::Starts;
 use std::alloc::{AllocError, Global};
 use std::marker::Model;
 use visit_frame::Frame;
 use visit_log::{Entry, Left, Stage};
 
-// The visits, the innermost last, with the keys of the attacker's positions among them. Contracts
-// see the visits, the innermost first.
+// The visits, the innermost last, with the keys of the attacker's positions among them, and what
+// start numbers were reckoned. Contracts see the visits, the innermost first.
 #[derive(Drop)]
 pub(crate) struct Stack {
     problem: Problem,
     worker: u32,
     frames: Vec<Frame>,
     path: Path,
+    starts: Starts,
 }
 
 impl Model for Stack {
@@ -94,6 +96,7 @@ impl Stack {
             worker,
             frames: Vec::new(alloc),
             path: Path::make(alloc),
+            starts: Starts::new(alloc),
         }
     }
 
@@ -265,6 +268,7 @@ impl Stack {
             self.worker,
             place,
             seen,
+            &mut self.starts,
         )
     }
 

@@ -12,6 +12,7 @@ ghost use Rattle.worker_core.specs.Stack.{top_of, HasTop, ChangesTop};
 use notes::{Kept, Seen};
 use path_tags::Path;
 use shogi_rules::Problem;
+use start_numbers::Starts;
 use std::alloc::{AllocError, Global};
 use visit_frame::Frame;
 use visit_log::{Left, Stage};
@@ -93,6 +94,7 @@ pub(crate) fn look_top(
     worker: u32,
     place: usize,
     seen: Seen,
+    starts: &mut Starts,
 ) -> Result<(), AllocError>
     requires some { 0 < length frames.old }
     requires listed { HasTop (λ f. (path : List Key)
@@ -112,7 +114,7 @@ pub(crate) fn look_top(
 {
     let last = frames.len() - 1;
     let frame = &mut frames[last];
-    frame.look(alloc, problem, worker, place, seen)
+    frame.look(alloc, problem, worker, place, seen, starts)
 }
 
 // The visit of the child to which it went down ended so.

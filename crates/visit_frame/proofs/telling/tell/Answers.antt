@@ -1,12 +1,13 @@
 use Rattle.std.proofs.Common.{◌≡◌, get_or, refl, sym, ap, subst, ◌∙◌}
 use Rattle.std.specs.Prelude.{Some, slice_set}
 use Rattle.visit_log.specs.declared.parts.Child.{Child}
-use Rattle.std.proofs.lemmas.Option.{get_or_from_slice_get}
+use Rattle.std.proofs.lemmas.Option.{get_or_from_slice_get, slice_get_within}
 use Rattle.board_core.specs.Board.{Board}
 use Rattle.board_core.specs.Key.{key_of}
 use Rattle.shogi_rules.specs.Rules.{after}
 use Rattle.notes.specs.Derivation.{Derivation, carried, position_of}
 use Rattle.notes.specs.Valid.{IsValid}
+use Rattle.notes.specs.Lending.{IsLentTo}
 use Rattle.notes.specs.declared.words.Seen.{Seen}
 use Rattle.notes.proofs.Offered.{valid_kept}
 use Rattle.visit_log.specs.declared.parts.Look.TheVariants.{Fresh}
@@ -18,12 +19,12 @@ returns-in-New-clause-told c =
     let xs = c.args.children.now in
     let place = c.args.place in
     let side = c.args.problem.now.position.side in
-    let b = c.args.position.now in
+    let b = c.args.here.position.now in
     let child = c.requires.known.child in
     let start = c.start-numbers.result in
     let one : Child = get_or xs place c.index-children-place.result in
     let is : one ≡ child = get_or_from_slice_get xs place child c.index-children-place.result c.requires.known.there in
-    let begins : IsStart side b one.by start = record { in_range = c.start-numbers.ensures.open; check = c.start-numbers.ensures.check; evasion = c.start-numbers.ensures.evasion } in (
+    let begins : IsStart side b one.by start = record { in_range = c.start-numbers.ensures.in_range; check = c.start-numbers.ensures.check; evasion = c.start-numbers.ensures.evasion } in (
       record { place = place; child = child; seen = c.args.seen; start = start },
       refl,
       refl,
@@ -37,7 +38,7 @@ returns-in-Open-clause-told c =
     let xs = c.args.children.now in
     let place = c.args.place in
     let side = c.args.problem.now.position.side in
-    let b = c.args.position.now in
+    let b = c.args.here.position.now in
     let child = c.requires.known.child in
     let start = c.in-Open.numbers in (
       record { place = place; child = child; seen = c.args.seen; start = start },
@@ -53,7 +54,7 @@ returns-in-Solved-clause-told c =
     let xs = c.args.children.now in
     let place = c.args.place in
     let side = c.args.problem.now.position.side in
-    let b = c.args.position.now in
+    let b = c.args.here.position.now in
     let known = c.requires.known in
     let child = known.child in
     let start = child.numbers in
@@ -73,12 +74,29 @@ returns-in-Solved-clause-told c =
       c.prove.ensures child known.there ∙ ap (λ (s : Seen). slice_set xs place (told side b child s start)) (sym c.in-Solved.is),
     )
 
+pub carry-requires : goal.carry-requires
+carry-requires c =
+    let xs = c.args.children.now in
+    let place = c.args.place in
+    let side = c.args.problem.now.position.side in
+    let b = c.args.here.position.now in
+    let known = c.requires.known in
+    let child = known.child in
+    let one : Child = get_or xs place c.index-children-place-in-Lent.result in
+    let is : one ≡ child = get_or_from_slice_get xs place child c.index-children-place-in-Lent.result known.there in
+    let reached : c.apply-next.result ≡ after b child.by = c.apply-next.ensures.position ∙ ap (λ (z : Child). after b z.by) is in
+    let lent : IsLentTo side child.key c.in-Lent.note = subst (λ (s : Seen). MayShow side child.key known.path s) c.in-Lent.is known.may in
+    lent.may c.apply-next.result c.laws-in-Lent.ensures (ap key_of reached ∙ sym known.key)
+
+pub prove-requires-in-Lent : goal.prove-requires-in-Lent
+prove-requires-in-Lent c = slice_get_within c.args.children.now c.args.place c.requires.known.child c.requires.known.there
+
 pub returns-in_ok-own-in-Lent-clause-told : goal.returns-in_ok-own-in-Lent-clause-told
 returns-in_ok-own-in-Lent-clause-told c =
     let xs = c.args.children.now in
     let place = c.args.place in
     let side = c.args.problem.now.position.side in
-    let b = c.args.position.now in
+    let b = c.args.here.position.now in
     let known = c.requires.known in
     let child = known.child in
     let start = child.numbers in
