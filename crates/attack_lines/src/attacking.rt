@@ -109,7 +109,7 @@ fn attacked_from(position: &Position, lifted: Square, from: Square, by: Side) ->
 }
 
 /// Of these squares those that pieces of `by` attack once what stands on another square hinders
-/// them no more: as [`attackers_without`] has it of each, but each piece is gone over once. Takes no
+/// them no more: as [`attackers_without`] has it of each, but each piece is asked once. Takes no
 /// memory. (Rules of shogi: movement of the pieces.)
 pub fn attacked_without(position: &Position, lifted: Square, squares: Mask, by: Side) -> Mask
     ensures { (to : ℕ) → Holds result to
