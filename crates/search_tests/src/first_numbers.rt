@@ -1,11 +1,12 @@
 // Start numbers by examples that another program made.
 use crate::problems::problem;
 use crate::same::same;
-use board_core::{Move, Position, Side};
+use board_core::{Move, Position, Side, key};
 use pn_numbers::Numbers;
 use sfen_text::read_sfen;
 use shogi_rules::{Problem, in_check, legal};
-use start_numbers::start;
+use start_numbers::{Starts, start};
+use std::alloc::Global;
 use std::process::Abort;
 use usi_text::read_move;
 
@@ -17,15 +18,26 @@ fn problem_of(rt: &impl Abort, attacker: Side) -> Problem {
     }
 }
 
-// The numbers after a move, or why the row is no example.
-fn started(problem: &Problem, position: &Position, by: Move) -> Result<Numbers, &'static str> {
+// The numbers after a move, then twice as they are kept, or why the row is no example.
+fn started(
+    alloc: Global,
+    starts: &mut Starts,
+    problem: &Problem,
+    position: &Position,
+    by: Move,
+) -> Result<[Numbers; 3], &'static str> {
     if in_check(position, position.side().other()) {
         return Err("not quiet");
     }
     if legal(position, by).is_err() {
         return Err("not legal");
     }
-    Ok(start(problem, position, by))
+    let own = key(position);
+    Ok([
+        start(problem, position, by),
+        starts.start(alloc, problem, position, &own, by),
+        starts.start(alloc, problem, position, &own, by),
+    ])
 }
 
 // The first word of a row, and the rest.
@@ -35,7 +47,7 @@ fn split<'a>(rt: &impl Abort, row: &'a str) -> (&'a str, &'a str) {
 
 // A row has the move, the two numbers, and the position with the attacker to move; the position is
 // the one at hand, or that with the defender to move.
-fn compare(rt: &impl Abort, row: &str, is_evasion: bool) {
+fn compare(rt: &impl Abort, alloc: Global, starts: &mut Starts, row: &str, is_evasion: bool) {
     let (by, rest) = split(rt, row);
     let (pn, rest) = split(rt, rest);
     let (dn, text) = split(rt, rest);
@@ -49,12 +61,13 @@ fn compare(rt: &impl Abort, row: &str, is_evasion: bool) {
         dn: dn.parse::<u32>().expect(rt, row),
     };
     let by = read_move(by.as_bytes()).expect(rt, row);
-    let found = started(&problem_of(rt, attacker), &position, by);
-    same(rt, row, found, Ok(numbers));
+    let found = started(alloc, starts, &problem_of(rt, attacker), &position, by);
+    same(rt, row, found, Ok([numbers; 3]));
 }
 
 #[test]
 fn a_position_begins_with_what_its_answers_or_checks_make_likely(rt: HostRuntime) {
+    let mut starts = Starts::new(rt.alloc());
     let checks = [
         "S*6d 15 2 9/9/1b1k5/2+p6/n2s5/4p4/9/9/9 b S2rb4g2s3n4l16p",
         "R*3c 1 4 8+p/4P2n1/7K1/6g2/9/3+b2N2/9/9/9 w RB3G4S2N4L16Pr",
@@ -71,7 +84,7 @@ fn a_position_begins_with_what_its_answers_or_checks_make_likely(rt: HostRuntime
         "R*1h 10 2 9/9/9/9/9/5P3/4+pG2P/5S1K1/6S2 w BS4N4L13P2rb3gs2p",
     ];
     for row in checks {
-        compare(&rt, row, false);
+        compare(&rt, rt.alloc(), &mut starts, row, false);
     }
     // The defender, in check, has the move.
     let evasions = [
@@ -82,6 +95,6 @@ fn a_position_begins_with_what_its_answers_or_checks_make_likely(rt: HostRuntime
         "L*2g 2 24 9/2b6/9/9/9/5P3/4+pG2P/5S2K/6Sr1 w BS4N4L13Pr3gs2p",
     ];
     for row in evasions {
-        compare(&rt, row, true);
+        compare(&rt, rt.alloc(), &mut starts, row, true);
     }
 }
