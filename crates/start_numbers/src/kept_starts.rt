@@ -54,7 +54,7 @@ pub struct Starts {
 }
 
 impl Starts {
-    /// None. Takes no memory.
+    /// Nothing is kept yet. Takes no memory.
     pub fn new(alloc: Global) -> Starts {
         Starts {
             slots: Vec::new(alloc),

@@ -8,9 +8,9 @@
 //! call is proved equal to the definitions of `visit_log`: a frame has no rule of its own.
 //!
 //! A round goes over the children a few times, fills two lists of small values that are as long,
-//! and takes no memory but for a note that is lent, which is carried to the child. Listing the
-//! children takes memory, once a visit, and so does a note. A frame takes at most 384 bytes, and
-//! each child of it at most 136 more.
+//! and takes no memory but for a note that is lent, which is carried to the child, and for the
+//! start numbers that are kept. Listing the children takes memory, once a visit, and so does a
+//! note. A frame takes at most 384 bytes, and each child of it at most 136 more.
 #![tactic(auto)]
 
 mod frame;
