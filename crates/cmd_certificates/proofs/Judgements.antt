@@ -10,6 +10,7 @@ use Rattle.cert_check.specs.Valid.{IsValid}
 use Rattle.cert_check.specs.declared.verdict.Verdict.{Verdict}
 use Rattle.cert_check.specs.declared.verdict.Verdict.TheVariants as verdict
 use Rattle.collection_text.specs.Told.{ToldView}
+use Rattle.library_text.specs.Reading.{IsBare}
 use Rattle.cmd_check.specs.Answer.{IsAcceptance, IsRefusal, IsTextOfOne}
 use Rattle.cmd_check.specs.Headline.{IsValidText}
 use Rattle.cmd_certificates.specs.declared.judged.LineJudgement.{LineJudgement}
@@ -47,21 +48,30 @@ one_told once line (Refused entry why) (Refused number reason) s t =
     let also = subst (λ (c : Certificate). IsRefusal (problem_of c) c number reason) same t.refused in
     let is = once s.certificate (problem_of s.certificate) (verdict.Refused entry why) (verdict.Refused number reason) s.refused.first also.first in
     cc
-one_told once line (Accepted claim entries) (Fault fault) s (inl none) = absurd (none.none s.certificate s.has.text.read.0 s.has.text.read.1)
+one_told once line (Accepted claim entries) (Fault fault) s (inl (inl none)) = absurd (none.1.none s.certificate s.has.text.read.0 s.has.text.read.1)
+one_told once line (Accepted claim entries) (Fault fault) s (inl (inr front)) = absurd (front.0 s.has.bare)
 one_told once line (Accepted claim entries) (Fault fault) s (inr other) =
     absurd (other.another (ap claim_of (one_of line.certificate s.certificate other.certificate s.has.text other.text) ∙ s.has.told))
-one_told once line (Refused entry why) (Fault fault) s (inl none) = absurd (none.none s.certificate s.has.text.read.0 s.has.text.read.1)
+one_told once line (Refused entry why) (Fault fault) s (inl (inl none)) = absurd (none.1.none s.certificate s.has.text.read.0 s.has.text.read.1)
+one_told once line (Refused entry why) (Fault fault) s (inl (inr front)) = absurd (front.0 s.has.bare)
 one_told once line (Refused entry why) (Fault fault) s (inr other) =
     absurd (other.another (ap claim_of (one_of line.certificate s.certificate other.certificate s.has.text other.text) ∙ s.has.told))
-one_told once line (Fault fault) (Accepted claim entries) (inl none) t = absurd (none.none t.certificate t.has.text.read.0 t.has.text.read.1)
+one_told once line (Fault fault) (Accepted claim entries) (inl (inl none)) t = absurd (none.1.none t.certificate t.has.text.read.0 t.has.text.read.1)
+one_told once line (Fault fault) (Accepted claim entries) (inl (inr front)) t = absurd (front.0 t.has.bare)
 one_told once line (Fault fault) (Accepted claim entries) (inr other) t =
     absurd (other.another (ap claim_of (one_of line.certificate t.certificate other.certificate t.has.text other.text) ∙ t.has.told))
-one_told once line (Fault fault) (Refused entry why) (inl none) t = absurd (none.none t.certificate t.has.text.read.0 t.has.text.read.1)
+one_told once line (Fault fault) (Refused entry why) (inl (inl none)) t = absurd (none.1.none t.certificate t.has.text.read.0 t.has.text.read.1)
+one_told once line (Fault fault) (Refused entry why) (inl (inr front)) t = absurd (front.0 t.has.bare)
 one_told once line (Fault fault) (Refused entry why) (inr other) t =
     absurd (other.another (ap claim_of (one_of line.certificate t.certificate other.certificate t.has.text other.text) ∙ t.has.told))
-one_told once line (Fault fault) (Fault found) (inl none) (inl also) = ap Fault (also.only fault none.first)
-one_told once line (Fault fault) (Fault found) (inl none) (inr other) = absurd (none.none other.certificate other.text.read.0 other.text.read.1)
-one_told once line (Fault fault) (Fault found) (inr other) (inl none) = absurd (none.none other.certificate other.text.read.0 other.text.read.1)
+one_told once line (Fault fault) (Fault found) (inl (inl none)) (inl (inl also)) = ap Fault (also.1.only fault none.1.first)
+one_told once line (Fault fault) (Fault found) (inl (inl none)) (inl (inr front)) = absurd (front.0 none.0)
+one_told once line (Fault fault) (Fault found) (inl (inr front)) (inl (inl none)) = absurd (front.0 none.0)
+one_told once line (Fault fault) (Fault found) (inl (inr front)) (inl (inr also)) = ap Fault (front.1 ∙ sym also.1)
+one_told once line (Fault fault) (Fault found) (inl (inl none)) (inr other) = absurd (none.1.none other.certificate other.text.read.0 other.text.read.1)
+one_told once line (Fault fault) (Fault found) (inl (inr front)) (inr other) = absurd (front.0 other.bare)
+one_told once line (Fault fault) (Fault found) (inr other) (inl (inl none)) = absurd (none.1.none other.certificate other.text.read.0 other.text.read.1)
+one_told once line (Fault fault) (Fault found) (inr other) (inl (inr front)) = absurd (front.0 other.bare)
 one_told once line (Fault fault) (Fault found) (inr other) (inr another) = ap Fault (other.is_head ∙ sym another.is_head)
 
 -- a judged line of its parts
@@ -117,20 +127,21 @@ valid_text line claim entries is = record {
 }
 
 -- and that text is judged to be accepted
-pub accepted_told : (line : ToldView) (told : LineJudgement) (claim : Claim) (entries : ℕ) → claim ≡ line.claim → IsValidText None line.certificate claim entries
-    → IsTold line told → told ≡ Accepted claim entries
-accepted_told line (Accepted claimed counted) claim entries says valid is =
+pub accepted_told : (line : ToldView) (told : LineJudgement) (claim : Claim) (entries : ℕ) → claim ≡ line.claim → IsBare line.certificate
+    → IsValidText None line.certificate claim entries → IsTold line told → told ≡ Accepted claim entries
+accepted_told line (Accepted claimed counted) claim entries says bare valid is =
     let same = is.has.text.only valid.certificate valid.readable valid.text in
     let also = subst (λ (c : Certificate). IsAcceptance (problem_of c) c claimed counted) (sym same) is.accepted in
     let one_claim : claimed ≡ claim = also.is_claim ∙ sym valid.is_claim in
     let one_count : counted ≡ entries = also.count ∙ sym valid.count in
     cc
-accepted_told line (Refused entry why) claim entries says valid is =
+accepted_told line (Refused entry why) claim entries says bare valid is =
     let same = is.has.text.only valid.certificate valid.readable valid.text in
     let also = subst (λ (c : Certificate). IsRefusal (problem_of c) c entry why) (sym same) is.refused in
     absurd (also.invalid (subst (λ (p : Board). IsValid valid.certificate p) valid.judged_for valid.valid))
-accepted_told line (Fault fault) claim entries says valid (inl none) = absurd (none.none valid.certificate valid.readable valid.text)
-accepted_told line (Fault fault) claim entries says valid (inr other) =
+accepted_told line (Fault fault) claim entries says bare valid (inl (inl none)) = absurd (none.1.none valid.certificate valid.readable valid.text)
+accepted_told line (Fault fault) claim entries says bare valid (inl (inr front)) = absurd (front.0 bare)
+accepted_told line (Fault fault) claim entries says bare valid (inr other) =
     absurd (other.another (ap claim_of (sym (other.text.only valid.certificate valid.readable valid.text)) ∙ sym valid.is_claim ∙ says))
 
 -- what is told of a certificate for its own problem is told of its line

@@ -48,11 +48,12 @@ accepted_of stops source sink input place number claim entries ended is told not
             stands = at.1;
             is_number = at.2.number;
             is_told = at.2.told.accepted.is_claim ∙ at.2.told.has.told;
+            bare = at.2.told.has.bare;
             valid = valid_text at.0 claim entries at.2.told;
           }),
       (λ valid.
           let at = judged_at (told_lines input) found.0 place valid.line found.2 valid.stands in
-          let is_told = accepted_told valid.line at.0.told claim entries valid.is_told valid.valid at.2.told in
+          let is_told = accepted_told valid.line at.0.told claim entries valid.is_told valid.bare valid.valid at.2.told in
           record {
             lines = found.0;
             answered = found.1;

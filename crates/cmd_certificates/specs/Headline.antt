@@ -2,6 +2,7 @@
 use Rattle.std.specs.Prelude.{◌≡◌, ◌≤◌, ◌↔◌, ◌⊎◌, ℕ, List, Option, Some, None, length, slice_get}
 use Rattle.cert_text.specs.declared.head.Claim.{Claim}
 use Rattle.collection_text.specs.Told.{ToldView, told_lines}
+use Rattle.library_text.specs.Reading.{IsBare}
 use Rattle.tsume_io.specs.Faults.{Rose}
 use Rattle.one_run.specs.declared.ended.Ended.{Ended}
 use Rattle.one_run.specs.declared.ended.Ended.TheVariants.{Answered}
@@ -17,13 +18,14 @@ use Rattle.cmd_certificates.specs.Judged.{JudgedView}
 use Rattle.cmd_certificates.specs.Meaning.{collection_meaning}
 
 -- The line at this place, among those that tell a verdict, has this number and tells what is
--- claimed; and behind it stands the text of a certificate that claims it too, lists so many
--- positions, is valid for its own problem, and shows what it claims.
+-- claimed; and behind it stands the text of a certificate, without a front line, that claims it
+-- too, lists so many positions, is valid for its own problem, and shows what it claims.
 pub record IsValidAt (input : List ℕ) (place : ℕ) (number : List ℕ) (claim : Claim) (entries : ℕ) : Type 0 where
   pub line : ToldView
   pub stands : slice_get (told_lines input) place ≡ Some line
   pub is_number : number ≡ line.number
   pub is_told : claim ≡ line.claim
+  pub bare : IsBare line.certificate
   pub valid : IsValidText None line.certificate claim entries
 
 -- The run was answered, and the judged line at this place is that this number's certificate is

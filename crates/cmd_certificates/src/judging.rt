@@ -2,6 +2,7 @@
 ghost use Rattle.std.specs.Prelude.{◌≡◌, ◌↔◌, IfOk, IsTrue};
 ghost use Rattle.cert_text.specs.Kinds.{claim_of};
 ghost use Rattle.collection_text.specs.Told.{seen as told_seen, told_lines};
+ghost use Rattle.library_text.specs.Reading.{IsBare};
 ghost use Rattle.one_run.specs.Command.{IsAnswer};
 ghost use Rattle.one_run.specs.Stops.{Signals, AreUnused};
 ghost use Rattle.cmd_certificates.specs.Answer.{AreJudged, IsLineJudged, IsTold};
@@ -11,7 +12,7 @@ ghost use Rattle.cmd_certificates.specs.Meaning.{collection_meaning};
 
 use crate::{CollectionJudgement, JudgedLine, LineJudgement, NoFault};
 use cert_check::Verdict;
-use cert_text::{CertEnd, CertFault, Certificate, Claim, cert_laws};
+use cert_text::{CertEnd, CertFault, Certificate, Claim, behind, cert_laws};
 use collection_text::{ToldLine, ToldLines};
 use one_run::Unanswered;
 use side_by_side::MOST_MEMBERS;
@@ -54,6 +55,13 @@ fn own_judgement<R: Threads + Sync>(
     }
 }
 
+// Whether it begins as a certificate's first line does, so that no front line stands before it.
+fn is_bare(text: &[u8]) -> bool
+    ensures { IsTrue result ↔ IsBare text.now }
+{
+    behind(text, b"certificate ").is_some()
+}
+
 fn claims(certificate: &Certificate, claim: Claim) -> bool
     ensures { IsTrue result ↔ (claim_of certificate.now ≡ claim) }
 {
@@ -71,6 +79,9 @@ fn told_of<R: Threads + Sync>(
 {
     // No text has two first faults.
     cert_laws();
+    if !is_bare(line.certificate) {
+        return Ok(LineJudgement::Fault(CertFault::BadHead));
+    }
     let certificate = match read_wide(rt, alloc, line.certificate, pieces) {
         Ok(certificate) => certificate,
         Err(CertEnd::Fault(fault)) => return Ok(LineJudgement::Fault(fault)),

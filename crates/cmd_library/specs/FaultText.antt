@@ -2,7 +2,6 @@
 use Rattle.std.specs.Prelude.{◌≡◌, ℕ, List, []}
 use Rattle.app_texts.specs.FaultText.{problem_fault_text}
 use Rattle.library_text.specs.FaultText as library
-use Rattle.run_telling.specs.Telling.{MayFollowProblem}
 use Rattle.cmd_library.specs.declared.fault.LibraryTextFault.{LibraryTextFault}
 use Rattle.cmd_library.specs.declared.fault.LibraryTextFault.TheVariants.{Problem, Library}
 
@@ -11,8 +10,7 @@ abbrev pub library_fault_text : LibraryTextFault → List ℕ
 library_fault_text (Problem fault) = problem_fault_text fault
 library_fault_text (Library fault) = library.library_fault_text fault
 
--- What stands for a reader behind it: what may behind the problem's fault, and nothing behind the
--- library's.
+-- Nothing stands for a reader behind it: explanations look at a text as a whole, of which the
+-- problem and each certificate are parts.
 abbrev pub MayFollowLibrary : LibraryTextFault → List ℕ → Type 0
-MayFollowLibrary (Problem fault) explanation = MayFollowProblem fault explanation
-MayFollowLibrary (Library fault) explanation = explanation ≡ []
+MayFollowLibrary fault explanation = explanation ≡ []

@@ -42,11 +42,8 @@ impl Explained for LibraryTextFault {
         format!(in alloc; "{self}")
     }
 
-    // A library's lines aren't those that explanations of a certificate count.
+    // Explanations look at a text as a whole, of which the problem is one line.
     fn trouble(&self) -> Option<Trouble> {
-        match self {
-            LibraryTextFault::Problem(fault) => fault.trouble(),
-            LibraryTextFault::Library(_) => None,
-        }
+        None
     }
 }

@@ -4,7 +4,7 @@ use crate::same::same;
 use std::test::Fail;
 
 // Words, an input, and the status and the answer.
-static RUNS: [(&str, &str, u8, &str); 11] = [
+static RUNS: [(&str, &str, u8, &str); 12] = [
     (
         "check --collection",
         "",
@@ -70,6 +70,13 @@ static RUNS: [(&str, &str, u8, &str); 11] = [
         "1 mate G*5b\ncertificate 1 mate 1\nproblem 4k4/9/4P4/9/9/9/9/9/9 b G\n1 G*5b 4k4/9/4P4/9/9/9/9/9/9 b G\nend\n2 nomate\ncertificate 1 escape 3\nproblem 4k4/9/4P4/9/9/9/9/9/9 b P\n4k4/9/4P4/9/9/9/9/9/9 b P\n9/9/4k4/9/9/9/9/9/9 b 2p\n9/4k4/9/9/9/9/9/9/9 b Pp\nend\n3 mate G*5b\ncertificate 1 mate 1\nproblem 4k4/9/4P4/9/9/9/9/9/9 b G\n1 G*5b 4k4/9/4P4/9/9/9/9/9/9 b G\n",
         3,
         "1 accepted mate 1\n2 fault not rising 3\n3 fault no end\ncertificates 3 accepted 1 refused 0 fault 2\n",
+    ),
+    // What `solve` prints for one problem has a line in front, which isn't the certificate's.
+    (
+        "check --collection",
+        "1 mate G*5b\ncheckmate G*5b\ncertificate 1 mate 1\nproblem 4k4/9/4P4/9/9/9/9/9/9 b G\n1 G*5b 4k4/9/4P4/9/9/9/9/9/9 b G\nend\n",
+        3,
+        "1 fault bad head\ncertificates 1 accepted 0 refused 0 fault 1\n",
     ),
 ];
 

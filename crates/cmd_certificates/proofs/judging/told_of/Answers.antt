@@ -10,6 +10,7 @@ pub returns-then-not-claims : goal.returns-then-not-claims
 returns-then-not-claims g c =
     inr (record {
       certificate = c.in-Ok.certificate;
+      bare = c.is_bare.ensures.0 c.if-not-is_bare.false;
       text = record { read = c.in-Ok.ensures.exact; only = λ d readable is. sym (c.in-Ok.ensures.again d readable is) };
       another = λ same. let yes = c.claims.ensures.1 same in absurd (cc);
       is_head = refl;
@@ -20,6 +21,7 @@ returns g c =
     let line : ToldView = seen c.args.line.now in
     IfOk-weaker c.own_judgement.result _ _
     (λ told is. own_told line c.in-Ok.certificate told (record {
+      bare = c.is_bare.ensures.0 c.if-not-is_bare.false;
       text = record { read = c.in-Ok.ensures.exact; only = λ d readable is. sym (c.in-Ok.ensures.again d readable is) };
       told = c.claims.ensures.0 c.if-not-claims.false;
     }) is) c.own_judgement.ensures
