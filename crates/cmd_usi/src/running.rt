@@ -63,10 +63,10 @@ pub fn usi<R: Threads + Wait + AllocGlobal + Sync, S: Source, K: Sink, G: Gate, 
     // each with a certificate that is valid for it and accepted, which the reply keeps.
     ensures replies { All Shows result.replies.items }
 
-    // In full: the lines of the input were served one after the other, each before the next was
-    // taken, by what the session does at them; what was written is what it said and the answers to
-    // the problems, in their order, and each problem has one reply, which is true of it. Where the
-    // session wasn't over, that holds of the lines before it ended, and the reason has its cause.
+    // In full: the lines of the input were served one after the other, by what the session does at
+    // them; what was written is what it said and the answers to the problems, in their order, and
+    // each problem has one reply, which is true of it. Where the session wasn't over, that holds of
+    // lines before it ended, and the reason has its cause. (No clause orders a read and a write.)
     ensures talked { IsTalked (shown S.left S.faults source.old source.new)
         (shown K.kept K.faults sink.old sink.new)
         (signals T.signal stops.old.items stops.new.items) result }

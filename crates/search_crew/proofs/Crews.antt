@@ -1,5 +1,5 @@
 -- Lists of workers with their ports, and what their seats tell together.
-use Rattle.std.proofs.Common.{◌≡◌, ◌<◌, ◌+◌, ℕ, zero, suc, List, [], ◌∷◌, ◌++◌, length, refl, sym, ap, ◌∙◌, subst, arith, append_assoc, Bool, true, false}
+use Rattle.std.proofs.Common.{◌≤◌, ◌≡◌, ◌<◌, ◌+◌, ℕ, zero, suc, List, [], ◌∷◌, ◌++◌, length, refl, sym, ap, ◌∙◌, subst, arith, append_assoc, Bool, true, false}
 use Rattle.std.specs.Prelude.{Option, Some, All, IfSome, IsTrue, map, take, drop, reverse, sum_by, slice_get, slice_index_or, ◌||◌}
 use Rattle.std.proofs.lemmas.List.{length-append, map_push, reverse-append, reverse-reverse}
 use Rattle.std.proofs.lemmas.List.Elements.{All-nil, All-cons}
@@ -13,7 +13,7 @@ use Rattle.visit_log.specs.declared.words.WorkEnd.TheVariants.{Posted, Spent, No
 use Rattle.visit_log.specs.Run.{WorkerView}
 use Rattle.search_limits.specs.Sizes.{SettingsView}
 use Rattle.unit_desk.specs.Desk.{IsAnswerTo}
-use Rattle.word_desk.specs.WordDesk.{WordDeskView, DeskSeatView, joined, Ends}
+use Rattle.word_desk.specs.WordDesk.{IsSeat, WordDeskView, DeskSeatView, joined, Ends}
 use Rattle.search_crew.specs.End.{HaveSearched, EndedSo, EndedOtherwise, OneEnded, NoneEnded, IsFirstEnded}
 use Rattle.search_crew.specs.Inside.{LaneView, Shared, IsFresh, AreFresh, IsDone, HasWorked, AreDone, IsAtRest, joined_all, CrewTells, ClosesCrew}
 
@@ -210,13 +210,18 @@ map_reverse f (x ∷ xs) =
 pub turned_twice : {A B : Type 0} (f : A → B) (xs ys : List A) → ys ≡ reverse xs → reverse (map f ys) ≡ map f xs
 turned_twice f xs ys is = ap (λ l. reverse (map f l)) is ∙ (ap reverse (map_reverse f xs) ∙ reverse-reverse (map f xs))
 
+within : {many sum most its : ℕ} → many ≡ sum → its ≡ most → many ≤ its → sum ≤ most
+within {many} {sum} {most} {its} one two low = subst (λ (n : ℕ). n ≤ most) one (subst (λ (n : ℕ). many ≤ n) two low)
+
 -- The close of a crew's desk.
 pub closes : (s : SettingsView) (shared : Shared) (before after : List Signal) (crew : List WorkerView) (seat : DeskSeatView) (drawn claimed : ℕ) (note : Option Derivation)
-    → CrewTells shared before after crew seat → Ends seat drawn claimed note → shared.desk.position ≡ shared.problem → shared.desk.expansions ≡ s.expansions
+    → IsSeat seat → CrewTells shared before after crew seat → Ends seat drawn claimed note → shared.desk.position ≡ shared.problem → shared.desk.expansions ≡ s.expansions
     → shared.desk.room ≡ s.room → ClosesCrew s shared.problem crew note
-closes s shared before after crew seat drawn claimed note tells ends at expansions room = record {
+closes s shared before after crew seat drawn claimed note kept tells ends at expansions room = record {
   answer = subst (λ (b : Board). IfSome note (IsAnswerTo b)) (ap (λ (d : WordDeskView). d.position) tells.desk ∙ at) ends.answer;
   posted = λ o. ends.met (subst IsTrue (sym (tells.posted o)) refl);
+  visits = within tells.visits (ap (λ (d : WordDeskView). d.expansions) tells.desk ∙ expansions) kept.visits;
+  claims = within tells.claims (ap (λ (d : WordDeskView). d.room) tells.desk ∙ room) kept.claims;
   spent = λ none o. sym tells.visits ∙ (sym ends.drawn ∙ (ends.all_drawn none (tells.spent o) ∙ (ap (λ (d : WordDeskView). d.expansions) tells.desk ∙ expansions)));
   full = λ o. sym tells.claims ∙ (sym ends.claimed ∙ (ends.all_claimed (tells.full o) ∙ (ap (λ (d : WordDeskView). d.room) tells.desk ∙ room)));
 }

@@ -15,7 +15,7 @@ use Rattle.visit_log.specs.Run.{WorkerView, IsReached}
 use Rattle.visit_log.specs.Sound.{IsAnswer}
 use Rattle.visit_log.specs.Visit.{Exchange, IsVisitLog}
 use Rattle.notes.specs.Derivation.{Derivation}
-use Rattle.unit_desk.specs.Known.{ReachesAt}
+use Rattle.unit_desk.specs.Known.{ReachesAt, IsFirstSaid}
 use Rattle.search_pool.specs.End.{IsAloneUntil, IsUntilWith, IsSolved, HeedsStop, polls_after}
 use Rattle.search_pool.specs.declared.end.SearchEnd.{SearchEnd}
 use Rattle.search_pool.specs.declared.end.SearchEnd.TheVariants.{Solved, Unknown}
@@ -93,13 +93,23 @@ GaveUpFor s crew (Entries number) = ⊥
 
 -- 3. THE SEARCH.
 
+-- These are the workers of a search with the settings, as many as these say: each has searched the
+-- problem, with the stop at its place, and together they had no more visits and no more room than
+-- the settings allow.
+pub record IsCrewOf (problem : Board) (s : SettingsView) (before after : List Signal) (crew : List WorkerView) : Type 0 where
+  pub number : length crew ≡ s.workers
+  pub searched : HaveSearched problem 1 before after crew
+  pub visits : sum_by (λ worker. worker.state.visits) crew ≤ s.expansions
+  pub claims : sum_by (λ worker. worker.state.claims) crew ≤ s.room
+
 -- How a search by several workers ended. With a note: it answers the problem, that is, it is valid,
--- holds on every path, is about the problem's position and for its attacker. Without one: with all
--- its workers as they ended, none of them with a posted note, and the cause why they gave up.
+-- holds on every path, is about the problem's position and for its attacker; and such workers have
+-- searched. Without one: with all its workers as they ended, none of them with a posted note, and
+-- the cause why they gave up.
 abbrev pub IsCrewEnd : Board → SettingsView → List Signal → List Signal → SearchEnd → Type 0
-IsCrewEnd problem s before after (Solved note) = IsAnswer (task_for problem 1) note
-IsCrewEnd problem s before after (Unknown cause crew) =
-    (length crew ≡ s.workers) × HaveSearched problem 1 before after crew × NoneEnded Posted crew × GaveUpFor s crew cause
+IsCrewEnd problem s before after (Solved note) =
+    IsAnswer (task_for problem 1) note × ((crew : List WorkerView) × IsCrewOf problem s before after crew)
+IsCrewEnd problem s before after (Unknown cause crew) = IsCrewOf problem s before after crew × NoneEnded Posted crew × GaveUpFor s crew cause
 
 -- What the first stop tells.
 abbrev pub FirstHeeded : (Signal → Signal → Type 0) → List Signal → List Signal → Type 0
@@ -120,9 +130,11 @@ NoneReaches problem notes = (place : ℕ) → ¬ ReachesAt problem notes place
 
 -- How a search with these settings ended in which these notes were known before anybody searched:
 -- with one worker as the search of one worker does in which they are, which heeds its stop unless a
--- note reaches the problem; with more as a crew does; and solved, where a note reaches the problem.
+-- note reaches the problem; with more as a crew does, where none reaches it, and else with what the
+-- first of them says, while nobody searched; and solved, where a note reaches the problem.
 pub record IsSearchEndWith (notes : List Derivation) (problem : Board) (s : SettingsView) (before after : List Signal) (end : SearchEnd) : Type 0 where
   pub alone : s.workers ≡ 1
       → FirstHeeded (λ old new. IsUntilWith notes problem s old new end × (NoneReaches problem notes → HeedsStop old new end)) before after
-  pub crew : 2 ≤ s.workers → IsCrewEnd problem s before after end
+  pub crew : 2 ≤ s.workers → NoneReaches problem notes → IsCrewEnd problem s before after end
+  pub known : 2 ≤ s.workers → (said : Derivation) → IsFirstSaid problem notes (Some said) → (end ≡ Solved said) × (after ≡ before)
   pub solved : (place : ℕ) → ReachesAt problem notes place → IsSolved end

@@ -1,5 +1,5 @@
 -- What the private functions of this crate say of one another; no public clause cites these.
-use Rattle.std.specs.Prelude.{◌≡◌, ◌<◌, ℕ, suc, Option, None, true, List, [], ◌∷◌, IfSome, IsSome, IsNone, length, sum_by}
+use Rattle.std.specs.Prelude.{◌≤◌, ◌≡◌, ◌<◌, ℕ, suc, Option, None, true, List, [], ◌∷◌, IfSome, IsSome, IsNone, length, sum_by}
 use Rattle.atomic_table.specs.Seated.{TableId}
 use Rattle.board_core.specs.Board.{Board}
 use Rattle.notes.specs.Derivation.{Derivation}
@@ -107,10 +107,13 @@ pub record CrewTells (shared : Shared) (before after : List Signal) (crew : List
   pub posted : OneEnded Posted crew → seat.met ≡ true
 
 -- What the close of its desk tells of a crew, with the note that was posted first: it answers the
--- problem; it is there where a worker ended with one; where there is none and a worker had no visit
--- any more, all are drawn; and where one had no room, all is claimed.
+-- problem; it is there where a worker ended with one; no more is drawn and claimed than may be;
+-- where there is none and a worker had no visit any more, all are drawn; and where one had no room,
+-- all is claimed.
 pub record ClosesCrew (s : SettingsView) (problem : Board) (crew : List WorkerView) (note : Option Derivation) : Type 0 where
   pub answer : IfSome note (IsAnswerTo problem)
   pub posted : OneEnded Posted crew → IsSome note
+  pub visits : sum_by (λ worker. worker.state.visits) crew ≤ s.expansions
+  pub claims : sum_by (λ worker. worker.state.claims) crew ≤ s.room
   pub spent : IsNone note → OneEnded Spent crew → sum_by (λ worker. worker.state.visits) crew ≡ s.expansions
   pub full : OneEnded NoRoom crew → sum_by (λ worker. worker.state.claims) crew ≡ s.room

@@ -323,6 +323,8 @@ impl<J: Job + Send + Sync, K: Job + Send + Sync> Kept<J, K> {
             wait: rt,
         };
         let crew = work_crew(alloc, &ground, &mut seat, &mut desk_seat, stops)?;
+        // No more was drawn and claimed than may be.
+        desk_seat.laws();
         let end = outcome(settings, crew, desk.close(desk_seat))?;
         Ok((end, Kept { table, seat }))
     }

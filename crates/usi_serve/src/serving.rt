@@ -134,9 +134,9 @@ fn serve_act<R: Threads + Wait + AllocGlobal + Sync, K: Sink, G: Gate, T: Stop +
 
 /// Serves a line of a session, which comes without its line feed: the session takes it, what it
 /// says is written to the sink, and a problem that it is asked to have solved is solved with its
-/// options and its time, and the USI answer written, before anything else is done. The stops are
-/// armed for such a problem alone, once each, for its time or for none, and polled by the workers
-/// of its search; the gate is passed for each visit of a position, as the worker that visits it (no
+/// options and its time, and the USI answer written. (No clause orders these.) The stops are armed
+/// for such a problem alone, once each, for its time or for none, and polled by the workers of its
+/// search; the gate is passed for each visit of a position, as the worker that visits it (no
 /// clause says it). Errors: a sink that failed, which has kept a part of the line's text; want of
 /// memory: then the session is as it was, and nothing is written. (USI protocol: `usi`, `isready`,
 /// `setoption`, `position`, `go mate`, `quit`.)

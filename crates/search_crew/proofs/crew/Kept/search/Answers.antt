@@ -14,7 +14,7 @@ outcome-requires-clause-closes g c =
     let its : Shared = record { problem = c.args.problem.now.position; words = c.args.self.table.words; desk = c.in_ok-desk.desk } in (
       c.args.problem.now.position,
       closes (settings_in c.args.settings.now) its (map g.T.Stop.signal c.args.stops.now.items) (map g.T.Stop.signal c.work_crew.new.stops.items) c.in_ok-crew.crew.items
-          c.work_crew.new.desk_seat c.close.result.drawn c.close.result.claimed c.close.result.note c.in_ok-crew.ensures.tells c.close.ensures
+          c.work_crew.new.desk_seat c.close.result.drawn c.close.result.claimed c.close.result.note c.laws.ensures c.in_ok-crew.ensures.tells c.close.ensures
           c.in_ok-desk.ensures.position c.in_ok-desk.ensures.expansions c.in_ok-desk.ensures.room,
     )
 
@@ -30,5 +30,5 @@ returns-clause-end g c =
     of_ok (IsCrewEnd c.args.problem.now.position (settings_in c.args.settings.now) before after) c.outcome.result c.in_ok-end.end c.in_ok-end.was
     (c.outcome.ensures c.args.problem.now.position before after c.in_ok-crew.ensures.tells.searched
     (closes (settings_in c.args.settings.now) its before after c.in_ok-crew.crew.items
-    c.work_crew.new.desk_seat c.close.result.drawn c.close.result.claimed c.close.result.note c.in_ok-crew.ensures.tells c.close.ensures
+    c.work_crew.new.desk_seat c.close.result.drawn c.close.result.claimed c.close.result.note c.laws.ensures c.in_ok-crew.ensures.tells c.close.ensures
     c.in_ok-desk.ensures.position c.in_ok-desk.ensures.expansions c.in_ok-desk.ensures.room))
