@@ -136,8 +136,8 @@ impl InputLines {
     }
 
     /// The next line, without its line feed; none where the input is over. It has come whole then.
-    /// (No more is read than the piece that ended it; no clause says it.) Errors: a failed source; a
-    /// line of more than [`MOST_LINE_BYTES`], or one whose end isn't among the first
+    /// (No more is read than the piece that ended it; no clause says it.) Errors: a failed source;
+    /// a line of more than [`MOST_LINE_BYTES`], or one whose end isn't among the first
     /// [`MOST_INPUT_BYTES`] of the input; want of memory. Behind an error nothing is to be asked.
     #[tactic(auto, using(crate::proofs::Taken::one_more, crate::proofs::Taken::whole_line, crate::proofs::Taken::last_line, crate::proofs::Taken::long_line, crate::proofs::Taken::long_input))]
     pub fn next<S: Source>(
