@@ -27,7 +27,8 @@ AttacksOver occupied cells side from to =
 abbrev pub AttacksWithout : List (Option Piece) → Side → ℕ → ℕ → ℕ → Type 0
 AttacksWithout cells side lifted from to = AttacksOver (is_occupied_without cells lifted) cells side from to
 
--- Once what stands on a square is lifted, some piece of the side reaches the square `to`.
+-- Once what stands on a square is lifted, some piece of the side, the lifted one too, reaches the
+-- square `to`.
 abbrev pub IsAttackedWithout : List (Option Piece) → Side → ℕ → ℕ → Type 0
 IsAttackedWithout cells side lifted to = (from : ℕ) × (from < 81) × AttacksWithout cells side lifted from to
 

@@ -21,7 +21,7 @@ use Rattle.list_laws.proofs.MoveLists.{Before, lists_one, first_or_rest}
 use Rattle.list_laws.proofs.Counted.{AreBefore, square_of}
 use Rattle.list_laws.proofs.Adding.{lists_nothing}
 use Rattle.list_laws.proofs.Totals.{counted}
-use Rattle.evasions.specs.Answers.{is_on_board, is_drop_on, answers_of}
+use Rattle.start_def.specs.Answers.{is_on_board, is_drop_on, answers_of}
 use Rattle.evasions.specs.Before.{IsDropSquare, AreDropSquares}
 use Rattle.evasions.proofs.Evading.{Evasion, no_king_drop}
 

@@ -1,4 +1,2 @@
--- What the list of evasions is made of, and how they are counted. The tsume rule: the defender may
--- make any legal move.
-pub mod Answers
+-- What the list of evasions is made of. The tsume rule: the defender may make any legal move.
 pub mod Before

@@ -5,7 +5,7 @@ ghost use Rattle.board_core.specs.Order.{Lists};
 ghost use Rattle.shogi_rules.specs.Rules.{IsQuiet};
 ghost use Rattle.shogi_rules.specs.Tsume.{IsEvasion};
 ghost use Rattle.legal_moves.specs.Legal.{IsGuardOf};
-ghost use Rattle.evasions.specs.Answers.{answers_of};
+ghost use Rattle.start_def.specs.Answers.{answers_of};
 ghost use Rattle.evasions.specs.Before.{AreEvasionsBefore, AreDropSquares};
 
 use bit_boards::Mask;

@@ -18,7 +18,7 @@ use Rattle.list_laws.proofs.MoveLists.{Before, lists_none, lists_more, lists_pas
 use Rattle.shogi_rules.specs.Rules.{AttacksFrom, after}
 use Rattle.shogi_rules.specs.Tsume.{IsCheck, IsEvasion}
 use Rattle.pn_numbers.specs.declared.numbers.Numbers.{Numbers}
-use Rattle.start_numbers.specs.Start.{IsStartOfCheck, IsStartOfEvasion, destination}
+use Rattle.start_def.specs.Start.{IsStartOfCheck, IsStartOfEvasion, destination}
 use Rattle.visit_log.specs.Round.{IsStart}
 
 -- 1. THAT THERE IS A LIST, AND A SET, CAN'T BE DENIED.

@@ -6,9 +6,9 @@ use Rattle.std.proofs.lemmas.List.Sums.{sum_by-cons, sum_by_more_le}
 use Rattle.std.proofs.lemmas.List.FromFn.{length-range_with_len, get_or-range_with_len}
 use Rattle.board_core.specs.declared.moves.Move.{Move}
 use Rattle.board_core.specs.declared.moves.Move.TheVariants as moves
-use Rattle.evasions.specs.Answers.{is_on_board, is_drop_on, answers_of}
+use Rattle.start_def.specs.Answers.{is_on_board, is_drop_on, answers_of}
 use Rattle.pn_numbers.specs.declared.numbers.Numbers.{Numbers}
-use Rattle.start_numbers.specs.Start.{proof_after_check, disproof_after_check, start_of_check}
+use Rattle.start_def.specs.Start.{proof_after_check, disproof_after_check, start_of_check}
 
 -- a square that passes is counted
 counted : (p : ℕ → Bool) (square : ℕ) → square < 81 → p square ≡ true → 1 ≤ count_by p (range_with_len 0 81)

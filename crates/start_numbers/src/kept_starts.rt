@@ -3,7 +3,7 @@ ghost use Rattle.std.specs.Prelude.{◌≡◌, ◌↔◌, IfSome, IsTrue};
 ghost use Rattle.bit_boards.specs.declared.piece.Side.{Side};
 ghost use Rattle.board_core.specs.Key.{key_of};
 ghost use Rattle.shogi_rules.specs.Rules.{IsQuiet, IsLegal};
-ghost use Rattle.start_numbers.specs.Start.{IsStartOf, IsStartBehind};
+ghost use Rattle.start_def.specs.Start.{IsStartOf, IsStartBehind};
 
 use crate::starting::start;
 use board_core::{Key, Move, Position, Side};

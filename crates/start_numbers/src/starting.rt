@@ -10,7 +10,7 @@ ghost use Rattle.board_core.specs.Order.{Lists};
 ghost use Rattle.shogi_rules.specs.Rules.{IsQuiet, IsLegal, after};
 ghost use Rattle.shogi_rules.specs.Tsume.{IsCheck, IsEvasion};
 ghost use Rattle.pn_numbers.specs.Numbers.{IsOpen};
-ghost use Rattle.start_numbers.specs.Start.{destination, drops_of, AreReaching, proof_after_check, disproof_after_check, IsStartOfCheck, IsStartOfEvasion};
+ghost use Rattle.start_def.specs.Start.{destination, drops_of, AreReaching, proof_after_check, disproof_after_check, IsStartOfCheck, IsStartOfEvasion};
 
 use attack_lines::count_attackers;
 use board_core::{Move, Position, Side, Square};

@@ -1,4 +1,4 @@
--- Frames may cross threads.
+-- Frames, and the start numbers that are kept, may cross threads.
 use denote.Param.Send.{IsSend, sendable}
 use Rattle.std.proofs.Crossing.{crosses}
 use Rattle.notes.proofs.note.Note.TheLaws.TheKnot as knot
@@ -16,6 +16,8 @@ use Rattle.pn_numbers.proofs.selecting.Child.TheSendSync as of_child_pn
 use Rattle.visit_log.proofs.parts.Entry.TheSendSync as of_entry_visit
 use Rattle.visit_log.proofs.parts.Look.TheSendSync as of_look
 use Rattle.path_tags.proofs.tag.Tag.TheSendSync as of_tag
+use Rattle.start_numbers.proofs.kept_starts.Slot.TheSendSync as of_slot
+use Rattle.start_numbers.specs.contracts.kept_starts.Starts as starts
 use Rattle.visit_frame.specs.contracts.frame.Frame as frame
 use Rattle.notes.proofs.Offered.{note_send}
 
@@ -23,3 +25,8 @@ ruleset parts = (of_kind.the_send, of_kind.the_field_send, of_side.the_send, of_
 
 pub frame_send : IsSend frame.the_row
 frame_send = search (note_send, parts) depth 60 fits 20000
+
+ruleset slots = (of_kind.the_send, of_kind.the_field_send, of_side.the_send, of_side.the_field_send, of_square.the_send, of_square.the_field_send, of_code.the_send, of_code.the_field_send, of_key.the_send, of_key.the_field_send, of_move.the_send, of_move.the_field_send, of_numbers.the_send, of_numbers.the_field_send, of_slot.the_send, of_slot.the_field_send, crosses, sendable)
+
+pub starts_send : IsSend starts.the_row
+starts_send = search (slots) depth 60 fits 20000

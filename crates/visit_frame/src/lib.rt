@@ -20,3 +20,4 @@ mod reckoning;
 mod telling;
 
 pub use frame::Frame;
+pub use start_numbers::Starts;

@@ -17,7 +17,7 @@ use Rattle.pn_numbers.specs.declared.numbers.Numbers.{Numbers}
 use Rattle.pn_numbers.specs.Numbers.{IsOpen}
 use Rattle.pn_numbers.specs.Selection.{IsSelected}
 use Rattle.pn_numbers.specs.Thresholds.{thresholds_of}
-use Rattle.start_numbers.specs.Start.{IsStartOfCheck, IsStartOfEvasion}
+use Rattle.start_def.specs.Start.{IsStartOfCheck, IsStartOfEvasion}
 use Rattle.notes.specs.Derivation.{Derivation, attacker_of, position_of, tag_of, rule_of, under_of, highest, carried}
 use Rattle.notes.specs.Valid.{IsValid}
 use Rattle.notes.specs.Lending.{IsLentTo}

@@ -18,10 +18,9 @@ use notes::{Kept, Note, NoteEnd, Seen};
 use path_tags::Path;
 use pn_numbers::Numbers;
 use shogi_rules::{Problem, apply};
-use start_numbers::Starts;
 use std::alloc::{AllocError, Global};
 use std::marker::Model;
-use visit_frame::Frame;
+use visit_frame::{Frame, Starts};
 use visit_log::{Entry, Left, Stage};
 
 // The visits, the innermost last, with the keys of the attacker's positions among them, and what

@@ -12,9 +12,8 @@ ghost use Rattle.worker_core.specs.Stack.{top_of, HasTop, ChangesTop};
 use notes::{Kept, Seen};
 use path_tags::Path;
 use shogi_rules::Problem;
-use start_numbers::Starts;
 use std::alloc::{AllocError, Global};
-use visit_frame::Frame;
+use visit_frame::{Frame, Starts};
 use visit_log::{Left, Stage};
 
 // The innermost visit, if there is one.

@@ -1,7 +1,7 @@
 use Rattle.std.proofs.Common.{sym, subst, ◌∙◌}
 use Rattle.board_laws.proofs.Keys.{position_exact}
 use Rattle.board_core.specs.Board.{Board}
-use Rattle.start_numbers.specs.Start.{IsStartOf}
+use Rattle.start_def.specs.Start.{IsStartOf}
 use Rattle.start_numbers.proofs.kept_starts.slot_of.Goals as goal
 
 pub invariant_of-result : goal.invariant_of-result

@@ -3,7 +3,7 @@ use Rattle.bit_boards.specs.Mask.{count}
 use Rattle.board_core.specs.Board.{Board, piece_at}
 use Rattle.board_core.specs.Order.{Lists}
 use Rattle.shogi_rules.specs.Tsume.{IsEvasion}
-use Rattle.evasions.specs.Answers.{answers_of}
+use Rattle.start_def.specs.Answers.{answers_of}
 use Rattle.start_numbers.proofs.Answering.{empty_where_none, none_where_empty, no_answer_where_one, one_where_no_answer, started}
 use Rattle.start_numbers.proofs.starting.start_of_check.Goals as goal
 

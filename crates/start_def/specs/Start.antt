@@ -1,4 +1,5 @@
--- The numbers of a position of which none are known, from the position before it and the move.
+-- The numbers of a position of which none are known, from the position before it and the move: what
+-- is likely to be hard begins larger (Nagai 2002).
 use Rattle.std.specs.Prelude.{◌≡◌, ◌<◌, ◌+◌, ◌*◌, ◌==◌, ◌↔◌, ℕ, List, [], length, Bool, nat_le, nat_lt, is_some, if◌then◌else◌}
 use Rattle.bit_boards.specs.declared.piece.Side.{Side}
 use Rattle.bit_boards.specs.declared.mask.Mask.{Mask}
@@ -13,7 +14,7 @@ use Rattle.board_core.specs.Key.{key_of}
 use Rattle.board_core.specs.Order.{Lists}
 use Rattle.shogi_rules.specs.Rules.{AttacksFrom, after}
 use Rattle.shogi_rules.specs.Tsume.{IsCheck, IsEvasion}
-use Rattle.evasions.specs.Answers.{answers_of}
+use Rattle.start_def.specs.Answers.{answers_of}
 use Rattle.pn_numbers.specs.declared.numbers.Numbers.{Numbers}
 use Rattle.pn_numbers.specs.Numbers.{IsOpen}
 
