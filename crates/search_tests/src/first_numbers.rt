@@ -35,8 +35,8 @@ fn started(
     let own = key(position);
     Ok([
         start(problem, position, by),
-        starts.start(alloc, problem, position, &own, by),
-        starts.start(alloc, problem, position, &own, by),
+        starts.start(alloc, problem, position, &own, 0, by),
+        starts.start(alloc, problem, position, &own, 0, by),
     ])
 }
 

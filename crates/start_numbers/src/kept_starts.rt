@@ -44,7 +44,8 @@ impl Slot {
 
 /// What start numbers were reckoned last, so that they are told again at once. It has at most
 /// 16,384 slots of 88 bytes, and a move at a position has one of them, which it takes from what
-/// stood there before: so what is told never depends on what is kept, and only its time does.
+/// stood there before: so what is told never depends on what is kept, and only its time does. The
+/// moves of one position stand side by side, by their place in its list.
 #[derive(Drop)]
 pub struct Starts {
     slots: Vec<Option<Slot>>,
@@ -63,14 +64,15 @@ impl Starts {
     }
 
     /// The numbers with which the position after a move begins, as [`start`] reckons them, from
-    /// the position before it, its key, and the move. Takes memory for slots now and then, and does
-    /// without where there is none.
+    /// the position before it, its key, and the move, whose slot stands at that place among the
+    /// position's. Takes memory for slots now and then, and does without where there is none.
     pub fn start(
         &mut self,
         alloc: Global,
         problem: &Problem,
         position: &Position,
         key: &Key,
+        place: usize,
         by: Move,
     ) -> Numbers
         requires quiet { IsQuiet position.now }
@@ -80,21 +82,21 @@ impl Starts {
     {
         position.laws();
         let attacker = problem.attacker();
-        let mixed = mixed(key, by);
-        if let Some(numbers) = self.found(mixed, attacker, key, by) {
+        let number = first_of(key).wrapping_add(place);
+        if let Some(numbers) = self.found(number, attacker, key, by) {
             return numbers;
         }
         let numbers = start(problem, position, by);
         self.make_room(alloc);
-        self.put(mixed, slot_of(attacker, position, key, by, numbers));
+        self.put(number, slot_of(attacker, position, key, by, numbers));
         numbers
     }
 
     // The numbers that are kept of this move at the position of this key, for this attacker.
-    fn found(&self, mixed: usize, attacker: Side, key: &Key, by: Move) -> Option<Numbers>
+    fn found(&self, number: usize, attacker: Side, key: &Key, by: Move) -> Option<Numbers>
         ensures { IfSome result (λ numbers. IsStartBehind attacker key.now by numbers) }
     {
-        match self.slots.get(self.place_of(mixed)) {
+        match self.slots.get(self.place_of(number)) {
             Some(Some(slot)) if slot.attacker == attacker && slot.is_of(key, by) => Some(
                 slot.numbers,
             ),
@@ -102,9 +104,9 @@ impl Starts {
         }
     }
 
-    // Where a move at a position has its slot, if there are any.
-    fn place_of(&self, mixed: usize) -> usize {
-        mixed & self.slots.len().wrapping_sub(1)
+    // Where the slot of a number stands, if there are any.
+    fn place_of(&self, number: usize) -> usize {
+        number & self.slots.len().wrapping_sub(1)
     }
 
     // One more was reckoned: now and then there are four times as many slots after it, and all of
@@ -125,8 +127,8 @@ impl Starts {
     }
 
     // The slot is kept, if there are any.
-    fn put(&mut self, mixed: usize, slot: Slot) {
-        let place = self.place_of(mixed);
+    fn put(&mut self, number: usize, slot: Slot) {
+        let place = self.place_of(number);
         if let Some(old) = self.slots.get_mut(place) {
             *old = Some(slot);
         }
@@ -149,21 +151,11 @@ fn slot_of(attacker: Side, position: &Position, key: &Key, by: Move, numbers: Nu
     }
 }
 
-// A number of a key and a move, in whose low bits all of theirs are mixed.
-fn mixed(key: &Key, by: Move) -> usize {
-    let mut mixed = number_of(by);
+// The number of the first slot of a position's moves: all of its key is mixed in its low bits.
+fn first_of(key: &Key) -> usize {
+    let mut mixed = 0u64;
     for word in key.0.iter() {
         mixed = (mixed.rotate_left(23) ^ *word).wrapping_mul(MULTIPLIER);
     }
     (mixed ^ (mixed >> 32)) as usize
-}
-
-// A number of a move, which no other move has.
-fn number_of(by: Move) -> u64 {
-    match by {
-        Move::Board { from, to, promote } => {
-            u64::from(promote) << 14 | u64::from(from.number) << 7 | u64::from(to.number)
-        }
-        Move::Drop { kind, to } => 1 << 15 | u64::from(kind.place()) << 7 | u64::from(to.number),
-    }
 }

@@ -50,7 +50,8 @@ pub(crate) fn tell(
     let position = here.position;
     match seen {
         Seen::New => {
-            let numbers = starts.start(alloc, problem, position, here.key, children[place].by);
+            let by = children[place].by;
+            let numbers = starts.start(alloc, problem, position, here.key, place, by);
             show(children, place, numbers, 0);
             Ok(())
         }
