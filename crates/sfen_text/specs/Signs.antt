@@ -57,21 +57,29 @@ reading_place square = 9 * (square % 9) + (8 - square / 9)
 unfoldable pub cells_of : List (Option Piece) → List (Option Piece)
 cells_of read = map (λ square. piece_at read (reading_place square)) (range_with_len 0 81)
 
+-- The number of the square at a place in that order.
+abbrev pub square_read : ℕ → ℕ
+square_read place = 9 * (8 - place % 9) + place / 9
+
+-- What stands on the squares in that order, from the cells by the number of the square.
+unfoldable pub in_order : List (Option Piece) → List (Option Piece)
+in_order cells = map (λ place. piece_at cells (square_read place)) (range_with_len 0 81)
+
 -- How many squares are read, where so many are still to come.
 abbrev pub read_count : Filling → ℕ
 read_count filling = 81 - 9 * filling.further_rows - filling.left
 
--- The squares that are read.
+-- What stands on the squares that are read, in the order of reading.
 abbrev pub filled_squares : Filling → List (Option Piece)
-filled_squares filling = take (read_count filling) filling.read
+filled_squares filling = take (read_count filling) (in_order filling.cells)
 
 -- At most nine squares of a row and eight further rows are still to come, and nothing stands on
 -- them yet.
 pub record IsFilling (filling : Filling) : Type 0 where
-  pub size : length filling.read ≡ 81
+  pub size : length filling.cells ≡ 81
   pub further_rows : filling.further_rows ≤ 8
   pub left : filling.left ≤ 9
-  pub ahead : (place : ℕ) → read_count filling ≤ place → piece_at filling.read place ≡ None
+  pub ahead : (place : ℕ) → read_count filling ≤ place → piece_at (in_order filling.cells) place ≡ None
 
 -- One more sign was taken: what is behind it is read on from the new squares; or the fault is
 -- there, whatever is behind it.

@@ -1,6 +1,6 @@
 // The board field of a text.
-ghost use Rattle.std.specs.Prelude.{◌≡◌, [], ◌≤◌, ◌<◌, ◌+◌, ◌-◌, ◌*◌, ◌^◌, ℕ, length, drop};
-ghost use Rattle.sfen_text.specs.Signs.{sign_of_piece, plain_sign, sign, signs, squares, cells_of, IsFilling, filled_squares, IsSignTaken};
+ghost use Rattle.std.specs.Prelude.{◌≡◌, [], ◌≤◌, ◌<◌, ◌+◌, ◌-◌, ◌*◌, ◌^◌, ℕ, IfOk, length, drop};
+ghost use Rattle.sfen_text.specs.Signs.{sign_of_piece, plain_sign, sign, signs, squares, in_order, IsFilling, filled_squares, IsSignTaken};
 ghost use Rattle.sfen_text.specs.Reading.{Gives, cells_at};
 
 use crate::TextFault;
@@ -20,11 +20,11 @@ pub enum Sign {
     Broken,
 }
 
-// What was read so far: the squares in the order of reading, how many rows are still to come, and
+// What was read so far: the cells by the number of the square, how many rows are still to come, and
 // how many squares of this row.
 #[derive(Clone, Copy)]
 struct Filling {
-    read: [Option<Piece>; 81],
+    cells: [Option<Piece>; 81],
     further_rows: u8,
     left: u8,
 }
@@ -90,10 +90,10 @@ fn take_sign(filling: &mut Filling, found: Sign, at: usize) -> Result<(), TextFa
             if filling.left == 0 {
                 return Err(TextFault::BadRow(at));
             }
-            filling.read[81 - 9 * filling.further_rows as usize - filling.left as usize] = Some(
+            filling.left -= 1;
+            filling.cells[9 * filling.left as usize + (8 - filling.further_rows) as usize] = Some(
                 piece,
             );
-            filling.left -= 1;
         }
     }
     Ok(())
@@ -106,17 +106,18 @@ fn nothing_filled() -> Filling
     ensures left { result.left ≡ 9 }
 {
     Filling {
-        read: [None; 81],
+        cells: [None; 81],
         further_rows: 8,
         left: 9,
     }
 }
 
-#[tactic(auto, unfolding(crate::specs::Signs::signs, crate::specs::Signs::squares), using(crate::proofs::Filling::in_front_none))]
-// The squares of the board's field, in the order of reading.
+#[tactic(auto, unfolding(crate::specs::Signs::signs, crate::specs::Signs::squares), using(crate::proofs::Filling::in_front_none, crate::proofs::Filling::in_order_size))]
+// The cells of the board's field, which are read row by row.
 fn squares_of(text: &[u8], at: usize) -> Result<[Option<Piece>; 81], TextFault>
     requires { at + length text.now < 2 ^ 64 }
-    ensures { Gives (λ read. read) result (squares (at + length text.now) 8 9 (signs at text.now)) }
+    ensures size { IfOk result (λ cells. length cells ≡ 81) }
+    ensures read { Gives in_order result (squares (at + length text.now) 8 9 (signs at text.now)) }
 {
     let end = at + text.len();
     let mut filling = nothing_filled();
@@ -131,27 +132,14 @@ fn squares_of(text: &[u8], at: usize) -> Result<[Option<Piece>; 81], TextFault>
     if filling.further_rows > 0 || filling.left > 0 {
         return Err(TextFault::BadRow(end));
     }
-    Ok(filling.read)
+    Ok(filling.cells)
 }
 
-#[tactic(auto, unfolding(crate::specs::Signs::cells_of))]
-// The cells by the number of the square, from the squares in the order of reading.
-fn cells_of(read: &[Option<Piece>; 81]) -> [Option<Piece>; 81]
-    ensures { result ≡ cells_of read.now }
-{
-    let mut cells = [None; 81];
-    for square in 0..81 {
-        cells[square] = read[9 * (square % 9) + (8 - square / 9)];
-    }
-    cells
-}
-
-#[tactic(auto, unfolding(crate::specs::Reading::cells_at))]
+#[tactic(auto, unfolding(crate::specs::Reading::cells_at), using(crate::proofs::Filling::cells_read))]
 // The cells of the board's field, by the number of the square.
 pub fn board_of(text: &[u8], at: usize) -> Result<[Option<Piece>; 81], TextFault>
     requires { at + length text.now < 2 ^ 64 }
     ensures { Gives (λ cells. cells) result (cells_at at text.now) }
 {
-    let read = squares_of(text, at)?;
-    Ok(cells_of(&read))
+    squares_of(text, at)
 }
