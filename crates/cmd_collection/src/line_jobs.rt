@@ -1,5 +1,5 @@
 // The lines of a round, as jobs that are done side by side.
-ghost use Rattle.std.specs.Prelude.{◌<◌, IfOk, length};
+ghost use Rattle.std.specs.Prelude.{◌<◌, ◌≤◌, IfOk, length};
 ghost use Rattle.search_limits.specs.Settings.{settings_in};
 ghost use Rattle.side_by_side.specs.Answers.{AreAnswers};
 ghost use Rattle.cmd_collection.specs.Words.{collection_in};
@@ -10,7 +10,7 @@ use crate::{CollectionForm, Onlooker, Reported};
 use problem_lines::Line;
 use search_limits::Settings;
 use search_pool::Table;
-use side_by_side::{Jobs, Team};
+use side_by_side::{Jobs, Team, Until};
 use std::alloc::{AllocError, Global};
 use std::thread::Threads;
 
@@ -76,15 +76,19 @@ fn report_at<'a, O: Onlooker>(
     Ok(Reported { line, report })
 }
 
-/// The reports on these lines, which a team makes side by side. Errors: want of memory alone.
-pub(crate) fn reports_by<'a, R: Threads + Sync, O: Onlooker>(
+/// The reports on the first of these lines, which a team makes side by side: as many as were begun
+/// when it was over, and at least one where there are lines. Errors: want of memory alone.
+pub(crate) fn reports_by<'a, R: Threads + Sync, O: Onlooker, U: Until>(
     rt: &R,
     alloc: Global,
     team: &mut Team<Table, Reported<'a>>,
     deciding: &Deciding<'_, O>,
     lines: &[Line<'a>],
+    until: &U,
 ) -> Result<Vec<Reported<'a>>, AllocError>
-    ensures { IfOk result (λ all. AreAnswers (length lines.now)
+    ensures first { IfOk result (λ all. length all.items ≤ length lines.now) }
+    ensures some { IfOk result (λ all. 0 < length lines.now → 0 < length all.items) }
+    ensures reports { IfOk result (λ all. AreAnswers (length all.items)
         (IsReportedAt (settings_in deciding.now.settings.now)
         (collection_in deciding.now.form.now) lines.now) all.items) }
 {
@@ -100,5 +104,5 @@ pub(crate) fn reports_by<'a, R: Threads + Sync, O: Onlooker>(
                 (collection_in deciding.entry.now.form.now) lines.entry.now number) }
         { report_at(alloc, table, deciding, lines, number) },
     };
-    team.answers(rt, alloc, &jobs)
+    team.first_answers(rt, alloc, &jobs, until)
 }

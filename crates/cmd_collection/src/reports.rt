@@ -1,5 +1,5 @@
 // The reports on the lines of a collection, one after another.
-ghost use Rattle.std.specs.Prelude.{◌≡◌, ◌<◌, ◌++◌, [], IsTrue, All, IfOk, OnOk, MatchOption, length, map, vec_len};
+ghost use Rattle.std.specs.Prelude.{◌≡◌, ◌<◌, ◌++◌, [], IsTrue, All, IfOk, OnOk, MatchOption, drop, length, map, vec_len};
 ghost use Rattle.cmd_collection.specs.Words.{collection_in};
 ghost use Rattle.search_limits.specs.Settings.{settings_in};
 ghost use Rattle.problem_lines.specs.Lines.{problem_lines, seen};
@@ -26,9 +26,9 @@ pub struct Reported<'a> {
 }
 
 /// Goes over the lines of a collection that hold problems, and gives what is told of each. The
-/// problems of a stretch of lines are decided side by side by a team, each by a search of its own
-/// with one worker; how many there are in it, about as many as take a second, changes no report
-/// (by tests; no clause says it). Contracts see the settings, the form, and the lines that are
+/// problems of some lines are decided side by side by a team, each by a search of its own with one
+/// worker; how many there are, as many as were begun within a second, changes no report (by tests;
+/// no clause says it). Contracts see the settings, the form, and the lines that are
 /// still to come.
 #[derive(Drop)]
 pub struct Reports<'a> {
@@ -76,6 +76,15 @@ fn stretch<'a>(
     Ok(stretch)
 }
 
+// So many lines are no longer to come.
+fn skip(lines: &mut Lines<'_>, count: usize)
+    ensures { lines.new ≡ drop count lines.old }
+{
+    for _ in 0..count {
+        let _ = lines.next();
+    }
+}
+
 fn has_none(ahead: &VecDeque<Reported<'_>>) -> bool
     ensures none { IsTrue result → ahead.now.items ≡ [] }
     ensures some { ahead.now.items ≡ [] → IsTrue result }
@@ -83,7 +92,8 @@ fn has_none(ahead: &VecDeque<Reported<'_>>) -> bool
     ahead.is_empty()
 }
 
-// Has reports ahead where none are: those on the next lines, where there are any left.
+// Has reports ahead where none are: those on the next lines, where there are any left. What was
+// looked at of the lines and isn't told yet is still to come.
 fn refill<'a, R: Threads + Sync, O: Onlooker>(
     rt: &R,
     alloc: Global,
@@ -104,8 +114,10 @@ fn refill<'a, R: Threads + Sync, O: Onlooker>(
     if !has_none(ahead) {
         return Ok(());
     }
-    let stretch = stretch(alloc, lines, rounds.size())?;
+    let mut behind = lines.clone()?;
+    let stretch = stretch(alloc, &mut behind, rounds.most())?;
     *ahead = rounds.decided(rt, alloc, deciding, &stretch)?;
+    skip(lines, ahead.len());
     Ok(())
 }
 

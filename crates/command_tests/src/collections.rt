@@ -1,11 +1,12 @@
 // Collections whose reports are known, over any number of threads.
 use crate::lines::words_of;
 use crate::same::same;
-use cmd_collection::{Reports, append_report};
+use cmd_collection::{Onlooker, Report, Reports, append_report};
 use program_words::{Command, read_words};
 use search_gate::OpenGate;
 use std::alloc::{AllocError, Global};
 use std::sync::Wait;
+use std::sync::atomic::{AtomicU64, Ordering};
 use std::test::Fail;
 use std::thread::Threads;
 
@@ -17,11 +18,51 @@ const NONE: &str = "4k4/9/9/9/9/9/9/9/9 b -\r";
 
 const FAULT: &str = "4k4/9/4X4/9/9/9/9/9/9 b G";
 
+// One whose clock is 0.7 s later each time that it is asked, and who counts the rounds.
+#[derive(Drop)]
+struct Hurried {
+    passed: AtomicU64,
+    rounds: AtomicU64,
+}
+
+impl Hurried {
+    fn new() -> Hurried {
+        Hurried {
+            passed: AtomicU64::new(0),
+            rounds: AtomicU64::new(0),
+        }
+    }
+}
+
+impl Onlooker for Hurried {
+    fn now(&self) -> u64 {
+        self.passed.fetch_add(700, Ordering::SeqCst)
+    }
+
+    fn begin(&self, _lines: usize) {}
+
+    fn begin_round(&self) {
+        self.rounds.fetch_add(1, Ordering::SeqCst);
+    }
+
+    fn see(&self, _report: &Report) {}
+}
+
 // What is told of each line of a text, with the words of a command.
 fn told<R: Threads + Wait + AllocGlobal + Sync>(
     rt: &R,
     line: &str,
     text: &str,
+) -> Result<String, Fail> {
+    told_before(rt, line, text, &OpenGate)
+}
+
+// The same, where this one looks on.
+fn told_before<R: Threads + Wait + AllocGlobal + Sync, O: Onlooker>(
+    rt: &R,
+    line: &str,
+    text: &str,
+    onlooker: &O,
 ) -> Result<String, Fail> {
     let alloc = rt.alloc();
     let words = words_of(alloc, line)?;
@@ -31,7 +72,7 @@ fn told<R: Threads + Wait + AllocGlobal + Sync>(
     };
     if let Command::Collection(asked) = asked.command {
         let mut reports = Reports::new(rt, alloc, text.as_bytes(), &asked.settings, &asked.form)?;
-        while let Some(reported) = reports.next(rt, alloc, &OpenGate)? {
+        while let Some(reported) = reports.next(rt, alloc, onlooker)? {
             append_report(
                 &mut out,
                 reported.line.number,
@@ -67,13 +108,29 @@ fn turns(alloc: Global, count: usize, fault: usize) -> Result<(String, String), 
 
 #[test]
 fn any_number_of_threads_tells_the_same(rt: HostRuntime) -> Result<(), Fail> {
-    // More lines than there are in several rounds, each of twice as many as the one before.
+    // More lines than there are in a round of one or two threads.
     let (text, wanted) = turns(rt.alloc(), 70, 33)?;
     for threads in [" --threads 1", " --threads 2", " --threads 64", ""] {
         let line = format!(in rt.alloc(); "collection --rows 16 --room 100{threads}")?;
         let found = told(&rt, line.as_str(), text.as_str())?;
         same(&rt, line.as_str(), found.as_str(), wanted.as_str());
     }
+    Ok(())
+}
+
+#[test]
+fn a_round_that_the_clock_cuts_loses_no_line(rt: HostRuntime) -> Result<(), Fail> {
+    let (text, wanted) = turns(rt.alloc(), 9, 4)?;
+    let hurried = Hurried::new();
+    let line = "collection --rows 16 --threads 1 --progress";
+    let found = told_before(&rt, line, text.as_str(), &hurried)?;
+    same(&rt, line, found.as_str(), wanted.as_str());
+    same(
+        &rt,
+        "a line a round",
+        hurried.rounds.load(Ordering::SeqCst),
+        10,
+    );
     Ok(())
 }
 

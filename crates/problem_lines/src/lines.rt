@@ -12,7 +12,7 @@ use std::marker::Model;
 
 /// Goes over the lines of a text. Contracts see the lines that hold a problem and are still to
 /// come.
-#[derive(Drop)]
+#[derive(Clone, Drop)]
 pub struct Lines<'a> {
     rest: &'a [u8],
     // The number of the line with which the rest begins.

@@ -1,6 +1,6 @@
 // Jobs that a team does side by side.
 use crate::same::same;
-use side_by_side::{Jobs, Team};
+use side_by_side::{Jobs, Team, Until};
 use std::alloc::{AllocError, Global};
 use std::sync::atomic::{AtomicU64, Ordering};
 use std::test::Fail;
@@ -104,5 +104,47 @@ fn jobs_that_are_refused_twice_are_told_as_want_of_memory(rt: HostRuntime) -> Re
     same(&rt, "size", team.size(), 1);
     let answers = team.answers(&rt, rt.alloc(), &Numbers::new(9, u64::MAX));
     same(&rt, "refused", answers.is_err(), true);
+    Ok(())
+}
+
+// It is over once that was asked so many times.
+#[derive(Drop)]
+struct OverAfter {
+    times: u64,
+    asked: AtomicU64,
+}
+
+impl Until for OverAfter {
+    fn is_over(&self) -> bool {
+        self.asked.fetch_add(1, Ordering::SeqCst) >= self.times
+    }
+}
+
+#[test]
+fn no_further_job_is_taken_once_it_is_over(rt: HostRuntime) -> Result<(), Fail> {
+    for (most, count, refused, times, wanted) in [
+        (1, 9, 0, 0, 1),
+        (1, 9, 0, 1, 1),
+        (1, 9, 0, 3, 3),
+        (1, 9, 1, 3, 1),
+        (1, 9, 0, 100, 9),
+        (64, 9, 0, 5, 5),
+        (0, 9, 0, 5, 1),
+        (1, 0, 0, 5, 0),
+    ] {
+        let mut team = Team::new(&rt, rt.alloc(), most)?;
+        let until = OverAfter {
+            times,
+            asked: AtomicU64::new(0),
+        };
+        let jobs = Numbers::new(count, refused);
+        let answers = team.first_answers(&rt, rt.alloc(), &jobs, &until)?;
+        let in_order = answers
+            .iter()
+            .enumerate()
+            .all(|(place, answer)| place == *answer);
+        let row = (most, count, refused, times);
+        same(&rt, row, (answers.len(), in_order), (wanted, true));
+    }
     Ok(())
 }

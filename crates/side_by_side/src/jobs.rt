@@ -42,3 +42,19 @@ pub trait Jobs: Sync {
         requires number { number < size self.now }
         ensures { IfOk result (is_answer self.now number) };
 }
+
+/// When no further job is to be taken.
+pub trait Until: Sync {
+    /// Whether no further job is to be taken from now on.
+    fn is_over(&self) -> bool;
+}
+
+/// Never: each job is taken.
+#[derive(Drop)]
+pub(crate) struct Never;
+
+impl Until for Never {
+    fn is_over(&self) -> bool {
+        false
+    }
+}

@@ -2,7 +2,7 @@
 ghost use Rattle.std.specs.Prelude.{◌≡◌, Some, length, slice_set};
 ghost use Rattle.side_by_side.specs.Inside.{AreMade, AreAnswersAt};
 
-use crate::Jobs;
+use crate::{Jobs, Until};
 use std::alloc::{AllocError, Global};
 use std::sync::atomic::{AtomicU64, Ordering};
 
@@ -35,13 +35,14 @@ impl<T: Drop, A: Drop> Member<T, A> {
     }
 }
 
-// Does the jobs that are next, one after another, till there are none. Where memory is wanted it
-// stops, and leaves its job open.
-fn do_jobs<J: Jobs>(
+// Does the jobs that are next, one after another, till there are none, or till no further one is to
+// be taken. Where memory is wanted it stops, and leaves its job open.
+fn do_jobs<J: Jobs, U: Until>(
     alloc: Global,
     jobs: &J,
     tools: &mut J::Tools,
     next: &AtomicU64,
+    until: &U,
 ) -> Vec<Made<J::Answer>>
     requires { J.is_ready jobs.now }
     ensures { AreMade (J.is_answer jobs.now) result.items }
@@ -49,6 +50,9 @@ fn do_jobs<J: Jobs>(
     let mut all = Vec::new(alloc);
     let count = jobs.count();
     for _ in 0..count {
+        if until.is_over() {
+            return all;
+        }
         let number = next.fetch_add(1, Ordering::SeqCst) as usize;
         if number >= count {
             return all;
@@ -64,11 +68,12 @@ fn do_jobs<J: Jobs>(
 }
 
 /// Has a member do jobs: each the next one that no other has taken.
-pub(crate) fn work<J: Jobs>(
+pub(crate) fn work<J: Jobs, U: Until>(
     alloc: Global,
     jobs: &J,
     member: &mut Member<J::Tools, J::Answer>,
     next: &AtomicU64,
+    until: &U,
 )
     requires { J.is_ready jobs.now }
     ensures { AreMade (J.is_answer jobs.now) member.new.made.items }
@@ -77,7 +82,7 @@ pub(crate) fn work<J: Jobs>(
         Some(tools) => tools,
         None => jobs.tools(),
     };
-    member.made = do_jobs(alloc, jobs, &mut tools, next);
+    member.made = do_jobs(alloc, jobs, &mut tools, next, until);
     member.tools = Some(tools);
 }
 

@@ -3,12 +3,13 @@ ghost use Rattle.std.specs.Prelude.{◌≡◌, ◌<◌, ◌≤◌, None, All, If
 ghost use Rattle.side_by_side.specs.Answers.{AreAnswers};
 ghost use Rattle.side_by_side.specs.Inside.{AreMade, AreAnswersAt};
 
-use crate::Jobs;
+use crate::jobs::Never;
 use crate::member::{Member, give_back, work};
+use crate::{Jobs, Until};
 use rayon::current_num_threads;
 use rayon::prelude::par_for_each_mut;
 use std::alloc::{AllocError, Global};
-use std::sync::atomic::AtomicU64;
+use std::sync::atomic::{AtomicU64, Ordering};
 use std::thread::Threads;
 
 /// How many members a team has at most: as many threads as one call of `rayon` starts.
@@ -33,13 +34,15 @@ fn open<A: Drop>(alloc: Global, count: usize) -> Result<Vec<Option<A>>, AllocErr
     Ok(slots)
 }
 
-// Has each member do jobs, in a thread of its own.
-fn work_all<J: Jobs, R: Threads + Sync>(
+// Has each member do jobs, in a thread of its own. How many were taken: the first so many, or more
+// than there are.
+fn work_all<J: Jobs, U: Until, R: Threads + Sync>(
     rt: &R,
     alloc: Global,
     jobs: &J,
     members: &mut [Member<J::Tools, J::Answer>],
-)
+    until: &U,
+) -> usize
     requires { J.is_ready jobs.now }
     ensures count { length members.new ≡ length members.old }
     ensures made { All (λ member. AreMade (J.is_answer jobs.now) member.made.items) members.new }
@@ -51,8 +54,9 @@ fn work_all<J: Jobs, R: Threads + Sync>(
         |_: usize, member: &mut Member<J::Tools, J::Answer>|
             requires { J.is_ready jobs.now }
             ensures { AreMade (J.is_answer jobs.entry.now) member.new.made.items }
-        { work(alloc, jobs, member, &next) },
+        { work(alloc, jobs, member, &next, until) },
     );
+    next.load(Ordering::SeqCst) as usize
 }
 
 // Puts what all members made where it stands.
@@ -102,29 +106,31 @@ fn answer_at<J: Jobs>(
     }
 }
 
-// The answers in order: a job that is still open is done now.
+// The answers of the first so many jobs in order: one that is still open is done now.
 fn in_order<J: Jobs>(
     alloc: Global,
     jobs: &J,
     slots: &mut [Option<J::Answer>],
+    count: usize,
 ) -> Result<Vec<J::Answer>, AllocError>
     requires ready { J.is_ready jobs.now }
     requires count { length slots.old ≡ J.size jobs.now }
+    requires there { count ≤ length slots.old }
     requires slots { AreAnswersAt (J.is_answer jobs.now) slots.old }
-    ensures { IfOk result
-        (λ answers. AreAnswers (J.size jobs.now) (J.is_answer jobs.now) answers.items) }
+    ensures { IfOk result (λ answers. AreAnswers count (J.is_answer jobs.now) answers.items) }
 {
-    let mut answers = Vec::with_capacity(alloc, slots.len())?;
+    let mut answers = Vec::with_capacity(alloc, count)?;
     let mut tools = jobs.tools();
-    for number in 0..slots.len() {
+    for number in 0..count {
         let answer = answer_at(alloc, jobs, &mut tools, slots, number)?;
         answers.push(answer)?;
     }
     Ok(answers)
 }
 
-fn any_open<A>(slots: &[Option<A>]) -> bool {
-    slots.iter().any(|slot| slot.is_none())
+// Whether one of the first so many places is open.
+fn any_open<A>(slots: &[Option<A>], count: usize) -> bool {
+    slots.iter().take(count).any(|slot| slot.is_none())
 }
 
 impl<T: Drop, A: Drop> Team<T, A> {
@@ -172,11 +178,38 @@ impl<T: Send + Drop, A: Send + Drop> Team<T, A> {
             (λ answers. AreAnswers (J.size jobs.now) (J.is_answer jobs.now) answers.items) }
     {
         let mut slots = open(alloc, jobs.count())?;
-        work_all(rt, alloc, jobs, &mut self.members);
+        work_all(rt, alloc, jobs, &mut self.members, &Never);
         gather(jobs, &mut self.members, &mut slots);
-        if any_open(&slots) {
+        let count = slots.len();
+        if any_open(&slots, count) {
             self.rest();
         }
-        in_order(alloc, jobs, &mut slots)
+        in_order(alloc, jobs, &mut slots, count)
+    }
+
+    /// Does jobs side by side as [`answers`](Team::answers) does, but no further one is taken once
+    /// it is over: there is one answer for each of the first jobs, as many as were taken by then,
+    /// and at least one where there are jobs. Errors: want of memory alone.
+    pub fn first_answers<J: Jobs<Tools = T, Answer = A>, U: Until, R: Threads + Sync>(
+        &mut self,
+        rt: &R,
+        alloc: Global,
+        jobs: &J,
+        until: &U,
+    ) -> Result<Vec<A>, AllocError>
+        requires { J.is_ready jobs.now }
+        ensures first { IfOk result (λ answers. length answers.items ≤ J.size jobs.now) }
+        ensures some { IfOk result (λ answers. 0 < J.size jobs.now → 0 < length answers.items) }
+        ensures answers { IfOk result (λ answers.
+            AreAnswers (length answers.items) (J.is_answer jobs.now) answers.items) }
+    {
+        let mut slots = open(alloc, jobs.count())?;
+        let taken = work_all(rt, alloc, jobs, &mut self.members, until);
+        gather(jobs, &mut self.members, &mut slots);
+        let count = taken.max(1).min(slots.len());
+        if any_open(&slots, count) {
+            self.rest();
+        }
+        in_order(alloc, jobs, &mut slots, count)
     }
 }
