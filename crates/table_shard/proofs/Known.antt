@@ -1,5 +1,5 @@
 -- Notes are taken in, where no worker is below any slot.
-use Rattle.std.proofs.Common.{◌≡◌, ℕ, List, [], length, get_or, replicate, refl, sym, ap, ◌∙◌, subst, arith}
+use Rattle.std.proofs.Common.{◌≡◌, ℕ, List, length, get_or, replicate, ap, subst, arith}
 use Rattle.board_core.specs.declared.keys.Key.{Key}
 use Rattle.board_core.specs.Key.{key_of}
 use Rattle.notes.specs.Derivation.{Derivation, position_of}

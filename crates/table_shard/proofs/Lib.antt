@@ -3,6 +3,7 @@ mod Rows
 mod Made
 mod Places
 mod Marks
+mod Powers
 mod Emptied
 pub mod Offered
 pub mod Sent

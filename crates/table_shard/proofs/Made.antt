@@ -1,10 +1,10 @@
 -- What is kept of the rows of a shard when one of them is made, changes, or is given up.
-use Rattle.std.proofs.Common.{◌≡◌, ◌≢◌, ◌<◌, ◌≤◌, ◌+◌, ◌-◌, ◌^◌, ◌++◌, ◌⊎◌, ℕ, zero, suc, List, [], ◌∷◌, length, map, get_or, set, replicate, inl, inr, sym, subst, ap, ◌∙◌, refl, arith, Bool, true, false, cond}
+use Rattle.std.proofs.Common.{◌≡◌, ◌≢◌, ◌<◌, ◌≤◌, ◌+◌, ◌-◌, ◌^◌, ◌++◌, ℕ, zero, suc, List, [], ◌∷◌, length, get_or, set, replicate, inl, inr, sym, subst, ap, ◌∙◌, refl, arith, Bool, true, false, cond}
 use Rattle.std.specs.Prelude.{All, IsSomeAnd, count_by, slice_get, Some}
 use Rattle.std.proofs.lemmas.Bool.{cases_eq}
 use Rattle.std.proofs.lemmas.Bool.Decides.{nat_tests}
-use Rattle.std.proofs.lemmas.List.{length-set, length_push, length-map, length-replicate, get_or-map, get_or-set_same, get_or-set_other, get_or_append_left, get_or_push, get_or_past, get_or-replicate, get_or_default, ext_get_or}
-use Rattle.std.proofs.lemmas.List.Elements.{All-push, All-set, All-nil, All-pop, All-map}
+use Rattle.std.proofs.lemmas.List.{length-set, length_push, length-map, length-replicate, get_or-map, get_or-set_same, get_or-set_other, get_or_append_left, get_or_push, get_or-replicate, get_or_default, ext_get_or}
+use Rattle.std.proofs.lemmas.List.Elements.{All-push, All-set, All-nil, All-pop}
 use Rattle.std.proofs.lemmas.List.Folds.{sum_by-replicate}
 use Rattle.std.proofs.lemmas.List.Sums.{sum_by-set, sum_by-cons}
 use Rattle.table_shard.specs.Entry.{EntryView, IsEntry}

@@ -1,6 +1,6 @@
 -- The marks of a row's entries, as the row changes.
-use Rattle.std.proofs.Common.{◌≡◌, ◌<◌, ◌++◌, ℕ, zero, suc, List, [], ◌∷◌, length, get_or, set, refl, sym, ap, arith}
-use Rattle.std.proofs.lemmas.List.{map-append, map-set}
+use Rattle.std.proofs.Common.{◌≡◌, ◌<◌, ◌++◌, ℕ, zero, suc, List, [], ◌∷◌, length, get_or, set, refl, sym, ap, ◌∙◌, arith}
+use Rattle.std.proofs.lemmas.List.{length-map, map-append, map-set}
 use Rattle.notes.specs.declared.words.Update.{Update}
 use Rattle.board_core.specs.declared.keys.Key.{Key}
 use Rattle.table_shard.specs.Entry.{EntryView}
@@ -12,6 +12,10 @@ use Rattle.table_shard.proofs.Rows.{updated-key}
 -- the mark of an entry
 abbrev pub mark_in : EntryView → ℕ
 mark_in entry = mark_of entry.key
+
+-- there are as many as entries
+pub marks_long : (row : List EntryView) (marks : List ℕ) → marks ≡ marks_of row → length marks ≡ length row
+marks_long row marks are = ap length are ∙ length-map row mark_in
 
 -- an entry is put behind
 pub marks_pushed : (row : List EntryView) (entry : EntryView) (mark : ℕ) (marks : List ℕ) → marks ≡ marks_of row → mark ≡ mark_of entry.key

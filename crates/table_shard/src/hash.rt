@@ -1,7 +1,7 @@
 // Which row a key has, and how it is told apart there at a glance.
-ghost use Rattle.std.specs.Prelude.{◌≡◌, ◌<◌, ◌≤◌, ◌+◌, ◌*◌, ◌/◌, ◌%◌, ◌^◌, ℕ, fold};
+ghost use Rattle.std.specs.Prelude.{◌≡◌, ◌<◌, ◌≤◌, ◌+◌, ◌*◌, ◌/◌, ◌%◌, ◌^◌, ℕ};
 ghost use Rattle.board_core.specs.declared.keys.Key.{Key};
-ghost use Rattle.table_shard.specs.Spot.{hashed, hash_of, spot_of, place_of, word_of};
+ghost use Rattle.table_shard.specs.Spot.{hash_over, hash_of, spot_of, place_of, word_of};
 
 use board_core::Key;
 use hand_dominance::board_of;
@@ -12,33 +12,60 @@ pub(crate) const MULTIPLIER: u64 = 1_442_695_040_888_963_407;
 // Hashes are below this prime, 2^61 - 1.
 pub(crate) const MODULUS: u64 = 2_305_843_009_213_693_951;
 
-// The hash after another word.
-fn hashed(hash: u64, word: u64) -> u64
-    requires { hash < MODULUS }
-    ensures hash { result ≡ hashed hash word }
-    ensures low { result < MODULUS }
+// The multiplier's powers modulo that prime, the eighth first.
+pub(crate) const POWERS: [u64; 8] = [
+    1_667_393_777_810_465_414,
+    1_984_756_286_431_158_282,
+    1_326_976_529_174_680_866,
+    2_081_708_393_209_093_232,
+    1_482_615_688_415_304_670,
+    625_503_576_604_529_627,
+    61_630_319_319_281_164,
+    1_442_695_040_888_963_407,
+];
+
+// A number modulo the prime.
+fn reduced(number: u128) -> u64
+    ensures { result ≡ number % MODULUS }
 {
-    // The word is brought down first, since that doesn't wait for the hash.
-    let low = (word >> 61) + (word & MODULUS);
-    let product = u128::from(hash + low) * u128::from(MULTIPLIER);
-    let once = (product >> 61) as u64 + (product & u128::from(MODULUS)) as u64;
-    let twice = (once >> 61) + (once & MODULUS);
+    let once = (number >> 61) + (number & u128::from(MODULUS));
+    let twice = (once >> 61) as u64 + (once & u128::from(MODULUS)) as u64;
     if twice >= MODULUS {
         return twice - MODULUS;
     }
     twice
 }
 
+// A word of a key times a power of the multiplier.
+fn weighed(word: u64, power: u64) -> u128
+    requires { power < 2 ^ 61 }
+    ensures product { result ≡ word * power }
+    ensures small { result < 2 ^ 125 }
+{
+    u128::from(word) * u128::from(power)
+}
+
+// The hash of eight words. Each word is multiplied by its own power, so that none waits for the
+// hash of those before it.
+fn hash_over(words: &[u64; 8]) -> u64
+    ensures { result ≡ hash_over words.now }
+{
+    let sum = weighed(words[0], POWERS[0])
+        + weighed(words[1], POWERS[1])
+        + weighed(words[2], POWERS[2])
+        + weighed(words[3], POWERS[3])
+        + weighed(words[4], POWERS[4])
+        + weighed(words[5], POWERS[5])
+        + weighed(words[6], POWERS[6])
+        + weighed(words[7], POWERS[7]);
+    reduced(sum)
+}
+
 // The hash of a key, whatever its hands.
 pub(crate) fn hash_of(key: &Key) -> u64
     ensures { result ≡ hash_of key.now.0 }
 {
-    let mut hash = 0;
-    let board = board_of(key);
-    for word in board.0.iter() {
-        hash = hashed(hash, *word);
-    }
-    hash
+    hash_over(&board_of(key).0)
 }
 
 /// Where a table has a position: in which row, and by which mark the entries of its board there are
@@ -52,6 +79,19 @@ pub struct Spot {
     pub mark: u32,
 }
 
+// In which of so many rows a hash names a place: the hash modulo the rows, which for a power of two
+// are its last bits.
+fn place_of(hash: u64, rows: u64) -> u64
+    requires { 0 < rows }
+    ensures { result ≡ hash % rows }
+{
+    let bits = rows.trailing_zeros();
+    if 1 << bits == rows {
+        return hash & (rows - 1);
+    }
+    hash % rows
+}
+
 // Where a table of so many rows has the position of a key whose hash this is: in the row that the
 // hash modulo the rows names.
 pub(crate) fn spot_at(hash: u64, rows: usize) -> Spot
@@ -60,7 +100,7 @@ pub(crate) fn spot_at(hash: u64, rows: usize) -> Spot
     ensures there { result.place < rows }
 {
     Spot {
-        place: (hash % rows as u64) as usize,
+        place: place_of(hash, rows as u64) as usize,
         mark: (hash >> 32) as u32,
     }
 }
@@ -94,7 +134,7 @@ pub fn site_of(key: &Key, shards: usize, own: usize) -> Site
     ensures inside { result.word + 8 ≤ 8 * (shards * own) }
 {
     let hash = hash_of(key);
-    let row = (hash % (shards * own) as u64) as usize;
+    let row = place_of(hash, (shards * own) as u64) as usize;
     Site {
         shard: row / own,
         hash,

@@ -66,6 +66,14 @@ impl Row {
         let _kept = &self.entries;
     }
 
+    // How many entries it has: there is a mark for each.
+    #[tactic(auto, using(crate::proofs::Marks::marks_long))]
+    pub(crate) fn count(&self) -> usize
+        ensures { result ≡ length self.now }
+    {
+        self.marks.len()
+    }
+
     // The slot with the key's entry, whose mark is the key's.
     pub(crate) fn slot_of(&self, mark: u32, key: &Key) -> Option<usize>
         requires { mark ≡ mark_of key.now }

@@ -1,5 +1,5 @@
 // A shard of the table.
-ghost use Rattle.std.specs.Prelude.{◌≡◌, ◌<◌, ◌↔◌, [], ℕ, List, IfOk, IfSome, IfNone, MatchResult, IsTrue, All, length, replicate};
+ghost use Rattle.std.specs.Prelude.{◌≡◌, ◌<◌, ◌↔◌, [], ℕ, List, IfOk, IfSome, IfNone, MatchResult, IsTrue, All, length, replicate, slice_index_or};
 ghost use Rattle.board_core.specs.declared.keys.Key.{Key};
 ghost use Rattle.pn_numbers.specs.Numbers.{IsOpen};
 ghost use Rattle.table_shard.specs.Entry.{EntryView, FitsKey};
@@ -111,6 +111,17 @@ impl Shard {
         ensures there { result.place < length self.now }
     {
         spot_at(hash, self.rows.len())
+    }
+
+    /// How many entries the row at a place has; 0 where there is no such row. Takes no memory.
+    pub fn count(&self, place: usize) -> usize
+        ensures { result ≡ length (slice_index_or self.now place []) }
+    {
+        if place < self.rows.len() {
+            self.rows.at(place).count()
+        } else {
+            0
+        }
     }
 
     /// The slot of the key's entry; none where its row has none. Takes no memory.

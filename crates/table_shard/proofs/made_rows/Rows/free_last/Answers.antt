@@ -1,5 +1,5 @@
 use Rattle.std.proofs.Common.{◌≡◌, ◌<◌, ◌-◌, ◌∷◌, ◌++◌, ℕ, List, [], length, get_or, set, replicate, sym, subst, ap, ◌∙◌, arith}
-use Rattle.std.specs.Prelude.{IfNone, Option, Some, option_to_list}
+use Rattle.std.specs.Prelude.{IfNone, Option, option_to_list}
 use Rattle.std.proofs.lemmas.List.{length-set}
 use Rattle.table_shard.specs.Entry.{EntryView}
 use Rattle.table_shard.specs.Made.{AreMade, rows_at}
