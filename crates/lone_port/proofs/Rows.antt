@@ -17,7 +17,7 @@ use Rattle.notes.specs.declared.words.Seen.TheVariants.{New, Open, Solved, Lent}
 use Rattle.notes.specs.declared.words.Update.{Update}
 use Rattle.notes.specs.declared.words.Update.TheVariants.{Numbers as SetNumbers, Note as AddNote, Nothing as ChangeNothing}
 use Rattle.table_shard.specs.Entry.{EntryView, AreFor, IsEntry, IsFirstWithin, IsFactAbout, Shows, is_closed, has_closed, noted, updated}
-use Rattle.table_shard.specs.Row.{HoldsAt, IsLent, IsRow, Looks, Enters, IsGivenUp, fresh, left}
+use Rattle.table_shard.specs.Row.{HoldsAt, IsRow, Looks, Enters, IsGivenUp, fresh, left}
 use Rattle.table_shard.proofs.Offered.{holds_end, holds_within, holds_put, lent_fact}
 use Rattle.visit_log.specs.Round.{MayShow}
 use Rattle.visit_log.specs.Sound.{IsSoundUpdate}

@@ -18,6 +18,7 @@ use std::alloc::{AllocError, Global};
 use std::marker::Model;
 use table_shard::{RowPins, Shard};
 use unit_desk::{Desk, known_answer};
+use visit_log::Child;
 use worker_core::Port;
 
 /// The table of positions and the desk of a search, for one worker at a time.
@@ -78,6 +79,19 @@ fn take_all(alloc: Global, shard: &mut Shard, notes: &[Note]) -> Result<(), Allo
         shard.take(note.share()?);
     }
     Ok(())
+}
+
+// For how many children is read ahead at a time.
+const AHEAD: usize = 32;
+
+// What a look reads first of the row at a place: how many entries it has, and how many visits are
+// below the first of its slots.
+fn read_at(shard: &Shard, pins: &[[u64; 8]], place: usize) -> u64 {
+    let below = match pins.get(place) {
+        Some(counts) => counts[0],
+        None => 0,
+    };
+    below ^ shard.count(place) as u64
 }
 
 impl LonePort {
@@ -298,6 +312,19 @@ impl Port for LonePort {
         let spot = self.shard.spot_of(key);
         self.pins[spot.place][slot as usize] -= 1;
         self.shard.leave_held(spot, slot, key, update);
+    }
+
+    fn read_ahead(&self, children: &[Child]) -> u64 {
+        // All places come first: so what is read at one doesn't wait for the place of the next.
+        let mut places = [0; AHEAD];
+        for (place, child) in places.iter_mut().zip(children.iter()) {
+            *place = self.shard.spot_of(&child.key).place;
+        }
+        let mut read = 0;
+        for place in places.iter().take(children.len()) {
+            read ^= read_at(&self.shard, &self.pins, *place);
+        }
+        read
     }
 
     fn post(&mut self, note: Note) {

@@ -9,6 +9,7 @@ use path_tags::Path;
 use pn_numbers::Numbers;
 use search_gate::{Gate, Stop};
 use std::alloc::AllocError;
+use visit_log::Child;
 use worker_core::Port;
 
 // The table and the desk of a search alone, the gate that its worker passes behind each visit that
@@ -55,6 +56,10 @@ impl<'a, G: Gate, T: Stop> Port for Watched<'a, G, T> {
 
     fn leave(&mut self, kept: Kept, key: &Key, update: Update) {
         self.port.leave(kept, key, update);
+    }
+
+    fn read_ahead(&self, children: &[Child]) -> u64 {
+        self.port.read_ahead(children)
     }
 
     fn post(&mut self, note: Note) {

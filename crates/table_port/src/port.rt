@@ -17,6 +17,7 @@ use std::alloc::AllocError;
 use std::marker::PhantomData;
 use std::mem;
 use table_shard::site_of;
+use visit_log::Child;
 use word_desk::DeskSeat;
 use worker_core::Port;
 use worker_counts::{CountSeat, view_laws};
@@ -177,6 +178,11 @@ impl<'a, J: Job, R: Rows<J>, G: Gate, T: Stop> Port for TablePort<'a, J, R, G, T
         self.seats.row.laws();
         let site = site_of(key, self.cut.shards, self.cut.own);
         leave_on(&mut self.rows, &mut self.seats.row, site, kept, key, update);
+    }
+
+    // The rows are under locks, which it takes for a look alone.
+    fn read_ahead(&self, _children: &[Child]) -> u64 {
+        0
     }
 
     fn post(&mut self, note: Note) {

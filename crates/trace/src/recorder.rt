@@ -5,6 +5,7 @@ use notes::{Draw, Kept, Note, RoomAnswer, Seen, Update};
 use path_tags::Path;
 use pn_numbers::Numbers;
 use std::alloc::AllocError;
+use visit_log::Child;
 use worker_core::Port;
 
 /// A port, and the lines that tell what it was asked and answered.
@@ -58,6 +59,10 @@ impl<P: Port> Port for Recorder<P> {
         self.below = self.below.wrapping_sub(slots(kept));
         self.lines.leave(key, &update);
         self.port.leave(kept, key, update);
+    }
+
+    fn read_ahead(&self, children: &[Child]) -> u64 {
+        self.port.read_ahead(children)
     }
 
     fn post(&mut self, note: Note) {

@@ -1,11 +1,12 @@
 // What is known in one visit.
-ghost use Rattle.std.specs.Prelude.{◌≡◌, ◌<◌, ◌+◌, ◌↔◌, ℕ, List, Option, Some, None, Ok, Err, true, IfOk, OnOk, OnErr, IsSome, slice_get};
+ghost use Rattle.std.specs.Prelude.{◌≡◌, ◌<◌, ◌+◌, ◌↔◌, ℕ, List, Option, Some, None, Ok, Err, true, IfOk, IfSome, OnOk, OnErr, IsSome, slice_get};
 ghost use Rattle.board_core.specs.declared.keys.Key.{Key};
 ghost use Rattle.board_core.specs.Key.{key_of};
 ghost use Rattle.shogi_rules.specs.Rules.{IsQuiet};
 ghost use Rattle.notes.specs.Derivation.{highest};
 ghost use Rattle.notes.specs.declared.note.NoteEnd.TheVariants.{TooHigh};
 ghost use Rattle.visit_log.specs.declared.parts.Child.{Child};
+ghost use Rattle.visit_log.specs.declared.parts.Stage.TheVariants.{Looking};
 ghost use Rattle.visit_log.specs.Frame.{Task, task_for, begun};
 ghost use Rattle.visit_log.specs.Children.{AreChildren, is_solved, first_due, notes_under};
 ghost use Rattle.visit_log.specs.Round.{node_in, own as own_in, Selects, MayShow, Sight, Tells, looked, came_back, IsMade};
@@ -139,6 +140,24 @@ impl Frame {
         &self.position
     }
 
+    /// The successors of the position, as far as they are known. Takes no memory.
+    pub fn children(&self) -> &[Child]
+        ensures { result.now ≡ self.now.children }
+    {
+        &self.children
+    }
+
+    /// The place of the first child that is due, from 0: it is looked at next; none where none is
+    /// due. Takes no memory.
+    #[inline(always)]
+    pub fn due(&self) -> Option<usize>
+        ensures first { result ≡ first_due self.now.children }
+        ensures next { IfSome result
+            (λ place. (task : Task) → Settles task self.now (Looking place) self.now) }
+    {
+        first_due(&self.children)
+    }
+
     /// The key of the child at the place, from 0; none where there is no such child. Takes no
     /// memory.
     pub fn child_key(&self, place: usize) -> Option<Key>
@@ -204,6 +223,7 @@ impl Frame {
     }
 
     // What comes next where no child is due.
+    #[inline(never)]
     fn settle_round(&mut self, problem: &Problem, worker: u32) -> Stage
         requires listed { (path : List Key)
             × IsListed (task_for problem.now.position worker) path self.old }
@@ -232,6 +252,7 @@ impl Frame {
     /// the path; to leave with the node's own numbers, where they have come to a threshold of the
     /// visit; or the visit of a child, with its thresholds. Takes no memory. (Nagai 2002; among
     /// children of equal numbers each worker takes its own: Kaneko 2010.)
+    #[inline(always)]
     pub fn settle(&mut self, problem: &Problem, worker: u32) -> Stage
         requires listed { (path : List Key)
             × IsListed (task_for problem.now.position worker) path self.old }
@@ -246,6 +267,7 @@ impl Frame {
     /// The child at the place was looked at. Where the table has no entry of it, its start numbers
     /// are reckoned here, or told of those that are kept; a note that is lent is carried to it.
     /// Errors: want of memory for that alone, and then nothing has changed.
+    #[inline(always)]
     pub fn look(
         &mut self,
         alloc: Global,

@@ -60,9 +60,9 @@ pub(crate) fn tell(
             Ok(())
         }
         Seen::Solved(note) => {
-            note.laws();
             // No other position has the key of the one behind the move.
-            let _key = board_core::key(&apply(position, children[place].by));
+            note.laws();
+            position.laws();
             prove(children, place, note);
             Ok(())
         }

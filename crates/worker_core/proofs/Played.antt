@@ -1,6 +1,6 @@
 -- The position of the child to which a visit goes down.
 use Rattle.std.proofs.Common.{◌≡◌, ℕ, ◌<◌, List, [], ◌∷◌, map, refl, sym, ap, ◌∙◌, subst, Contains}
-use Rattle.std.specs.Prelude.{Some, slice_get}
+use Rattle.std.specs.Prelude.{Option, Some, None, IfSome, slice_get}
 use Rattle.std.proofs.lemmas.Option.{same_Some}
 use Rattle.bit_boards.specs.declared.piece.Side.{Side}
 use Rattle.bit_boards.specs.declared.piece.Side.TheVariants.{Black, White}
@@ -16,10 +16,11 @@ use Rattle.pn_numbers.specs.declared.node.Node.TheVariants.{Attacker, Defender}
 use Rattle.visit_log.specs.declared.parts.Child.{Child}
 use Rattle.visit_log.specs.Frame.{Task, FrameView, attacker_in, node_of, node_at}
 use Rattle.visit_log.specs.Children.{AreMoves, move_to}
-use Rattle.visit_log.specs.Machine.{IsPlayed, path_of}
+use Rattle.visit_log.specs.declared.parts.Stage.TheVariants.{Looking}
+use Rattle.visit_log.specs.Machine.{State, Settles, GoesOn, at_stage, IsPlayed, path_of}
 use Rattle.visit_log.specs.Sound.{IsListed, IsMoveTo, AreSound}
 use Rattle.list_laws.proofs.Standing.{contained, contains_map}
-use Rattle.worker_core.specs.Stack.{top_of}
+use Rattle.worker_core.specs.Stack.{top_of, HasTop, HasOver}
 
 -- A child's move is one of the moves.
 moves_hold : (children : List Child) (place : ℕ) (child : Child) → slice_get children place ≡ Some child → Contains (map move_to children) child.by
@@ -82,6 +83,23 @@ top_listed task [] f sound is = absurd (cc)
 top_listed task (g ∷ gs) f sound is =
     let e : f ≡ g = same_Some f g is in
     subst (λ (z : FrameView). (path : List Key) × IsListed task path z) (sym e) (path_of task (g ∷ gs), sound.0.listed)
+
+-- what the innermost visit looks at next
+pub top_looks : (frames : List FrameView) (f : FrameView) (due : Option ℕ) → Some f ≡ top_of frames
+    → IfSome due (λ place. (task : Task) → Settles task f (Looking place) f)
+    → IfSome due (λ place. HasTop (λ g. (task : Task) → Settles task g (Looking place) g) frames)
+top_looks frames f None is looks = tt
+top_looks [] f (Some place) is looks = absurd (cc)
+top_looks (g ∷ gs) f (Some place) is looks =
+    subst (λ (z : FrameView). (task : Task) → Settles task z (Looking place) z) (same_Some f g is) looks
+
+-- where a look comes next, the machine goes on so
+pub looks_on : (s : State) (place : ℕ) (task : Task) (frames : List FrameView) → s.frames ≡ frames
+    → HasTop (λ f. (task : Task) → Settles task f (Looking place) f) frames
+    → HasOver (λ f fs. GoesOn task s f fs (at_stage s (Looking place) s.frames)) frames
+looks_on s place task [] are looks = absurd looks
+looks_on s place task (f ∷ fs) are looks =
+    record { next = f; settles = looks task; is = ap (at_stage s (Looking place)) are }
 
 pub top_child : (frames : List FrameView) (f : FrameView) (by : Move) → IsMoveTo frames (Some by) → Some f ≡ top_of frames
     → (child : Child) × (slice_get f.children f.chosen ≡ Some child) × (Some by ≡ Some child.by)

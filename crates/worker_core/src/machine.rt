@@ -27,7 +27,7 @@ use std::alloc::Global;
 use std::marker::Model;
 use std::mem;
 use visit_frame::Frame;
-use visit_log::{Entry, Left, Reply, Request, Stage, WorkEnd, sound_laws};
+use visit_log::{Child, Entry, Left, Reply, Request, Stage, WorkEnd, sound_laws};
 
 // What a worker does next, its visits, and what it was given.
 #[derive(Drop)]
@@ -41,13 +41,13 @@ pub(crate) struct Core {
 impl Model for Core {
     ghost use Rattle.std.specs.Coded.{codes};
     ghost use Rattle.notes.specs.contracts.note.Note as facts;
-    ghost use Rattle.worker_core.specs.Machine.{CoreView};
+    ghost use Rattle.worker_core.specs.Machine.{CoreView, core_of};
 
     ghost Value = { CoreView };
 
     ghost coded = { Prim.hlevel (codes, facts.the_row.coded) };
 
-    ghost view = { λ c. record { task = c.stack.task; state = record { stage = c.stage; frames = c.stack.frames; visits = c.visits; claims = c.claims } } };
+    ghost view = { λ c. core_of c.stack c.stage c.visits c.claims };
 }
 
 impl Core {
@@ -98,6 +98,7 @@ impl Core {
     }
 
     // The innermost visit does next what it does.
+    #[inline(always)]
     fn go_on(&mut self)
         requires { HasTop (λ f. (path : List Key)
             × IsListed self.old.task path f) self.old.state.frames }
@@ -105,7 +106,36 @@ impl Core {
         ensures on { HasOver (λ f fs. GoesOn self.old.task self.old.state f fs self.new.state)
             self.old.state.frames }
     {
+        match self.stack.due() {
+            Some(place) => self.look_at(place),
+            None => self.settle(),
+        }
+    }
+
+    // The innermost visit does next what it does, whatever that is.
+    #[inline(always)]
+    fn settle(&mut self)
+        requires { HasTop (λ f. (path : List Key)
+            × IsListed self.old.task path f) self.old.state.frames }
+        ensures task { self.new.task ≡ self.old.task }
+        ensures on { HasOver (λ f fs. GoesOn self.old.task self.old.state f fs self.new.state)
+            self.old.state.frames }
+    {
         self.stage = self.stack.settle();
+    }
+
+    // The child at the place is looked at next.
+    #[inline(always)]
+    fn look_at(&mut self, place: usize)
+        ensures task { self.new.task ≡ self.old.task }
+        ensures state { self.new.state
+            ≡ at_stage self.old.state (Looking place) self.old.state.frames }
+    {
+        if let Stage::Looking(now) = &mut self.stage {
+            *now = place;
+            return;
+        }
+        self.stage = Stage::Looking(place);
     }
 
     fn polled(&mut self, entry: Entry, stop: bool)
@@ -156,6 +186,7 @@ impl Core {
         }
     }
 
+    #[inline(always)]
     fn looked(&mut self, alloc: Global, place: usize, seen: Seen)
         requires sound { HasOver (λ f fs. IsSoundVisit self.old.task f fs
             × IsLookedAt f place) self.old.state.frames }
@@ -270,6 +301,7 @@ impl Core {
     }
 
     /// Takes the answer in. The note that comes out is the copy for the Leave, where one was made.
+    #[inline(always)]
     pub(crate) fn advance(&mut self, alloc: Global, answer: Reply) -> Option<Note>
         requires sound { IsSound self.old.task self.old.state }
         requires fits { Fits self.old.task self.old.state answer }
@@ -329,6 +361,7 @@ impl Core {
     }
 
     /// What it asks next. The copy goes out with a Leave; a note that is posted is given away.
+    #[inline(always)]
     pub(crate) fn ask(&mut self, copy: Option<Note>) -> Request
         requires { IsCopy self.old.state.stage copy }
         ensures request { result ≡ asks self.old.state }
@@ -354,6 +387,14 @@ impl Core {
             } else {
                 None
             },
+            _ => None,
+        }
+    }
+
+    /// The children at which it looks next, where it begins with the first of them.
+    pub(crate) fn first_looks(&self) -> Option<&[Child]> {
+        match self.stage {
+            Stage::Looking(0) => self.stack.children(),
             _ => None,
         }
     }
@@ -409,6 +450,7 @@ impl Core {
 }
 
 // What is asked at a stage, but for a note that is posted.
+#[inline(always)]
 fn ask(stage: &Stage, stack: &Stack, copy: Option<Note>) -> Request
     requires other { IsNotPosting stage.now }
     requires copy { IsCopy stage.now copy }

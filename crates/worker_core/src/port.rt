@@ -7,14 +7,15 @@ use notes::{Draw, Kept, Note, RoomAnswer, Seen, Update};
 use path_tags::Path;
 use pn_numbers::Numbers;
 use std::alloc::AllocError;
+use visit_log::Child;
 
 /// The table of positions and the desk of a search, as one worker has them: alone, beside others
 /// under some schedule, or on a thread.
 ///
 /// What it tells of itself is its book: the problem; how many visits it gave, at most a billion,
 /// and for how many notes it gave room; whether it goes on; which word each slot of a key's row
-/// has, and how often the slot of a word is entered and not left. Each call changes the book as its
-/// request and answer say (`IsBooked`), and is one step of the port (`turn`).
+/// has, and how often the slot of a word is entered and not left. A call that answers a request
+/// changes the book as the two say (`IsBooked`), and is one step of the port (`turn`).
 pub trait Port {
     ghost use Rattle.std.specs.Prelude.{◌≡◌, ◌<◌, ◌≤◌, ℕ, true, IfOk, Some, Option, List};
     ghost use Rattle.board_core.specs.declared.keys.Key.{Key};
@@ -83,6 +84,11 @@ pub trait Port {
             → turn self.old path (Leave kept key.now update) (Some LeftIt) self.new }
         ensures book { IsBooked (Leave kept key.now update, Some LeftIt) (book self.old)
             (book self.new) };
+
+    /// Reads ahead what looks at these children will read, where that saves time: so memory is
+    /// waited for once, and not for each child. What it comes to means nothing; it is told so that
+    /// it is read at all. Nothing changes.
+    fn read_ahead(&self, children: &[Child]) -> u64;
 
     /// Posts a note that answers the problem.
     fn post(&mut self, note: Note)

@@ -1,11 +1,12 @@
 // The visits of a worker that are going on, and its path.
-ghost use Rattle.std.specs.Prelude.{◌≡◌, ◌≤◌, ◌<◌, ◌+◌, ◌∷◌, [], ℕ, List, Option, Some, None, true, OnOk, OnErr, IfOk, IsSome, IsTrue, ◌↔◌, Err, slice_get, option_copied, reverse, length, map};
+ghost use Rattle.std.specs.Prelude.{◌≡◌, ◌≤◌, ◌<◌, ◌+◌, ◌∷◌, [], ℕ, List, Option, Some, None, true, OnOk, OnErr, IfOk, IfSome, IsSome, IsTrue, ◌↔◌, Err, slice_get, option_copied, reverse, length, map};
 ghost use Rattle.board_core.specs.declared.keys.Key.{Key};
 ghost use Rattle.shogi_rules.specs.Rules.{after};
 ghost use Rattle.notes.specs.Derivation.{highest};
 ghost use Rattle.notes.specs.declared.note.NoteEnd.TheVariants.{TooHigh, NoMemory};
 ghost use Rattle.visit_log.specs.declared.parts.Child.{Child};
-ghost use Rattle.visit_log.specs.Frame.{FrameView, attacker_in, begun, task_for};
+ghost use Rattle.visit_log.specs.declared.parts.Stage.TheVariants.{Looking};
+ghost use Rattle.visit_log.specs.Frame.{Task, FrameView, attacker_in, begun, task_for};
 ghost use Rattle.visit_log.specs.Children.{AreChildren, is_solved, notes_under};
 ghost use Rattle.visit_log.specs.Round.{node_in, MayShow, Sight, Tells, looked, came_back, IsMade};
 ghost use Rattle.visit_log.specs.Machine.{keep, bare, IsLending, Settles, IsPlayed, path_of, place_by, position_by, entered_ones, rest_of};
@@ -21,7 +22,7 @@ use shogi_rules::{Problem, apply};
 use std::alloc::{AllocError, Global};
 use std::marker::Model;
 use visit_frame::{Frame, Starts};
-use visit_log::{Entry, Left, Stage};
+use visit_log::{Child, Entry, Left, Stage};
 
 // The visits, the innermost last, with the keys of the attacker's positions among them, and what
 // start numbers were reckoned. Contracts see the visits, the innermost first.
@@ -35,20 +36,17 @@ pub(crate) struct Stack {
 }
 
 impl Model for Stack {
-    ghost use Rattle.std.specs.Prelude.{◌≡◌, reverse};
     ghost use Rattle.std.specs.Coded.{codes};
     ghost use Rattle.notes.specs.contracts.note.Note as facts;
-    ghost use Rattle.visit_log.specs.Frame.{task_for};
-    ghost use Rattle.visit_log.specs.Machine.{path_of};
-    ghost use Rattle.worker_core.specs.Stack.{StackView};
+    ghost use Rattle.worker_core.specs.Stack.{StackView, stack_of, IsPathOf};
 
     ghost Value = { StackView };
 
     ghost coded = { Prim.hlevel (codes, facts.the_row.coded) };
 
-    ghost view = { λ s. record { task = task_for s.problem.position s.worker; frames = reverse s.frames.items } };
+    ghost view = { λ s. stack_of s.problem.position s.worker s.frames.items };
 
-    ghost invariant = { λ s. s.path ≡ path_of (task_for s.problem.position s.worker) (reverse s.frames.items) };
+    ghost invariant = { λ s. IsPathOf s.path s.problem.position s.worker s.frames.items };
 }
 
 // Whether the attacker is to move.
@@ -73,13 +71,14 @@ fn played_after(problem: &Problem, worker: u32, frame: &Frame, by: Move) -> Posi
 }
 
 impl Stack {
-    ghost use Rattle.std.specs.Prelude.{◌≡◌, ◌≤◌, ◌<◌, ◌+◌, ◌∷◌, [], ℕ, List, Option, Some, None, true, OnOk, OnErr, IfOk, IsSome, IsTrue, ◌↔◌, Err, slice_get, option_copied, reverse, length, map};
+    ghost use Rattle.std.specs.Prelude.{◌≡◌, ◌≤◌, ◌<◌, ◌+◌, ◌∷◌, [], ℕ, List, Option, Some, None, true, OnOk, OnErr, IfOk, IfSome, IsSome, IsTrue, ◌↔◌, Err, slice_get, option_copied, reverse, length, map};
     ghost use Rattle.board_core.specs.declared.keys.Key.{Key};
     ghost use Rattle.shogi_rules.specs.Rules.{after};
     ghost use Rattle.notes.specs.Derivation.{highest};
     ghost use Rattle.notes.specs.declared.note.NoteEnd.TheVariants.{TooHigh, NoMemory};
     ghost use Rattle.visit_log.specs.declared.parts.Child.{Child};
-    ghost use Rattle.visit_log.specs.Frame.{FrameView, attacker_in, begun, task_for};
+    ghost use Rattle.visit_log.specs.declared.parts.Stage.TheVariants.{Looking};
+    ghost use Rattle.visit_log.specs.Frame.{Task, FrameView, attacker_in, begun, task_for};
     ghost use Rattle.visit_log.specs.Children.{AreChildren, is_solved, notes_under};
     ghost use Rattle.visit_log.specs.Round.{node_in, MayShow, Sight, Tells, looked, came_back, IsMade};
     ghost use Rattle.visit_log.specs.Machine.{keep, bare, IsLending, Settles, IsPlayed, path_of, place_by, position_by, entered_ones, rest_of};
@@ -118,6 +117,14 @@ impl Stack {
         ensures { option_copied result ≡ top_of self.now.frames }
     {
         top(&self.frames)
+    }
+
+    /// The children of the innermost position, if there is one.
+    pub(crate) fn children(&self) -> Option<&[Child]> {
+        match top(&self.frames) {
+            Some(frame) => Some(frame.children()),
+            None => None,
+        }
     }
 
     /// The keys of the attacker's positions that are being visited, the problem's first.
@@ -235,7 +242,21 @@ impl Stack {
         list_top(self.frames.as_mut_slice(), alloc, &self.problem, &self.path)
     }
 
+    /// The place of the innermost visit's first child that is due, from 0, where there is one: this
+    /// child is looked at next.
+    #[inline(always)]
+    pub(crate) fn due(&self) -> Option<usize>
+        ensures { IfSome result (λ place.
+            HasTop (λ f. (task : Task) → Settles task f (Looking place) f) self.now.frames) }
+    {
+        match top(&self.frames) {
+            Some(frame) => frame.due(),
+            None => None,
+        }
+    }
+
     /// What the innermost visit does next.
+    #[inline(always)]
     pub(crate) fn settle(&mut self) -> Stage
         requires { HasTop (λ f. (path : List Key) × IsListed self.old.task path f) self.old.frames }
         ensures task { self.new.task ≡ self.old.task }
@@ -247,6 +268,7 @@ impl Stack {
 
     /// The innermost visit's child at the place was looked at. Errors: want of memory to carry a
     /// note that is lent, and then nothing changes.
+    #[inline(always)]
     pub(crate) fn look(&mut self, alloc: Global, place: usize, seen: Seen) -> Result<(), AllocError>
         requires listed { HasTop (λ f. (path : List Key) × IsListed self.old.task path f
             × ((child : Child) → slice_get f.children place ≡ Some child

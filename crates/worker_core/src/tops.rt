@@ -70,6 +70,7 @@ pub(crate) fn list_top(
 }
 
 // What it does next.
+#[inline(always)]
 pub(crate) fn settle_top(frames: &mut [Frame], problem: &Problem, worker: u32) -> Stage
     requires some { 0 < length frames.old }
     requires listed { HasTop (λ f. (path : List Key)
@@ -86,6 +87,7 @@ pub(crate) fn settle_top(frames: &mut [Frame], problem: &Problem, worker: u32) -
 
 // Its child at the place was looked at. Errors: want of memory to carry a note that is lent, and
 // then nothing changes.
+#[inline(always)]
 pub(crate) fn look_top(
     frames: &mut [Frame],
     alloc: Global,

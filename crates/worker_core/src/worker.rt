@@ -1,6 +1,7 @@
 // A worker: a machine that stands where some log leaves it.
 ghost use Rattle.std.specs.Prelude.{◌≡◌, ◌+◌, ◌<◌, ◌≤◌, ◌++◌, ◌∷◌, [], ℕ, true, false, List, Some, IfOk};
 
+use crate::Port;
 use crate::machine::Core;
 use notes::Note;
 use path_tags::Path;
@@ -21,6 +22,8 @@ pub struct Worker {
     // The copy of the note that goes out with the next Leave.
     copy: Option<Note>,
     waiting: bool,
+    // What reading ahead came to: nobody asks for it.
+    ahead: u64,
 }
 
 impl Model for Worker {
@@ -30,16 +33,16 @@ impl Model for Worker {
     ghost use Rattle.visit_log.specs.Visit.{Exchange};
     ghost use Rattle.visit_log.specs.Run.{WorkerView, IsReached};
     ghost use Rattle.visit_log.specs.Sound.{IsTask};
-    ghost use Rattle.worker_core.specs.Machine.{IsCopy};
+    ghost use Rattle.worker_core.specs.Machine.{IsCopy, worker_of};
 
     ghost Value = { WorkerView };
 
     ghost coded = { Prim.hlevel (codes, facts.the_row.coded) };
 
-    ghost view = { λ w. record { task = w.core.task; state = w.core.state; waiting = w.waiting } };
+    ghost view = { λ w. worker_of w.core w.waiting };
 
     ghost invariant = { λ w. record {
-      reached : (log : List Exchange) × IsReached (record { task = w.core.task; state = w.core.state; waiting = w.waiting }) log;
+      reached : (log : List Exchange) × IsReached (worker_of w.core w.waiting) log;
       task : IsTask w.core.task;
       copy : w.waiting ≡ false → IsCopy w.core.state.stage w.copy;
     } };
@@ -73,11 +76,13 @@ impl Worker {
             core: Core::new(alloc, problem, number),
             copy: None,
             waiting: false,
+            ahead: 0,
         }
     }
 
     /// What it asks next; the last request must be answered. A note that is posted is given away.
     /// Takes no memory.
+    #[inline(always)]
     pub fn request(&mut self) -> Request
         requires { self.old.waiting ≡ false }
         ensures request { result ≡ asks self.old.state }
@@ -99,6 +104,7 @@ impl Worker {
     /// billion came before; numbers are from 1 to the cap; a note is about the child that was
     /// looked at, for the attacker, and holds on the path, or is lent, and may be carried to it.
     /// Where memory is wanting it winds up.
+    #[inline(always)]
     pub fn advance(&mut self, alloc: Global, answer: Reply)
         requires waiting { self.old.waiting ≡ true }
         requires fits { Fits self.old.task self.old.state answer }
@@ -149,6 +155,16 @@ impl Worker {
         count_laws();
         self.waiting = false;
         self.core.starve();
+    }
+
+    /// Has a port read ahead, where the worker is about to look at the children of a position, the
+    /// first of them next. Takes no memory.
+    pub fn read_ahead<P: Port>(&mut self, port: &P)
+        ensures { self.new ≡ self.old }
+    {
+        if let Some(children) = self.core.first_looks() {
+            self.ahead = port.read_ahead(children);
+        }
     }
 
     /// The keys of the attacker's positions that it is visiting, the problem's first: the path by

@@ -83,6 +83,7 @@ pub fn work<P: Port>(alloc: Global, worker: &mut Worker, port: &mut P) -> WorkEn
             worker.laws();
             return end;
         }
+        worker.read_ahead(&*port);
     }
 }
 

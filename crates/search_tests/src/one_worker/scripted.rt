@@ -12,6 +12,7 @@ use pn_numbers::Numbers;
 use search_limits::Settings;
 use shogi_rules::Problem;
 use std::alloc::{AllocError, Global};
+use visit_log::Child;
 use worker_core::Port;
 
 #[derive(Drop)]
@@ -90,6 +91,10 @@ impl Port for Scripted {
     fn leave(&mut self, kept: Kept, key: &Key, update: Update) {
         self.leaves = self.leaves.wrapping_add(1);
         self.port.leave(kept, key, update);
+    }
+
+    fn read_ahead(&self, children: &[Child]) -> u64 {
+        self.port.read_ahead(children)
     }
 
     fn post(&mut self, note: Note) {

@@ -4,7 +4,9 @@ use Rattle.visit_log.specs.declared.parts.Child.{Child}
 use Rattle.std.proofs.lemmas.Option.{get_or_from_slice_get, slice_get_within}
 use Rattle.board_core.specs.Board.{Board}
 use Rattle.board_core.specs.Key.{key_of}
+use Rattle.board_core.proofs.KeyExact.{key_exact}
 use Rattle.shogi_rules.specs.Rules.{after}
+use Rattle.shogi_rules.proofs.Offered.{kept_after}
 use Rattle.notes.specs.Derivation.{Derivation, carried, position_of}
 use Rattle.notes.specs.Valid.{IsValid}
 use Rattle.notes.specs.Lending.{IsLentTo}
@@ -59,13 +61,10 @@ returns-in-Solved-clause-told c =
     let child = known.child in
     let start = child.numbers in
     let note = c.in-Solved.note in
-    let one : Child = get_or xs place c.index-children-place-in-Solved.result in
-    let is : one ≡ child = get_or_from_slice_get xs place child c.index-children-place-in-Solved.result known.there in
     let fact : IsFactOn side child.key known.path note = subst (λ (s : Seen). MayShow side child.key known.path s) c.in-Solved.is known.may in
-    let reached : c.apply.result ≡ after b child.by = c.apply.ensures.position ∙ ap (λ (z : Child). after b z.by) is in
-    let key : key_of (position_of note) ≡ c.key-key.result.0 = fact.about ∙ (known.key ∙ (ap key_of (sym reached) ∙ sym c.key-key.ensures.words)) in
     let about : position_of note ≡ after b child.by =
-    c.key-key.ensures.injective (position_of note) (valid_kept note c.laws.ensures.valid) key ∙ reached in (
+    key_exact (position_of note) (after b child.by) (valid_kept note c.laws.ensures.valid)
+    (kept_after b child.by c.laws-in-Solved.ensures known.legal) (fact.about ∙ known.key) in (
       record { place = place; child = child; seen = c.args.seen; start = start },
       refl,
       refl,

@@ -1,4 +1,7 @@
-use Rattle.std.proofs.Common.{◌++◌, []}
+use Rattle.std.proofs.Common.{◌≡◌, ◌<◌, ◌++◌, [], false, sym, subst}
+use Rattle.visit_log.specs.Run.{WorkerView}
+use Rattle.visit_log.specs.Counts.{to_come}
+use Rattle.worker_core.specs.Port.{Suits, KeepsOthers, WentBy}
 use Rattle.worker_core.proofs.Turns.{went_none, keeps_none, went_on, keeps_on, whole_on}
 use Rattle.worker_core.proofs.working.work.Goals as goal
 
@@ -41,18 +44,24 @@ pub returns-in-Some-clause-ended : goal.returns-in-Some-clause-ended
 returns-in-Some-clause-ended g c = c.in-Some.ensures.ended
 
 pub turns-smaller : goal.turns-smaller
-turns-smaller g c = c.in_default.ensures.less
+turns-smaller g c = subst (λ (w : WorkerView). to_come w.state < to_come c.turns.worker.state) (sym c.read_ahead.ensures) c.in_default.ensures.less
 
 pub turns-preserved : goal.turns-preserved
 turns-preserved g c =
     let i = c.turns.invariant in
     let e = c.in_default.ensures in
+    let first = c.args.worker.now in
+    let before = c.args.port.now in
+    let port = c.turn.new.port in
+    let back = sym c.read_ahead.ensures in
     record {
-      idle = e.idle;
-      suits = e.suits;
+      idle = subst (λ (w : WorkerView). w.waiting ≡ false) back e.idle;
+      suits = subst (λ (w : WorkerView). Suits w (g.P.Port.book port)) back e.suits;
       went = (
         i.went.0 ++ e.went.0,
-        went_on g.P.Port.turn c.args.port.now c.turns.port c.turn.new.port c.args.worker.now c.turns.worker c.turn.new.worker i.went.0 e.went.0 i.went.1 e.went.1,
+        subst (λ (w : WorkerView). WentBy g.P.Port.turn before port first w (i.went.0 ++ e.went.0)) back
+            (went_on g.P.Port.turn before c.turns.port port first c.turns.worker c.turn.new.worker i.went.0 e.went.0 i.went.1 e.went.1),
       );
-      others = keeps_on c.args.worker.now c.turns.worker c.turn.new.worker (g.P.Port.book c.args.port.now) (g.P.Port.book c.turns.port) (g.P.Port.book c.turn.new.port) i.others e.others;
+      others = subst (λ (w : WorkerView). KeepsOthers first w (g.P.Port.book before) (g.P.Port.book port)) back
+          (keeps_on first c.turns.worker c.turn.new.worker (g.P.Port.book before) (g.P.Port.book c.turns.port) (g.P.Port.book port) i.others e.others);
     }

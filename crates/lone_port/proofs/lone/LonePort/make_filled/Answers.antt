@@ -1,6 +1,5 @@
 use Rattle.std.proofs.Common.{rules, ◌≡◌, ◌<◌, List, sym, subst, arith}
 use Rattle.std.specs.Prelude.{All}
-use Rattle.bit_boards.specs.declared.piece.Side.{Side}
 use Rattle.board_core.specs.Board.{Board}
 use Rattle.table_shard.specs.Entry.{EntryView}
 use Rattle.table_shard.specs.Known.{TakesNotes}

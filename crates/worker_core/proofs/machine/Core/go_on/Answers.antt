@@ -1,13 +1,21 @@
-use Rattle.std.proofs.Common.{refl, subst}
-use Rattle.visit_log.specs.Machine.{State, GoesOn}
-use Rattle.worker_core.specs.Stack.{HasOver}
+use Rattle.std.proofs.Common.{sym, subst, refl}
+use Rattle.visit_log.specs.declared.parts.Stage.TheVariants.{Looking}
+use Rattle.visit_log.specs.Frame.{Task}
+use Rattle.visit_log.specs.Machine.{State, Settles, GoesOn}
+use Rattle.worker_core.specs.Stack.{HasTop, HasOver}
 use Rattle.worker_core.specs.Machine.{CoreView}
-use Rattle.worker_core.proofs.Steps.{goes_on}
+use Rattle.worker_core.proofs.Played.{looks_on}
 use Rattle.worker_core.proofs.machine.Core.go_on.Goals as goal
 
-pub returns-clause-on : goal.returns-clause-on
-returns-clause-on c =
-    let s : State = record { stage = c.self.inside.stage; frames = c.self.inside.stack.frames; visits = c.self.inside.visits; claims = c.self.inside.claims } in
-    let t : State = record { stage = c.settle.result; frames = c.settle.new.self.frames; visits = c.self.inside.visits; claims = c.self.inside.claims } in
-    subst (λ (z : CoreView). HasOver (λ f fs. GoesOn z.task z.state f fs t) z.state.frames) c.self.view_is
-    (goes_on c.self.inside.stack.task s t c.self.inside.stack.frames c.settle.ensures.settles refl refl)
+pub returns-in-Some-clause-on : goal.returns-in-Some-clause-on
+returns-in-Some-clause-on c =
+    let place = c.in-Some.place in
+    let task = c.args.self.now.task in
+    let s : State = c.args.self.now.state in
+    let has : HasTop (λ f. (task : Task) → Settles task f (Looking place) f) s.frames =
+    subst (λ (z : CoreView). HasTop (λ f. (task : Task) → Settles task f (Looking place) f) z.state.frames) c.self.view_is c.in-Some.ensures in
+    subst (λ (t : State). HasOver (λ f fs. GoesOn task s f fs t) s.frames) (sym c.look_at.ensures.state)
+    (looks_on s place task s.frames refl has)
+
+pub returns-in-None-clause-on : goal.returns-in-None-clause-on
+returns-in-None-clause-on c = c.settle.ensures.on

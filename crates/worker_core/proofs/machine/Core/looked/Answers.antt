@@ -1,6 +1,6 @@
-use Rattle.std.proofs.Common.{List, refl, subst, sym, ap, ◌∙◌}
+use Rattle.std.proofs.Common.{List, refl, subst, sym, ap}
 use Rattle.board_core.specs.declared.keys.Key.{Key}
-use Rattle.visit_log.specs.Frame.{Task, FrameView}
+use Rattle.visit_log.specs.Frame.{Task}
 use Rattle.visit_log.specs.Machine.{State, GoesOn, Sees, MayShowAt}
 use Rattle.visit_log.specs.Sound.{IsListed, IsSoundVisit, IsLookedAt}
 use Rattle.worker_core.specs.Stack.{StackView, HasTop, HasOver}
