@@ -76,9 +76,9 @@ pub fn attackers_without(position: &Position, lifted: Square, to: Square, by: Si
     attackers_over(position, position.all_occupied().without(lifted), to, by)
 }
 
-// Squares with pieces of the side, among them all whose piece would go to one of the squares on an
-// empty board.
-fn candidates_for(position: &Position, by: Side, squares: Mask) -> Mask
+/// Squares with pieces of a side, among them all whose piece would go to one of the squares on an
+/// empty board. Takes no memory. (Rules of shogi: movement of the pieces.)
+pub fn candidates_for(position: &Position, by: Side, squares: Mask) -> Mask
     ensures { (from to : ℕ) → from < 81 → Holds squares to
         → IsSomeAnd (piece_at position.now.cells from) (λ piece. (piece.side ≡ by)
         × IsTrue (fits piece from to)) → Holds result from }

@@ -8,7 +8,8 @@ mod reach;
 mod sight;
 
 pub use attacking::{
-    attacked_without, attackers, attackers_without, blocks, count_attackers, shields,
+    attacked_without, attackers, attackers_without, blocks, candidates_for, count_attackers,
+    shields,
 };
 pub use reach::reached;
 pub use sight::Sight;

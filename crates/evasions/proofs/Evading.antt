@@ -1,7 +1,8 @@
 -- When a move is an evasion, by the sets of squares that are made of legal moves.
-use Rattle.std.proofs.Common.{◌≡◌, ◌↔◌, ℕ, Bool, true, refl, ◌∙◌, nat_lt}
+use Rattle.std.proofs.Common.{◌≡◌, ◌<◌, ◌↔◌, ℕ, Bool, refl, ◌∙◌, nat_lt}
 use Rattle.std.proofs.lemmas.Bool.{lt-ltb}
-use Rattle.board_laws.proofs.Cells.{own_is, no_king_in}
+use Rattle.board_laws.proofs.Cells.{no_king_in}
+use Rattle.list_laws.proofs.Filling.{FromOwn}
 use Rattle.bit_boards.specs.declared.square.Square.{Square}
 use Rattle.bit_boards.specs.declared.piece.Kind.{Kind}
 use Rattle.bit_boards.specs.declared.piece.Kind.TheVariants.{King}
@@ -12,11 +13,9 @@ use Rattle.bit_boards.specs.Kind.{other}
 use Rattle.bit_boards.specs.Mask.{holds, Holds}
 use Rattle.board_core.specs.declared.moves.Move.{Move}
 use Rattle.board_core.specs.declared.moves.Move.TheVariants as moves
-use Rattle.board_core.specs.Board.{Board, piece_at}
+use Rattle.board_core.specs.Board.{Board}
 use Rattle.board_core.specs.Kept.{IsKept}
-use Rattle.board_core.specs.Sets.{is_of_side}
 use Rattle.shogi_rules.specs.declared.illegal.Illegal.TheVariants.{NotInHand}
-use Rattle.shogi_rules.specs.Laws.{LegalBoardMoves}
 use Rattle.shogi_rules.specs.Tsume.{IsEvasion}
 use Rattle.legal_moves.specs.Legal.{IsLegalBoard, IsLegalDrop}
 
@@ -57,11 +56,11 @@ drops_exact b dropped full squares all are to = (
   (λ evasion. (are to.number).1 (all to.number ∙ lt-ltb to.number 81 to.on_board, (drop_evasion b dropped to).1 evasion)),
 )
 
--- an evasion goes from a square with a piece of the side to move
-pub evasion_from : LegalBoardMoves → (b : Board) (from to : Square) (promote : Bool) → Evasion b (moves.Board from to promote)
-    → is_of_side b.side (piece_at b.cells from.number) ≡ true
-evasion_from law b from to promote evasion =
-    own_is (piece_at b.cells from.number) b.side ((law b from.number to.number promote).0 ((board_evasion b from to promote).1 evasion)).own
+-- an evasion goes from a square that any legal move may go from
+pub evasion_from : (b : Board) (movers : Mask)
+    → ((from to : ℕ) (promote : Bool) → from < 81 → to < 81 → IsLegalBoard b from to promote → Holds movers from) → FromOwn (Evasion b) (holds movers)
+evasion_from b movers all from to promote evasion =
+    all from.number to.number promote from.on_board to.on_board ((board_evasion b from to promote).1 evasion)
 
 -- no evasion drops a king
 pub no_king_drop : (b : Board) → IsKept b → (to : Square) → Evasion b (moves.Drop King to) → ⊥

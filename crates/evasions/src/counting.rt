@@ -11,7 +11,7 @@ ghost use Rattle.evasions.specs.Before.{AreEvasionsBefore, AreDropSquares};
 use bit_boards::Mask;
 use board_core::{Kind, Position, order_laws, value_laws};
 use legal_moves::{Guard, Landings};
-use shogi_rules::{Problem, legal_laws};
+use shogi_rules::Problem;
 
 // How many legal moves on the board there are.
 fn count_board_moves(guard: &Guard, position: &Position) -> u32
@@ -19,11 +19,10 @@ fn count_board_moves(guard: &Guard, position: &Position) -> u32
     ensures are { AreEvasionsBefore position.now 13122 result }
     ensures to { result ≤ 13122 }
 {
-    // No two moves have one place in the order, and a legal move is one of an own piece.
+    // No two moves have one place in the order.
     order_laws();
-    legal_laws();
     let mut count = 0;
-    let mut left = position.occupied(position.side());
+    let mut left = guard.movers(position);
     while let Some(from) = left.pop_first() {
         let found = guard.board_moves(position, from, Landings::full());
         count += u32::from(found.plain.len()) + u32::from(found.promoted.len());

@@ -11,7 +11,7 @@ use bit_boards::Mask;
 use board_core::{Kind, Position, order_laws, value_laws};
 use legal_moves::{Guard, Landings};
 use move_lists::Moves;
-use shogi_rules::{Problem, legal_laws};
+use shogi_rules::Problem;
 use std::alloc::{AllocError, Global};
 
 // Adds the legal moves on the board.
@@ -21,12 +21,10 @@ fn add_board_moves(moves: &mut Moves, guard: &Guard, position: &Position) -> Res
     ensures { OnOk result
         (Lists (IsEvasionBefore (other position.now.side) position.now 13122) moves.new) }
 {
-    // No two moves have one place in the order, no two squares one number; and what a legal move
-    // has.
+    // No two moves have one place in the order, and no two squares one number.
     order_laws();
     value_laws();
-    legal_laws();
-    let mut left = position.occupied(position.side());
+    let mut left = guard.movers(position);
     while let Some(from) = left.pop_first() {
         let found = guard.board_moves(position, from, Landings::full());
         moves.add_board(from, found.plain, found.promoted)?;

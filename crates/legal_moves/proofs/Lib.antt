@@ -3,3 +3,4 @@ pub mod Sheltered
 pub mod Dropping
 pub mod Unshielded
 pub mod Stepping
+mod Movers

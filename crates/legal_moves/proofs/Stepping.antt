@@ -167,6 +167,19 @@ goes_of b from piece reached occupied minus wanted squares safe on_board own rea
       (are to promote).1 (shared _ _ _ (both to) m h.0, h.1.safe)),
 )
 
+-- a piece that reaches none of the squares goes to none
+pub goes_none : (b : Board) (from : ℕ) (piece : Piece) (reached occupied minus wanted squares : Mask) → piece.side ≡ b.side
+    → ((s : ℕ) → Holds reached s ↔ ((s < 81) × Reaches b.cells piece from s))
+    → ((s : ℕ) → holds occupied s ≡ is_of_side piece.side (piece_at b.cells s)) → ((s : ℕ) → holds minus s ≡ (holds reached s && not (holds occupied s)))
+    → ((s : ℕ) → holds squares s ≡ (holds minus s && holds wanted s)) → ((s : ℕ) → holds squares s ≡ false)
+    → (to : ℕ) (promote : Bool) → Holds squares to ↔ (Holds wanted to × MayGo b from to promote piece)
+goes_none b from piece reached occupied minus wanted squares own reach is less both none to promote = (
+  (λ has. absurd (both_ways _ (none to) has)),
+  (λ h.
+      let m = remains _ _ _ (less to) ((reach to).1 (h.1.on_board, h.1.reach)) (not_occupied b piece.side to (holds occupied to) own (is to) h.1.free) in
+      absurd (both_ways _ (none to) (shared _ _ _ (both to) m h.0))),
+)
+
 -- what may go and be promoted so, or not, is legal
 legal_of : LegalBoardMoves → (b : Board) (from to : ℕ) (promote : Bool) (piece : Piece) → piece_at b.cells from ≡ Some piece → piece.side ≡ b.side
     → MayGo b from to promote piece → IsTrue (promotion_fits piece from to promote) → IsLegalBoard b from to promote
@@ -205,48 +218,58 @@ dead_of dead true false e h = e
 dead_of dead false false e h = e
 
 -- unpromoted moves
-pub plain_moves : MasksOnBoard → LegalBoardMoves → (b : Board) (from : ℕ) (piece : Piece) (wanted dead plain promoted both safe result : Mask)
+pub plain_moves : MasksOnBoard → LegalBoardMoves → (b : Board) (from : ℕ) (piece : Piece) (wanted promoted dead left both safe result : Mask)
     → piece_at b.cells from ≡ Some piece → piece.side ≡ b.side
-    → ((s : ℕ) → holds dead s ≡ (nat_lt s 81 && is_dead s (Some piece))) → ((s : ℕ) → holds plain s ≡ (holds wanted s && not (holds dead s)))
-    → ((s : ℕ) → holds both s ≡ (holds plain s || holds promoted s))
+    → ((s : ℕ) → holds dead s ≡ (nat_lt s 81 && is_dead s (Some piece))) → ((s : ℕ) → holds left s ≡ (holds wanted s && not (holds dead s)))
+    → ((s : ℕ) → holds both s ≡ (holds wanted s || holds promoted s))
     → ((to : ℕ) (promote : Bool) → Holds safe to ↔ (Holds both to × MayGo b from to promote piece))
-    → ((s : ℕ) → holds result s ≡ (holds plain s && holds safe s))
+    → ((s : ℕ) → holds result s ≡ (holds left s && holds safe s))
     → (to : ℕ) → Holds result to ↔ (Holds wanted to × IsLegalBoard b from to false)
-plain_moves on_board law b from piece wanted dead plain promoted both safe result there own are_dead is_plain is_both are is to = (
+plain_moves on_board law b from piece wanted promoted dead left both safe result there own are_dead is_left is_both are is to = (
   (λ has.
       let p = first_of _ _ _ (is to) has in
       let g = ((are to false).0 (second_of _ _ _ (is to) has)).1 in (
-        first_of _ _ _ (is_plain to) p,
+        first_of _ _ _ (is_left to) p,
         legal_of law b from to false piece there own g
-            (alive_of _ _ _ (are_dead to) (lt-ltb to 81 g.on_board) (not_taken _ _ _ (is_plain to) p)),
+            (alive_of _ _ _ (are_dead to) (lt-ltb to 81 g.on_board) (not_taken _ _ _ (is_left to) p)),
       )),
   (λ h.
       let low = on_board wanted to h.0 in
       let g = go_of law b from to false piece there low h.1 in
-      let p = remains _ _ _ (is_plain to) h.0 (dead_of _ _ _ (are_dead to) g.1) in
-      shared _ _ _ (is to) p ((are to false).1 (from_first _ _ _ (is_both to) p, g.0))),
+      let p = remains _ _ _ (is_left to) h.0 (dead_of _ _ _ (are_dead to) g.1) in
+      shared _ _ _ (is to) p ((are to false).1 (from_first _ _ _ (is_both to) h.0, g.0))),
 )
 
 -- promoted moves
-pub promoted_moves : MasksOnBoard → LegalBoardMoves → (b : Board) (from : ℕ) (piece : Piece) (wanted promotable plain promoted both safe result : Mask)
+pub promoted_moves : MasksOnBoard → LegalBoardMoves → (b : Board) (from : ℕ) (piece : Piece) (plain wanted promotable left both safe result : Mask)
     → piece_at b.cells from ≡ Some piece → piece.side ≡ b.side
-    → ((s : ℕ) → holds promotable s ≡ (nat_lt s 81 && promotion_fits piece from s true)) → ((s : ℕ) → holds promoted s ≡ (holds wanted s && holds promotable s))
-    → ((s : ℕ) → holds both s ≡ (holds plain s || holds promoted s))
+    → ((s : ℕ) → holds promotable s ≡ (nat_lt s 81 && promotion_fits piece from s true)) → ((s : ℕ) → holds left s ≡ (holds wanted s && holds promotable s))
+    → ((s : ℕ) → holds both s ≡ (holds plain s || holds wanted s))
     → ((to : ℕ) (promote : Bool) → Holds safe to ↔ (Holds both to × MayGo b from to promote piece))
-    → ((s : ℕ) → holds result s ≡ (holds promoted s && holds safe s))
+    → ((s : ℕ) → holds result s ≡ (holds left s && holds safe s))
     → (to : ℕ) → Holds result to ↔ (Holds wanted to × IsLegalBoard b from to true)
-promoted_moves on_board law b from piece wanted promotable plain promoted both safe result there own may is_promoted is_both are is to = (
+promoted_moves on_board law b from piece plain wanted promotable left both safe result there own may is_left is_both are is to = (
   (λ has.
       let p = first_of _ _ _ (is to) has in
       let g = ((are to true).0 (second_of _ _ _ (is to) has)).1 in (
-        first_of _ _ _ (is_promoted to) p,
-        legal_of law b from to true piece there own g (second_of _ _ _ (may to) (second_of _ _ _ (is_promoted to) p)),
+        first_of _ _ _ (is_left to) p,
+        legal_of law b from to true piece there own g (second_of _ _ _ (may to) (second_of _ _ _ (is_left to) p)),
       )),
   (λ h.
       let low = on_board wanted to h.0 in
       let g = go_of law b from to true piece there low h.1 in
-      let p = shared _ _ _ (is_promoted to) h.0 (shared _ _ _ (may to) (lt-ltb to 81 low) g.1) in
-      shared _ _ _ (is to) p ((are to true).1 (from_second _ _ _ (is_both to) p, g.0))),
+      let p = shared _ _ _ (is_left to) h.0 (shared _ _ _ (may to) (lt-ltb to 81 low) g.1) in
+      shared _ _ _ (is to) p ((are to true).1 (from_second _ _ _ (is_both to) h.0, g.0))),
+)
+
+-- from where a piece goes nowhere there is no legal move, promoting or not
+pub no_moves : MasksOnBoard → LegalBoardMoves → (b : Board) (from : ℕ) (piece : Piece) (wanted both safe : Mask) → piece_at b.cells from ≡ Some piece
+    → ((s : ℕ) → Holds wanted s → Holds both s)
+    → ((to : ℕ) (promote : Bool) → Holds safe to ↔ (Holds both to × MayGo b from to promote piece)) → ((s : ℕ) → holds safe s ≡ false)
+    → (to : ℕ) (promote : Bool) → Holds safe to ↔ (Holds wanted to × IsLegalBoard b from to promote)
+no_moves on_board law b from piece wanted both safe there among are none to promote = (
+  (λ has. absurd (both_ways _ (none to) has)),
+  (λ h. absurd (both_ways _ (none to) ((are to promote).1 (among to h.0, (go_of law b from to promote piece there (on_board wanted to h.0) h.1).0)))),
 )
 
 -- without an own piece there is no legal move

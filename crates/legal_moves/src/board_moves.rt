@@ -10,10 +10,14 @@ ghost use Rattle.legal_moves.specs.Steps.{KeepsKing, IsOpenTo, LeavesFor, MayGo,
 use crate::guard::Guard;
 use crate::landings::Landings;
 use crate::rows::{dead, promotable};
-use attack_lines::{attacked_without, attackers_without, blocks, reached};
+use attack_lines::{attacked_without, attackers_without, blocks, candidates_for, reached};
 use bit_boards::{Mask, mask_laws};
 use board_core::{Kind, Piece, Position, Square};
 use shogi_rules::legal_laws;
+
+// On how many squares a piece stops an attack from afar: it takes the attacker, or stands on one of
+// at most seven between.
+const MOST_BLOCKS: u8 = 8;
 
 // The piece on the square, where one of the side to move stands there.
 fn own_piece(position: &Position, square: Square) -> Option<Piece>
@@ -111,6 +115,9 @@ impl Guard {
         let to = reached(position, piece, from)
             .minus(position.occupied(piece.side))
             .and(wanted);
+        if to.is_empty() {
+            return to;
+        }
         self.safe(position, piece, from, to)
     }
 
@@ -133,12 +140,16 @@ impl Guard {
         // Sets hold nothing but squares of the board; and what a legal move has.
         mask_laws();
         legal_laws();
-        let plain = wanted.plain.minus(dead(piece));
-        let promoted = wanted.promoted.and(promotable(piece, from));
-        let safe = self.goes(position, piece, from, plain.or(promoted));
+        let safe = self.goes(position, piece, from, wanted.plain.or(wanted.promoted));
+        if safe.is_empty() {
+            return Landings {
+                plain: safe,
+                promoted: safe,
+            };
+        }
         Landings {
-            plain: plain.and(safe),
-            promoted: promoted.and(safe),
+            plain: wanted.plain.minus(dead(piece)).and(safe),
+            promoted: wanted.promoted.and(promotable(piece, from)).and(safe),
         }
     }
 
@@ -164,6 +175,29 @@ impl Guard {
                 plain: Mask::empty(),
                 promoted: Mask::empty(),
             },
+        }
+    }
+
+    /// Squares with pieces of the side to move, among them all from which there is a legal move:
+    /// where its king is attacked, his own, and those of pieces that would go on an empty board to
+    /// where the attack is stopped. The guard must be that of this position. Takes no memory.
+    /// (Rules of shogi: legal moves.)
+    pub fn movers(&self, position: &Position) -> Mask
+        requires { IsGuardOf position.now self.now }
+        ensures own { (from : ℕ) → Holds result from → IsOwn position.now from }
+        ensures all { (from to : ℕ) (promote : Bool) → from < 81 → to < 81
+            → IsLegalBoard position.now from to promote → Holds result from }
+    {
+        // What a legal move has; and every position has 81 squares.
+        legal_laws();
+        position.laws();
+        let own = position.occupied(position.side());
+        match self.king {
+            Some(king) if self.blocks.len() <= MOST_BLOCKS => {
+                let stopping = candidates_for(position, position.side(), self.blocks);
+                stopping.with(king).and(own)
+            }
+            _ => own,
         }
     }
 
@@ -202,7 +236,7 @@ impl Guard {
         if self.has_king_move(position) {
             return true;
         }
-        let mut left = position.occupied(position.side());
+        let mut left = self.movers(position);
         while let Some(from) = left.pop_first() {
             if self.has_move_from(position, from) {
                 return true;

@@ -9,7 +9,7 @@ use Rattle.evasions.proofs.counting.count_board_moves.Goals as goal
 pub loop-from-init : goal.loop-from-init
 loop-from-init c = record {
   moves = [];
-  fills = fills_none (Evasion c.args.position.now) (holds c.occupied-left.result);
+  fills = fills_none (Evasion c.args.position.now) (holds c.movers-left.result);
   long = refl;
   few = omega arith;
 }
@@ -20,10 +20,9 @@ loop-from-preserved c =
     let P = Evasion b in
     let from = c.in-Some.from in
     let popped = c.in-Some.ensures in
-    let own : FromOwn P (holds c.occupied-left.result) = λ f t p evasion.
-    rw c.side.ensures at (c.occupied-left.ensures f.number) ∙ evasion_from c.legal_laws.ensures.board b f t p evasion in
+    let own : FromOwn P (holds c.movers-left.result) = evasion_from b c.movers-left.result c.movers-left.ensures.all in
     let i = c.loop-from.invariant in
-    let before = fills_to c.order_laws.ensures.origins P (holds c.occupied-left.result) (holds c.loop-from.left) i.moves from.number
+    let before = fills_to c.order_laws.ensures.origins P (holds c.movers-left.result) (holds c.loop-from.left) i.moves from.number
     own from.on_board popped.found popped.least i.fills in
     let now = from_counted c.order_laws.ensures.apart P from c.board_moves-found.result.plain c.board_moves-found.result.promoted c.loop-from.count
     c.from.result c.from-in-Some.result
@@ -35,7 +34,7 @@ loop-from-preserved c =
     let within = from.on_board in
     record {
       moves = now.moves;
-      fills = fills_more P (holds c.occupied-left.result) (holds c.loop-from.left) (holds c.pop_first.new.self) i.moves now.moves from.number
+      fills = fills_more P (holds c.movers-left.result) (holds c.loop-from.left) (holds c.pop_first.new.self) i.moves now.moves from.number
           from.on_board popped.found popped.least
           (λ t has. taken_out _ _ t from.number (popped.rest t) has)
           (λ t has apart. stays_in _ _ t from.number (popped.rest t) has apart)
@@ -48,11 +47,10 @@ pub returns-clause-are : goal.returns-clause-are
 returns-clause-are c =
     let b = c.args.position.now in
     let P = Evasion b in
-    let own : FromOwn P (holds c.occupied-left.result) = λ f t p evasion.
-    rw c.side.ensures at (c.occupied-left.ensures f.number) ∙ evasion_from c.legal_laws.ensures.board b f t p evasion in
+    let own : FromOwn P (holds c.movers-left.result) = evasion_from b c.movers-left.result c.movers-left.ensures.all in
     let i = c.loop-from.invariant in
     record {
       moves = i.moves;
-      lists = fills_all c.order_laws.ensures.origins P (holds c.occupied-left.result) (holds c.loop-from.left) i.moves own c.in_default.ensures.none i.fills;
+      lists = fills_all c.order_laws.ensures.origins P (holds c.movers-left.result) (holds c.loop-from.left) i.moves own c.in_default.ensures.none i.fills;
       long = i.long;
     }

@@ -8,7 +8,7 @@ use Rattle.evasions.proofs.listing.add_board_moves.Goals as goal
 
 pub loop-from-init : goal.loop-from-init
 loop-from-init c =
-    let own = holds c.occupied-left.result in
+    let own = holds c.movers-left.result in
     let P = Evasion c.args.position.now in
     subst (λ (xs : List Move). Fills P own own xs) (sym c.requires.empty) (fills_none P own)
 
@@ -18,11 +18,10 @@ loop-from-preserved c =
     let P = Evasion b in
     let from = c.in-Some.from in
     let popped = c.in-Some.ensures in
-    let own : FromOwn P (holds c.occupied-left.result) = λ f t p evasion.
-    rw c.side.ensures at (c.occupied-left.ensures f.number) ∙ evasion_from c.legal_laws.ensures.board b f t p evasion in
-    let before = fills_to c.order_laws.ensures.origins P (holds c.occupied-left.result) (holds c.loop-from.left) c.loop-from.moves from.number
+    let own : FromOwn P (holds c.movers-left.result) = evasion_from b c.movers-left.result c.movers-left.ensures.all in
+    let before = fills_to c.order_laws.ensures.origins P (holds c.movers-left.result) (holds c.loop-from.left) c.loop-from.moves from.number
     own from.on_board popped.found popped.least c.loop-from.invariant in
-    fills_more P (holds c.occupied-left.result) (holds c.loop-from.left) (holds c.pop_first.new.self) c.loop-from.moves c.add_board.new.self from.number
+    fills_more P (holds c.movers-left.result) (holds c.loop-from.left) (holds c.pop_first.new.self) c.loop-from.moves c.add_board.new.self from.number
     from.on_board popped.found popped.least
     (λ t has. taken_out _ _ t from.number (popped.rest t) has)
     (λ t has apart. stays_in _ _ t from.number (popped.rest t) has apart)
@@ -37,6 +36,5 @@ pub returns : goal.returns
 returns c =
     let b = c.args.position.now in
     let P = Evasion b in
-    let own : FromOwn P (holds c.occupied-left.result) = λ f t p evasion.
-    rw c.side.ensures at (c.occupied-left.ensures f.number) ∙ evasion_from c.legal_laws.ensures.board b f t p evasion in
-    fills_all c.order_laws.ensures.origins P (holds c.occupied-left.result) (holds c.loop-from.left) c.loop-from.moves own c.in_default.ensures.none c.loop-from.invariant
+    let own : FromOwn P (holds c.movers-left.result) = evasion_from b c.movers-left.result c.movers-left.ensures.all in
+    fills_all c.order_laws.ensures.origins P (holds c.movers-left.result) (holds c.loop-from.left) c.loop-from.moves own c.in_default.ensures.none c.loop-from.invariant

@@ -1,12 +1,9 @@
 use Rattle.std.proofs.Common.{refl}
 use Rattle.std.proofs.lemmas.Bool.{both_ways}
-use Rattle.legal_moves.proofs.Stepping.{occupied_of}
 use Rattle.legal_moves.proofs.guard.Guard.has_board_move.Goals as goal
 
 pub loop-from-init : goal.loop-from-init
-loop-from-init c = λ from low none m.
-    absurd (both_ways _ none (occupied_of c.args.position.now c.side.result from _ c.side.ensures (c.occupied-left.ensures from)
-    ((c.legal_laws.ensures.board c.args.position.now from m.to m.promote).0 m.legal).own))
+loop-from-init c = λ from low none m. absurd (both_ways _ none (c.movers-left.ensures.all from m.to m.promote low m.on_board m.legal))
 
 pub returns-then-has_move_from : goal.returns-then-has_move_from
 returns-then-has_move_from c = (
