@@ -9,8 +9,8 @@ use Rattle.cert_check.specs.declared.hearing.Objection.{Objection}
 abbrev pub stretch_end : ℕ → ℕ → ℕ → ℕ
 stretch_end from size count = from + min size (count - from)
 
--- What is found in the stretch of a number: among the entries of a round, from that number of
--- stretches on.
+-- What is found in the stretch of a number: among the entries from one on and before another, from
+-- that number of stretches on.
 abbrev pub IsFoundInStretch : Case → ℕ → ℕ → ℕ → ℕ → Option Objection → Type 0
 IsFoundInStretch case from to size number found =
     IsFoundIn case.certificate case.problem.side (from + number * size) (stretch_end (from + number * size) size to) found

@@ -1,18 +1,47 @@
-// The stretches of a hearing, as jobs that are done side by side.
+// The stretches of a hearing, as jobs that are done side by side until one has an objection.
 ghost use Rattle.std.specs.Prelude.{◌≡◌, ◌<◌, ◌≤◌, ◌*◌, length};
 ghost use Rattle.cert_text.specs.Kinds.{positions_in};
 ghost use Rattle.wide_check.specs.Stretches.{stretch_end};
 
 use cert_check::{Hearing, Objection};
-use side_by_side::Jobs;
+use side_by_side::{Jobs, Until};
 use std::alloc::{AllocError, Global};
+use std::sync::atomic::{AtomicBool, Ordering};
 
-/// The stretches of a round: of its entries so many each, but for the last, which ends where the
-/// round does.
+/// Whether a stretch had an objection: no further one need be heard then.
+#[derive(Drop)]
+pub(crate) struct Objected {
+    is_so: AtomicBool,
+}
+
+impl Objected {
+    /// None had one yet.
+    pub(crate) fn new() -> Objected {
+        Objected {
+            is_so: AtomicBool::new(false),
+        }
+    }
+
+    // One had one.
+    fn tell(&self) {
+        self.is_so.store(true, Ordering::SeqCst);
+    }
+}
+
+impl Until for Objected {
+    fn is_over(&self) -> bool {
+        self.is_so.load(Ordering::SeqCst)
+    }
+}
+
+/// The stretches of the entries from one on and before another: so many each, but for the last,
+/// which ends where these do.
 #[derive(Clone, Copy)]
 pub(crate) struct Stretches<'h, 'c> {
     pub(crate) hearing: &'h Hearing<'c>,
-    /// The round's first entry, and the first behind it.
+    /// Told where a stretch has an objection.
+    pub(crate) objected: &'h Objected,
+    /// The first entry, and the first behind them.
     pub(crate) from: usize,
     pub(crate) to: usize,
     pub(crate) size: usize,
@@ -62,6 +91,10 @@ impl<'h, 'c> Jobs for Stretches<'h, 'c> {
     ) -> Result<Option<Objection>, AllocError> {
         let from = self.from + number * self.size;
         let to = stretch_end(from, self.size, self.to);
-        self.hearing.objection_in(alloc, from, to)
+        let found = self.hearing.objection_in(alloc, from, to)?;
+        if found.is_some() {
+            self.objected.tell();
+        }
+        Ok(found)
     }
 }

@@ -6,7 +6,7 @@ ghost use Rattle.cert_check.specs.declared.verdict.Verdict.{Verdict};
 ghost use Rattle.cert_check.specs.declared.verdict.Verdict.TheVariants.{Accepted};
 ghost use Rattle.wide_check.specs.Stretches.{IsFirstOf, IsFoundInAll};
 
-use crate::stretches::{Stretches, stretch_end};
+use crate::stretches::{Objected, Stretches, stretch_end};
 use cert_check::{Hearing, Objection, Verdict, check, valid_is_accepted, verdict_laws};
 use cert_text::Certificate;
 use shogi_rules::Problem;
@@ -19,9 +19,6 @@ const MOST_ENTRIES: usize = 256;
 
 // How many stretches there are for each piece, where the certificate is long enough.
 const STRETCHES_A_PIECE: usize = 8;
-
-// How many stretches a round has at most for each piece.
-const MOST_STRETCHES: usize = 64;
 
 // How many entries a stretch has: so few that no thread waits long for another.
 fn stretch_size(count: usize, pieces: usize) -> usize
@@ -43,15 +40,8 @@ fn first_of(found: &[Option<Objection>]) -> Option<Objection>
     None
 }
 
-// How many entries the next round has: twice as many, though not more than the most.
-fn next_room(room: usize, most: usize) -> usize
-    ensures { 1 ≤ result }
-{
-    room.saturating_mul(2).min(most).max(1)
-}
-
-// The first objection among all entries. They are heard in rounds, of more and more stretches, and
-// the first round that has an objection is the last.
+// The first objection among all entries. Once a stretch has one no further stretch is heard, and
+// those before it are: so what the first stretches found, as many as were heard, tells it.
 fn first_objection<R: Threads + Sync>(
     rt: &R,
     alloc: Global,
@@ -62,24 +52,22 @@ fn first_objection<R: Threads + Sync>(
 {
     let count = hearing.count();
     let size = stretch_size(count, pieces);
-    let least = size.saturating_mul(pieces.max(1));
-    let mut room = least.max(1);
+    let objected = Objected::new();
     let mut team = Team::new(rt, alloc, pieces)?;
     let mut from = 0;
     while from < count {
-        let to = stretch_end(from, room, count);
-        let round = Stretches {
+        let stretches = Stretches {
             hearing,
+            objected: &objected,
             from,
-            to,
+            to: count,
             size,
         };
-        let found = team.answers(rt, alloc, &round)?;
+        let found = team.first_answers(rt, alloc, &stretches, &objected)?;
         if let Some(objection) = first_of(&found) {
             return Ok(Some(objection));
         }
-        from = to;
-        room = next_room(room, least.saturating_mul(MOST_STRETCHES));
+        from = stretch_end(from, found.len().saturating_mul(size), count);
     }
     Ok(None)
 }
@@ -113,9 +101,7 @@ fn verdict_by<R: Threads + Sync>(
 /// many members, though of no more than there are processors (one where that isn't known), and at
 /// most [`MOST_MEMBERS`](side_by_side::MOST_MEMBERS). A thread that has no entries to hear takes
 /// the next stretch, of at most 256; all look into the one certificate, and nothing of it is
-/// copied. The entries are heard in rounds, of one stretch for each piece at first and twice as
-/// many each time, up to 64: an objection doesn't stop the others of its round, and no further
-/// round begins. Errors: want of memory alone.
+/// copied. Once a stretch has an objection no further one is begun. Errors: want of memory alone.
 pub fn check_wide<R: Threads + Sync>(
     rt: &R,
     alloc: Global,
