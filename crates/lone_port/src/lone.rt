@@ -29,7 +29,7 @@ use worker_core::Port;
 pub struct LonePort {
     shard: Shard,
     // How many visits are below each slot of each row.
-    pins: Vec<[u64; 8]>,
+    pins: Vec<[u32; 8]>,
     desk: Desk,
     // Whether it said neither that all is done or spent nor that there is no room.
     is_going: bool,
@@ -61,7 +61,7 @@ fn to_whom(lends: bool, desk: &Desk) -> Option<Side>
 }
 
 // Counts for so many rows: no visit is below any slot.
-fn no_pins(alloc: Global, rows: usize) -> Result<Vec<[u64; 8]>, AllocError>
+fn no_pins(alloc: Global, rows: usize) -> Result<Vec<[u32; 8]>, AllocError>
     ensures { IfOk result (λ pins. pins.items ≡ replicate rows (replicate 8 0)) }
 {
     let mut pins = Vec::with_capacity(alloc, rows)?;
@@ -86,12 +86,12 @@ const AHEAD: usize = 32;
 
 // What a look reads first of the row at a place: how many entries it has, and how many visits are
 // below the first of its slots.
-fn read_at(shard: &Shard, pins: &[[u64; 8]], place: usize) -> u64 {
+fn read_at(shard: &Shard, pins: &[[u32; 8]], place: usize) -> u64 {
     let below = match pins.get(place) {
         Some(counts) => counts[0],
         None => 0,
     };
-    below ^ shard.count(place) as u64
+    u64::from(below) ^ shard.count(place) as u64
 }
 
 impl LonePort {
@@ -234,7 +234,7 @@ impl LonePort {
         let Some(slot) = self.shard.slot_of(spot, key) else {
             return 0;
         };
-        self.pins[spot.place][slot]
+        u64::from(self.pins[spot.place][slot])
     }
 
     /// What the type keeps, and what its desk and its rows do: what is posted answers the problem,

@@ -16,7 +16,7 @@ use crate::lists::{height_over, joined_tags, shared};
 use crate::{Note, NoteEnd, Rule};
 use board_core::{Key, Move, Position};
 use path_tags::Tag;
-use shogi_rules::{Problem, apply};
+use shogi_rules::Problem;
 use std::alloc::Global;
 use std::slice;
 
@@ -93,8 +93,9 @@ pub fn escape_repeat(
         ≡ note_over (EscapeRepeat evasion) problem.now.position.side position.now (key ∷ []) 1 []) }
     ensures high { ¬ (result ≡ Err TooHigh) }
 {
-    // No other position has the key of the one that the evasion leads to.
-    let _key = board_core::key(&apply(position, evasion));
+    // No other position has the key of the one that the evasion leads to: every position keeps what
+    // tells it by its key.
+    position.laws();
     let tag = Tag::one(alloc, key)?;
     Ok(Note::made(
         alloc,

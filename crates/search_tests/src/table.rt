@@ -27,7 +27,7 @@ fn looked(
     shard: &Shard,
     word: u64,
     path: &Path,
-    pins: &[u64; 8],
+    pins: &[u32; 8],
 ) -> Result<Option<(u32, u32, u64)>, AllocError> {
     let key = key(word);
     Ok(
@@ -46,7 +46,7 @@ fn looked(
 }
 
 // What entering a key answers.
-fn entered(shard: &mut Shard, word: u64, numbers: Numbers, pins: &[u64; 8]) -> Kept
+fn entered(shard: &mut Shard, word: u64, numbers: Numbers, pins: &[u32; 8]) -> Kept
     requires { IsOpen numbers }
 {
     let key = key(word);
@@ -103,7 +103,7 @@ fn a_full_row_gives_up_an_entry_that_no_worker_is_below(rt: HostRuntime) -> Resu
             let wanted = if given_up == Some(word) {
                 None
             } else {
-                Some((2, 3, pins[word as usize]))
+                Some((2, 3, u64::from(pins[word as usize])))
             };
             same(&rt, (pins, word), shown, wanted);
         }

@@ -13,7 +13,7 @@ use std::time::Instant;
 use table_shard::{RowPins, Shard};
 
 // Nobody is below any entry.
-const NOBODY: [u64; 8] = [0; 8];
+const NOBODY: [u32; 8] = [0; 8];
 
 // The numbers that entries are given.
 const NUMBERS: Numbers = Numbers { pn: 2, dn: 3 };

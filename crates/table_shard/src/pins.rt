@@ -25,7 +25,7 @@ pub trait Pins {
 #[derive(Clone, Copy, Debug)]
 pub struct RowPins<'a> {
     /// A count for each slot.
-    pub counts: &'a [u64; 8],
+    pub counts: &'a [u32; 8],
 }
 
 impl<'a> Pins for RowPins<'a> {
@@ -36,7 +36,7 @@ impl<'a> Pins for RowPins<'a> {
     ghost told = { λ before slot count after. TellsCount before.counts.now slot count × (before ≡ after) };
 
     fn count(&mut self, slot: usize) -> u64 {
-        self.counts[slot]
+        u64::from(self.counts[slot])
     }
 }
 

@@ -76,7 +76,7 @@ impl Shard {
     /// Takes all entries out, for the search of another problem, and sets the counts beside each
     /// row that had some to zero, in the time of the rows that have some. The counts are one of
     /// eight for each row, and those beside rows without entries are zero. Takes no memory.
-    pub fn empty(&mut self, pins: &mut [[u64; 8]])
+    pub fn empty(&mut self, pins: &mut [[u32; 8]])
         requires { AreUncounted self.old pins.old }
         ensures rows { self.new ≡ replicate (length self.old) [] }
         ensures pins { pins.new ≡ replicate (length self.old) (replicate 8 0) }
