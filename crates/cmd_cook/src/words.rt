@@ -42,8 +42,8 @@ impl CommandWords for Cook {
                  Behind it comes for each check what shows that it mates or doesn't. Each search\n\
                  behind a check and an evasion has all expansions; the deadline is of the whole.\n\n\
                  With --line it prints such a report for each check of the line, and a word for\n\
-                 all: sound, where each is the only one that mates. The last check's report\n\
-                 doesn't count where there is no evasion to it.\n\n\
+                 all: sound, where each is the only one that mates. Where there is no evasion\n\
+                 to the last check, its report counts for open alone.\n\n\
                  Status: 0 each check is known, 1 one is unknown, 2 words refused, 3 no problem,\n\
                  4 reading failed, 5 writing failed, 6 out of memory.\n\n\
                  Example:\n  echo '4k4/9/4P4/9/9/9/9/9/9 b G 1' | tsume cook",

@@ -87,15 +87,15 @@ fn library_through<
     tell(alloc, &with, input, answer, sink)
 }
 
-/// Solves a problem from a library. The source gives the problem's line, up to the first line
-/// feed, which is read as [`solve`](cmd_solve::solve) reads a text, and behind it a library
+/// Solves a problem from a library. The source gives the problem's line, up to the first line feed,
+/// which is read as [`solve`](cmd_solve::solve) reads a text, and behind it a library
 /// ([`read_library`](library_text::read_library)), in all at most
 /// [`MOST_LIBRARY_BYTES`](crate::MOST_LIBRARY_BYTES). Each certificate is checked for its own
 /// problem, one after the other, and the first that is refused is the answer. Else the problem is
 /// searched, as `solve` searches it, from what those certificates list whose problem has its side
-/// to move, in their order; what the others say isn't used. Writes the answer of `solve` to the
-/// sink, or the line of the refused certificate. Errors: a line that is no problem, with its first
-/// fault; what is no library behind it, with its first fault; a text that is too long; a source or
+/// to move, in their order; what the others say isn't used (of several workers no clause says it).
+/// Writes `solve`'s answer to the sink, or the refused certificate's line. Errors: a line that is
+/// no problem, or no library behind it, with the first fault; a text that is too long; a source or
 /// a sink that failed; want of memory. The gate is passed for each visit of a position, as the
 /// worker that visits it (no clause says it). (The tsume rule; USI protocol: `checkmate`.)
 pub fn solve_with_library<

@@ -22,10 +22,10 @@ impl CommandWords for Usi {
             .about("Serves a mate session in the USI protocol, for boards on screens")
             .after_help(
                 "It reads standard input a line at a time: usi, isready, setoption, position,\n\
-                 go mate MS, go mate infinite, quit; and answers each line before the next. Its\n\
-                 options are Workers, Expansions, Room, Rows, Shards. A search without a time\n\
-                 may want all memory there is; the option Room prevents it. No certificate is\n\
-                 told: solve prints it for the same position.\n\n\
+                 go mate MS, go mate infinite, stop, quit; and answers each line before the\n\
+                 next. Its options are Workers, Expansions, Room, Rows, Shards. A search without\n\
+                 a time may want all memory there is; the option Room prevents it. No\n\
+                 certificate is told: solve prints it for the same position.\n\n\
                  Status: 0 the session is over, 2 words refused, 3 a line of more than 65536\n\
                  bytes or more than 16777216 in all, 4 reading failed, 5 writing failed, 6 out\n\
                  of memory.\n\n\

@@ -13,8 +13,9 @@ use tsume_words::{WordsEnd, end_of, with_program};
 ///
 /// A request for help or for the version is `Help` with clap's text; words that clap refuses are
 /// `Clap` with it. Then come the tests of the command: of a search, in this order, that the rows
-/// and the shards are powers of two and that there are no more shards than rows. A number is what
-/// clap takes for one of its type, `+5` and `05` too. Want of memory is `NoMemory`.
+/// and the shards are powers of two and that there are no more shards than rows; and behind them
+/// that no two options stand beside one another that can't. A number is what clap takes for one of
+/// its type, `+5` and `05` too. Want of memory is `NoMemory`.
 pub fn read_words(alloc: Global, words: &[String]) -> Result<Asked, WordsEnd>
     // What comes back is what the words ask for, with the file that they name; help, a refusal or a
     // test's fault comes only with its cause; each of them comes where its cause is there, and

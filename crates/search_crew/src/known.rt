@@ -104,9 +104,9 @@ fn search_crew_for<R: Threads + Wait + AllocGlobal + Sync, G: Gate, T: Stop + Dr
 /// Searches a problem with the settings' workers, as [`search`](crate::search) does, from notes
 /// that are known: they hold on every path, and are for the problem's attacker. What the first says
 /// that is about the problem's position, or that may be carried to it, is the answer, and nobody
-/// searches. Else the table takes in each note, in order, before a worker begins; with one worker
-/// it is [`search_with_by_one`]. No visit is drawn for that, and no room claimed. Errors: want of
-/// memory alone.
+/// searches. Else the table takes in each note, in order, before a worker begins (of several no
+/// clause says it); with one it is [`search_with_by_one`]. No visit is drawn for that, and no room
+/// claimed. Errors: want of memory alone.
 pub fn search_with<R: Threads + Wait + AllocGlobal + Sync, G: Gate, T: Stop + Drop>(
     rt: &R,
     problem: &Problem,

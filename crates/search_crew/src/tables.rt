@@ -51,7 +51,7 @@ fn for_white(
 }
 
 /// The tables that searches use one after the other, so that their memory is taken once. A table is
-/// emptied for each search, so none knows what another found; it is made anew where the settings
+/// emptied for each search (of several workers' no clause says it); it is made anew where settings
 /// want other rows or shards, and let go where they turn from one worker to several or back.
 #[derive(Drop)]
 pub struct Tables {
@@ -123,10 +123,10 @@ impl Tables {
     /// Searches a problem with the settings' workers: each works in a thread of its own where one
     /// can be made, over one table behind locks and one desk, till it has ended; then their seats
     /// are taken back, and the desk is closed. Where a note was posted, the first one answers the
-    /// problem; else the search gave up, for the first cause that a worker met, and all workers
-    /// come with it, in order. With one worker it takes no lock and waits for nobody, as
-    /// [`search_by_one`](crate::search_by_one). The table is the one that is at hand, emptied in
-    /// the time of the rows that have entries, or made, with all its memory: about 1 KB a row.
+    /// problem; else the search gave up, for the first of expansions, room, height and stop that
+    /// a worker met, and all come with it, in order. With one it takes no lock and waits for
+    /// nobody, as [`search_by_one`](crate::search_by_one). The table is the one that is at hand,
+    /// emptied in the time of the rows that have entries, or made, with all its memory.
     ///
     /// The gate is passed for each visit, by the worker that drew it, with no lock held. Worker w
     /// polls stop w and no other; the stops go with the workers, and come back to their places.
