@@ -51,7 +51,7 @@ fn workers_option<'a>(alloc: Global) -> Arg<'a>
         1,
         u64::from(MOST_WORKERS),
         "Threads that judge the entries side by side, 1 to 64;\n\
-         where nothing is said, as many as there are processors.\n\
+         where nothing is said, one a processor, 32 at most.\n\
          It changes no byte of the output, and takes next to no\n\
          memory",
     )

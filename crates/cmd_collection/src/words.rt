@@ -30,7 +30,7 @@ fn threads_option<'a>(alloc: Global) -> Arg<'a>
         1,
         MOST_THREADS,
         "Problems that are decided side by side, 1 to 64; where\n\
-             nothing is said, as many as there are processors. It\n\
+             nothing is said, one a processor, 32 at most. It\n\
              changes no byte of the output, unless there is a\n\
              deadline. Each takes the memory\n\
              of a search: a table of so many rows, 64 MB where\n\

@@ -54,7 +54,7 @@ fn library_flag<'a>(alloc: Global) -> Arg<'a>
         "Certificates stand behind the problem's line, of this\n\
          problem or of others: each is checked, and the search\n\
          begins with what they show. A library of 1000000\n\
-         entries takes some 1 GB. Off unless given",
+         entries takes some 700 MB. Off unless given",
     )
 }
 

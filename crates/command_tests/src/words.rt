@@ -519,7 +519,7 @@ static HELPED: [(&str, &str); 45] = [
     ("check --help", " Default: the certificate's own problem."),
     (
         "check -h",
-        "\n      --workers <N>     Threads that judge the entries side by side, 1 to 64;\n                        where nothing is said, as many as there are processors.\n",
+        "\n      --workers <N>     Threads that judge the entries side by side, 1 to 64;\n                        where nothing is said, one a processor, 32 at most.\n",
     ),
     (
         "-h",
@@ -553,7 +553,7 @@ static HELPED: [(&str, &str); 45] = [
     ),
     (
         "collection -h",
-        "\n      --threads <N>     Problems that are decided side by side, 1 to 64; where\n                        nothing is said, as many as there are processors. It\n",
+        "\n      --threads <N>     Problems that are decided side by side, 1 to 64; where\n                        nothing is said, one a processor, 32 at most. It\n",
     ),
     (
         "collection -h",

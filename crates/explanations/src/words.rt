@@ -24,7 +24,7 @@ const ON_THREADS_OF_COLLECTION: &str =
     "`tsume collection` searches each problem with one worker, and decides\n--threads N problems side by side.\n";
 
 const ON_THREADS_OF_SURVEY: &str =
-    "`tsume survey` takes as many threads as there are processors.\n";
+    "`tsume survey` takes as many threads as there are processors, 32 at most.\n";
 
 const ON_KIF_OF_COLLECTION: &str =
     "`tsume collection` reads SFEN alone. `tsume solve --kif` reads one KIF file.\n";

@@ -356,7 +356,7 @@ const WORDS: &[(&str, &str)] = &[
     ),
     (
         "error: unexpected argument '--workers' found\n\nUsage: tsume survey [OPTIONS]\n",
-        "`tsume survey` takes as many threads as there are processors.\n",
+        "`tsume survey` takes as many threads as there are processors, 32 at most.\n",
     ),
     (
         "error: unexpected argument '--kif' found\n\nUsage: tsume collection [OPTIONS] [FILE]\n",
