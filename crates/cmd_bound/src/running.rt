@@ -53,7 +53,7 @@ fn check_through<R: Threads + Sync, S: Source, K: Sink>(
 /// ([`check_bound`](bound_check::check_bound)). It is judged for the problem that the words give,
 /// which was accepted ([`asked_problem`](cmd_check::asked_problem)), or for its own. Positions are
 /// compared, and not texts. The mate's entries are checked side by side, by as many workers as are
-/// asked for, or as there are processors. Errors: a text of neither form, with its first fault, or
+/// asked for, or processors, 32 at most. Errors: a text of neither form, with its first fault, or
 /// one that is too long; a source or a sink that failed; want of memory.
 pub fn check_with_bound<R: Threads + Sync, S: Source, K: Sink>(
     rt: &R,

@@ -49,10 +49,10 @@ fn check_through<R: Threads + Sync, S: Source, K: Sink>(
 /// number, as it is written there, and behind it whether the certificate behind the line is valid
 /// for its own problem, as of [`check`](cmd_check::check), or the first reason why it isn't; or
 /// the first fault of its text, which is `bad head` also where it claims another verdict than the
-/// line tells. All other lines are passed by. Last comes how many lines tell a verdict, and how
-/// many of their certificates were accepted, refused and faults. A long certificate is read and
-/// checked by as many workers as are asked for, or as there are processors. Errors: a text that is
-/// too long; a source or a sink that failed; want of memory.
+/// line tells, or has a line in front. All other lines are passed by. Last comes how many lines
+/// tell a verdict, and how many of their certificates were accepted, refused and faults. A long one
+/// is read and checked by as many workers as are asked for, or as there are processors, 32 at most.
+/// Errors: a text that is too long; a source or a sink that failed; want of memory.
 pub fn check_collection<R: Threads + Sync, S: Source, K: Sink>(
     rt: &R,
     alloc: Global,

@@ -49,9 +49,9 @@ fn check_through<R: Threads + Sync, S: Source, K: Sink>(
 /// answer: writes to the sink whether it is valid for its own problem, or for the one that the
 /// words give, which was accepted ([`asked_problem`](crate::asked_problem)), or the first reason
 /// why it isn't. A certificate of another problem isn't valid for it. Positions are compared, and
-/// not texts. The entries are checked side by side, by as many workers as are asked for, or as
-/// there are processors ([`check_wide`](wide_check::check_wide)). Errors: a text that is no
-/// certificate, with its first fault, or is too long; a source or a sink that failed; want of
+/// not texts. The entries are checked side by side, by as many workers as are asked for, but no
+/// more than processors, nor than 32 ([`check_wide`](wide_check::check_wide)). Errors: a text that
+/// is no certificate, with its first fault, or is too long; a source or a sink that failed; want of
 /// memory.
 pub fn check<R: Threads + Sync, S: Source, K: Sink>(
     rt: &R,

@@ -4,7 +4,7 @@ ghost use Rattle.search_limits.specs.Sizes.{IsFromTo};
 ghost use Rattle.tsume_words.specs.declared.watch.TheConstants.{MOST_DEADLINE};
 ghost use Rattle.cmd_collection.specs.declared.form.TheConstants.{MOST_FIRST, MOST_THREADS};
 
-/// The most problems of a collection that are decided side by side.
+/// The most threads that may be asked for; more than processors, or than 32, never work.
 pub const MOST_THREADS: u64 = 64;
 
 /// The most that the number of a text's first line may be.

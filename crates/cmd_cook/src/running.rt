@@ -55,9 +55,9 @@ fn cook_through<
 
 /// Tells of each first check of the problem of the text that the source gives, an SFEN or the board
 /// diagram of a KIF file, of at most [`MOST_PROBLEM_BYTES`](problem_lines::MOST_PROBLEM_BYTES),
-/// whether it mates: writes to the sink a word, sound where exactly one does, cooked where two or
-/// more do, and a line for each check, with what shows it. Where the words give a line of moves, it
-/// tells the same at each of the attacker's turns along it, and writes the line's word behind. The
+/// whether it mates: writes to the sink a word, sound only where exactly one does, cooked only
+/// where two or more do, and a line for each check, with what shows it. Where the words give a line
+/// of moves, it tells so at each of the attacker's turns along it, and the line's word behind. The
 /// position behind each evasion to a check is searched, with the numbers that are asked for, till
 /// one is no mate; a check is unknown where a search gave up, or what was found has more entries
 /// than are read. Errors: a text that is no problem, with its first fault, or is too long; a line

@@ -54,10 +54,10 @@ fn shortest_through<S: Source, K: Sink, G: Gate + LengthOnlooker, T: Stop>(
 /// the certificate of the mate and the bound that none is shorter; or that there is none up to the
 /// limit, with the bound; or that it is unknown, and why: for the expansions that were asked for,
 /// since the stop signalled, or as what was found has more entries than are read. What is written
-/// of a mate, or of none, `check --bound` accepts. Errors: a text that is no problem, with its
-/// first fault, or is too long; a source or a sink that failed; want of memory. The gate is passed
-/// for visits of positions, as worker 1, and told which lengths are asked about (no clause says
-/// it). (The tsume rule; USI protocol: `checkmate`.)
+/// of a mate, or of none, `check --bound` accepts, unless it is too long. Errors: a text that is no
+/// problem, with its first fault, or is too long; a source or a sink that failed; want of memory.
+/// The gate is passed for visits of positions, as worker 1, and told which lengths are asked about
+/// (no clause says it). (The tsume rule; USI protocol: `checkmate`.)
 pub fn shortest<S: Source, K: Sink, G: Gate + LengthOnlooker, T: Stop>(
     alloc: Global,
     asked: &Shortest,

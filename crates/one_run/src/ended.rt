@@ -23,6 +23,6 @@ pub enum Ended<A, F> {
     CutShort(A),
     /// Without an answer: why, and the bytes of the input, all of them where its text is at fault.
     /// Where the input wasn't read whole there are none; for want of memory all or none. Nothing
-    /// was written.
+    /// was written, but by what writes as it goes: a collection, a session.
     Failed(Fault<F>, Input),
 }

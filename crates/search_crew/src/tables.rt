@@ -128,10 +128,10 @@ impl Tables {
     /// nobody, as [`search_by_one`](crate::search_by_one). The table is the one that is at hand,
     /// emptied in the time of the rows that have entries, or made, with all its memory.
     ///
-    /// The gate is passed for each visit, by the worker that drew it, with no lock held. Worker w
-    /// polls stop w and no other; the stops go with the workers, and come back to their places.
-    /// Errors: want of memory alone. Nothing is promised of which worker is first, or that more are
-    /// faster. (df-pn: Nagai 2002; many workers over one table: Kaneko 2010.)
+    /// The gate is passed for each visit, by the worker that drew it, with no lock held (no clause
+    /// says it, nor that a worker posted the answer). Worker w polls stop w and no other; the stops
+    /// come back to their places. Errors: want of memory alone. Nothing is promised of which worker
+    /// is first, or that more are faster. (df-pn: Nagai 2002; many workers: Kaneko 2010.)
     pub fn search<R: Threads + Wait + AllocGlobal + Sync, G: Gate, T: Stop + Drop>(
         &mut self,
         rt: &R,

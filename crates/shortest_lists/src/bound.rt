@@ -244,8 +244,8 @@ fn bound_of_entries(
 /// The bound that the facts show of the problem: that there is no mate within so many moves. It
 /// lists the problem with that number and, from each listed position with a number above 1 on, for
 /// each check to which no evasion leads to a listed position, what the facts' evasion leads to,
-/// with one less. Where the number is 0, it lists nothing. Errors: these positions are more than
-/// `most`; want of memory.
+/// with one less (no clause says that it lists no more). Where the number is 0, it lists nothing.
+/// Errors: these positions are more than `most`; want of memory.
 pub fn bound_of(
     alloc: Global,
     problem: &Problem,

@@ -221,9 +221,9 @@ fn first_settings(expansions: u64) -> Option<Settings>
 /// Half of them are for a search by proof numbers with one worker (`search_pool`), whose answer is
 /// the beginning: no mate is no mate within the limit, and a mate's certificate is known to the
 /// search by lengths (`shortest_search`) that makes the others. The gate is passed for each visit
-/// of the first search, as worker 1, and told each length that is asked about then. The stop is
-/// polled before each expansion. Takes some 100 bytes for an expansion; the first search's table,
-/// some 64 MB, is given back before. Errors: want of memory alone.
+/// of the first search, as worker 1, and told each length that is asked about then (no clause says
+/// it). The stop is polled once or more for each expansion. Takes some 100 bytes for an expansion;
+/// the first search's table, some 64 MB, is given back before. Errors: want of memory alone.
 pub fn shortest<G: Gate + LengthOnlooker, T: Stop>(
     alloc: Global,
     problem: &Problem,

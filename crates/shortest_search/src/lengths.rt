@@ -16,7 +16,7 @@ use shogi_rules::Problem;
 /// number after the other, from the least that is known not to be too small, whether a mate takes
 /// so many or fewer. Whether one does within the limit; then what is known has its length, from
 /// both sides, else that it takes more than the limit. The onlooker is told each number before it
-/// is asked. Errors: all expansions were made; the stop signalled; want of memory.
+/// is asked about (no clause says it). Errors: all expansions made; a stop; want of memory.
 pub fn find_length<T: Stop, O: LengthOnlooker>(
     problem: &Problem,
     run: &mut Run,

@@ -207,8 +207,8 @@ fn defend<T: Stop>(
 
 /// Whether a mate from a position takes so many of the attacker's moves or fewer, whoever is to
 /// move: by what is known of it, else by an expansion, which lists its moves and visits what they
-/// lead to as far as it has to. The stop is polled before each expansion. Errors: all expansions
-/// were made; the stop signalled; want of memory. What was found out till then is known.
+/// lead to as far as it has to. The stop is polled for each expansion, once or more. Errors: all
+/// expansions were made; the stop signalled; want of memory. What was found till then is known.
 ///
 /// Visits are nested: two for each of the moves that are left.
 #[cycle(visit)]

@@ -156,11 +156,11 @@ impl Refusal {
 
 impl Ended {
     /// The exit status: 0 for a verdict, an accepted certificate or bound, a survey, a solution, a
-    /// record, a report, a session that was over, or help, 1 where a search gave up, 7 where a
-    /// certificate, one of a library or of a collection, or a bound is refused; of a collection 3
-    /// where a line is no problem, else 1 where a search gave up, else 0; of its certificates 7,
-    /// else 3 where one is none, else 0; 2 where the words are refused, 3 where the input is, 4
-    /// where the source failed, 5 where the sink failed, 6 for want of memory.
+    /// record, an upgrade, a report, a session that was over, or help, 1 where a search gave up, 7
+    /// where a certificate, one of a library or of a collection, or a bound is refused; of a
+    /// collection 3 where a line is no problem, else 1 where a search gave up, else 0; of its
+    /// certificates 7, else 3 where one is none or another verdict's, else 0; 2 where the words are
+    /// refused, 3 where the input is, 4 and 5 where source or sink failed, 6 for want of memory.
     pub fn status(&self) -> u8
         ensures { result ≡ status_of self.now }
     {

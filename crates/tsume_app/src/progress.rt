@@ -17,7 +17,7 @@ const PAUSE: u64 = 250;
 // The same of a collection.
 const LONG_PAUSE: u64 = 1_000;
 
-/// A number with a comma before each three digits, up to a billion, which no search passes.
+/// A number with a comma before each three digits, below a million millions.
 #[derive(Clone, Copy, Debug)]
 pub(crate) struct Grouped(pub(crate) u64);
 
