@@ -289,7 +289,7 @@ impl<'a, R: io::Eprint + Clock> Progress<'a, R> {
         if used >= limit && self.checks.all.load(Ordering::SeqCst) == 0 {
             self.tell_end(used, ": all; give it more --expansions");
         } else {
-            self.tell_end(used, ": the answer says which limit to raise");
+            self.tell_end(used, ": the answer says why");
         }
     }
 }

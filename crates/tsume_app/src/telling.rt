@@ -412,7 +412,7 @@ where
 /// what was read and what the system said. Where the words ask for progress, a line of how far the
 /// search has come is written a few times a second, each over the one before, and cleared when the
 /// answer is written or the user is told of a fault; behind the answer a line tells how many visits
-/// it took, and where the search gave up, how to let it go on. Of `shortest` the line tells which
+/// it took, and of a search that gave up, where to look why. Of `shortest` the line tells which
 /// length is asked about, once its first search has ended, of `cook` which check is searched. Of a
 /// collection a line tells so, about once a second, how many problems are decided; and behind the
 /// answer of `check` one tells the problem that was accepted. Where the text of a collection with a
