@@ -179,7 +179,7 @@ pub(crate) fn advice_on_diagram(fault: KifFault) -> &'static str
 
 /// What is said of an SFEN that is given where a diagram is expected.
 pub(crate) const ON_SFEN_WITH_KIF: &str =
-    "This looks like an SFEN, which `tsume solve` reads without --kif.\n";
+    "This looks like an SFEN, which `solve`, `cook` and `shortest` read without\n--kif.\n";
 
 /// What is said where White is to move, and Black has no king.
 pub(crate) const ON_NO_BLACK_KING: &str =
@@ -191,7 +191,7 @@ pub(crate) const ON_DEFENDER_IN_CHECK: &str =
 
 /// What is said where a text has more than one line and is a problem up to the end of one.
 pub(crate) const ON_SEVERAL_LINES: &str =
-    "`tsume solve` reads one problem, and this text has more than one line.\n`tsume collection` reads a problem in each line.\n";
+    "One problem is read here, and this text has more than one line.\n`tsume collection` reads a problem in each line.\n";
 
 /// What is said where a tab stands in the field at fault.
 pub(crate) const ON_TABS: &str =
@@ -234,7 +234,7 @@ pub(crate) const ON_WRITE: &str =
 
 /// What is said for want of memory.
 pub(crate) const ON_NO_MEMORY: &str =
-    "Memory was wanted and not there. With fewer --rows and less --room a search\nwants less of it, and `tsume collection` with fewer --threads.\n";
+    "Memory was wanted and not there. `solve`, `cook` and `collection` want less of\nit with fewer --rows and less --room, `collection` also with fewer --threads,\nand `shortest` with fewer --expansions.\n";
 
 /// What is said where the text that the words give for a certificate's problem spells none.
 pub(crate) const ON_ASKED: &str =

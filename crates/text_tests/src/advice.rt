@@ -100,7 +100,7 @@ const PROBLEMS: &[(&[u8], &str)] = &[
     ),
     (
         b"9/4k4/8R/9/9/9/9/9/9 b R 1\n9/4k4/8R/9/9/9/9/9/9 b G 1\n",
-        "line 1, column 26:\n    9/4k4/8R/9/9/9/9/9/9 b R 1\n                             ^ byte 25\n`tsume solve` reads one problem, and this text has more than one line.\n`tsume collection` reads a problem in each line.\n",
+        "line 1, column 26:\n    9/4k4/8R/9/9/9/9/9/9 b R 1\n                             ^ byte 25\nOne problem is read here, and this text has more than one line.\n`tsume collection` reads a problem in each line.\n",
     ),
     (
         b"9/4k4/8R/9/9/9/9/9/9\tb\tR\n",
@@ -180,7 +180,7 @@ const BYTES: &[(&[u8], &str)] = &[
     ),
     (
         b"9/4k4/8R/9/9/9/9/9/9 b R",
-        "This looks like an SFEN, which `tsume solve` reads without --kif.\n",
+        "This looks like an SFEN, which `solve`, `cook` and `shortest` read without\n--kif.\n",
     ),
     (
         b"\n",
@@ -439,7 +439,7 @@ fn what_else_ends_a_run_is_explained(rt: HostRuntime) {
         ),
         (
             Trouble::NoMemory,
-            "Memory was wanted and not there. With fewer --rows and less --room a search\nwants less of it, and `tsume collection` with fewer --threads.\n",
+            "Memory was wanted and not there. `solve`, `cook` and `collection` want less of\nit with fewer --rows and less --room, `collection` also with fewer --threads,\nand `shortest` with fewer --expansions.\n",
         ),
     ];
     for (trouble, wanted) in rows {

@@ -280,14 +280,14 @@ impl<'a, R: io::Eprint + Clock> Progress<'a, R> {
         }
     }
 
-    /// Tells how many visits were made where the search gave up, and what to do.
+    /// Tells how many visits were made where the search gave up, and whether these were all.
     pub(crate) fn tell_given_up(&self) {
         let Some(limit) = self.limit else {
             return;
         };
         let used = self.used.load(Ordering::SeqCst);
         if used >= limit && self.checks.all.load(Ordering::SeqCst) == 0 {
-            self.tell_end(used, ": all; give it more --expansions");
+            self.tell_end(used, ": all that --expansions gives");
         } else {
             self.tell_end(used, ": the answer says why");
         }

@@ -37,7 +37,7 @@ static TOLD: [(&str, &str, u64, u64, u8, &str); 11] = [
         0,
         0,
         3,
-        "tsume: no diagram\nThis looks like an SFEN, which `tsume solve` reads without --kif.\n",
+        "tsume: no diagram\nThis looks like an SFEN, which `solve`, `cook` and `shortest` read without\n--kif.\n",
     ),
     (
         "solve --rows 24",
