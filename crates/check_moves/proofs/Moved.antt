@@ -1,8 +1,10 @@
 -- Which moves a check can be: one of an own piece, or the drop of another piece than the king.
-use Rattle.std.proofs.Common.{◌≡◌, List, [], Bool, true, subst, sym}
+use Rattle.std.proofs.Common.{◌≡◌, ◌≢◌, ◌<◌, ℕ, List, [], Bool, true, subst, sym, ap, arith}
 use Rattle.board_laws.proofs.Cells.{own_is, no_king_in}
 use Rattle.bit_boards.specs.declared.square.Square.{Square}
+use Rattle.bit_boards.specs.declared.piece.Kind.{Kind}
 use Rattle.bit_boards.specs.declared.piece.Kind.TheVariants.{King}
+use Rattle.bit_boards.specs.Kind.{place_of}
 use Rattle.board_core.specs.declared.moves.Move.{Move}
 use Rattle.board_core.specs.declared.moves.Move.TheVariants as moves
 use Rattle.board_core.specs.Order.{Lists}
@@ -21,6 +23,10 @@ check_from laws b from to promote check =
     let legal = check.legal in
     let can = (laws b from.number to.number promote).0 (λ why. legal why) in
     own_is (piece_at b.cells from.number) b.side can.own
+
+-- of the first seven kinds none is the king
+pub no_king_among : (kind : Kind) (i : ℕ) → place_of kind ≡ i → i < 7 → kind ≢ King
+no_king_among kind i at early is = let last = ap place_of is in omega (arith, at, last, early)
 
 -- no king is dropped
 pub no_king_dropped : (b : Board) → IsKept b → (to : Square) → ¬ IsCheck b.side b (moves.Drop King to)

@@ -1,7 +1,8 @@
 // Which moves of a piece give check.
-ghost use Rattle.std.specs.Prelude.{◌≡◌, ◌<◌, ◌↔◌, ℕ, List, Option, Some, true, false};
+ghost use Rattle.std.specs.Prelude.{◌≡◌, ◌≢◌, ◌<◌, ◌↔◌, ℕ, List, Option, Some, true, false};
 ghost use Rattle.bit_boards.specs.declared.square.Square.{Square};
 ghost use Rattle.bit_boards.specs.declared.piece.Piece.{Piece};
+ghost use Rattle.bit_boards.specs.declared.piece.Kind.TheVariants.{King};
 ghost use Rattle.bit_boards.specs.Kind.{other, can_promote};
 ghost use Rattle.bit_boards.specs.Mask.{Holds};
 ghost use Rattle.board_core.specs.Board.{piece_at, is_king_of};
@@ -114,16 +115,21 @@ impl Aim {
         }
     }
 
-    /// The squares on which a dropped piece of the kind gives check.
+    /// The squares on which a dropped piece of the kind, which isn't the king, gives check; none
+    /// where the hand has no such piece.
     pub(crate) fn drop_checks(&self, position: &Position, kind: Kind) -> Mask
         requires aim { IsAimOf position.now self.now }
         requires quiet { IsQuiet position.now }
+        requires king { kind ≢ King }
         ensures { (to : Square) → Holds result to.number
             ↔ IsCheck position.now.side position.now (Drop kind to) }
     {
         // A board has 81 squares, and what a legal drop has is known.
         position.laws();
         legal_laws();
+        if position.hand(position.side()).count(kind) == 0 {
+            return Mask::empty();
+        }
         let aims = self.sight.reached_from(Piece::plain(kind, position.side()));
         self.guard.drops(position, kind, aims)
     }

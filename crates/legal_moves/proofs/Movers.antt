@@ -1,5 +1,5 @@
 -- Whoever moves while his king is attacked is that king, or comes to where the attack is stopped.
-use Rattle.std.proofs.Common.{◌≡◌, ◌≢◌, ◌<◌, ◌⊎◌, inl, inr, ℕ, Option, Bool, true, false, length, ap, subst, ◌∙◌, IsTrue}
+use Rattle.std.proofs.Common.{◌≡◌, ◌≢◌, ◌<◌, ◌⊎◌, inl, inr, ℕ, Option, Bool, length, ap, subst, ◌∙◌, IsTrue}
 use Rattle.std.specs.Prelude.{IsSomeAnd}
 use Rattle.std.proofs.lemmas.Bool.{both_ways, cases_Bool}
 use Rattle.bit_boards.specs.declared.piece.Kind.TheVariants.{King}

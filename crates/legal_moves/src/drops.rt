@@ -126,6 +126,9 @@ impl Guard {
             return Mask::empty();
         }
         let free = self.free(position, kind, wanted);
+        if free.is_empty() {
+            return free;
+        }
         if kind == Kind::Pawn {
             let alone = free.minus(pawn_files(position, position.side()));
             return without_mate(position, alone);

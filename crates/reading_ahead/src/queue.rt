@@ -13,10 +13,11 @@ use std::io;
 use std::sync::{Arc, Wait};
 use tsume_io::{Failed, Source};
 
-/// What a thread reads ahead, as a source: in order, and none lost. A read hands on at most one
-/// line, up to and with its line feed, or a part of one; it waits while there is nothing, and gives
-/// 0 at the end. Where the thread's reader failed, each read behind the bytes that came before
-/// fails. It tells nothing of its bytes.
+/// What a thread reads ahead, as a source. A read hands on the next of the bytes that the queue has
+/// fetched from the thread: at most one line, up to and with its line feed, or a part of one. It
+/// waits while there is nothing, and gives 0 at the end. Where the thread's reader failed, each
+/// read behind the bytes that came before fails. That all that the thread read is fetched, and in
+/// order, is trusted. It tells nothing of its bytes.
 #[derive(Drop)]
 pub struct Queue<W: Wait> {
     rt: W,

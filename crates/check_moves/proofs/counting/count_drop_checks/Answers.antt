@@ -3,6 +3,7 @@ use Rattle.list_laws.proofs.Counted.{AreBefore}
 use Rattle.shogi_rules.specs.Tsume.{IsCheck}
 use Rattle.list_laws.proofs.Adding.{placed}
 use Rattle.list_laws.proofs.Totals.{drops_counted}
+use Rattle.check_moves.proofs.Moved.{no_king_among}
 use Rattle.check_moves.proofs.counting.count_drop_checks.Goals as goal
 
 pub loop-kind-init : goal.loop-kind-init
@@ -10,6 +11,10 @@ loop-kind-init c = record {
   few = omega arith;
   are = λ before a. subst (λ (n : ℕ). AreBefore (IsCheck c.args.position.now.side c.args.position.now) 13122 n) (omega arith) a;
 }
+
+pub drop_checks-requires-clause-king : goal.drop_checks-requires-clause-king
+drop_checks-requires-clause-king c =
+    no_king_among _ c.loop-kind.kind-index (placed _ c.loop-kind.kind-index c.loop-kind-test.true) c.loop-kind-test.true
 
 pub loop-kind-preserved : goal.loop-kind-preserved
 loop-kind-preserved c =

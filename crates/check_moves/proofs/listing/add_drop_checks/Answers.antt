@@ -2,8 +2,12 @@ use Rattle.std.proofs.Common.{◌+◌, ◌*◌, ℕ, arith, ap, sym, ◌∙◌}
 use Rattle.list_laws.proofs.MoveLists.{at_order}
 use Rattle.shogi_rules.specs.Tsume.{IsCheck}
 use Rattle.list_laws.proofs.Adding.{placed, lists_dropped, lists_all}
-use Rattle.check_moves.proofs.Moved.{no_king_dropped}
+use Rattle.check_moves.proofs.Moved.{no_king_among, no_king_dropped}
 use Rattle.check_moves.proofs.listing.add_drop_checks.Goals as goal
+
+pub drop_checks-requires-clause-king : goal.drop_checks-requires-clause-king
+drop_checks-requires-clause-king c =
+    no_king_among _ c.loop-kind.kind-index (placed _ c.loop-kind.kind-index c.loop-kind-test.true) c.loop-kind-test.true
 
 pub loop-kind-preserved : goal.loop-kind-preserved
 loop-kind-preserved c =
